@@ -1,0 +1,2 @@
+-- What the export answers, and what the lent slice then holds. Definitions alone.
+pub mod Entry

@@ -1,0 +1,30 @@
+// Bounds between events, their judgement, and the elimination of one event from a set of them.
+
+// The events of a bound z - y <= w. Jobs are counted by their place from the first job of this window on, so that the next window's
+// places follow this window's: with three jobs, place 4 is the next window's second job.
+pub enum Event {
+    Origin,
+    Start(usize),
+    Finish(usize),
+}
+
+// What the judgement of a bound says.
+pub enum Judgement {
+    Contradiction,
+    LeftOut,
+    Kept,
+}
+
+// A set of bounds: for each ordered pair of events the least weight, or the mark for no bound.
+pub struct Table {
+    pub weights: [i32; Table::SIZE],
+}
+
+impl Table {
+    // The origin, and a start and a finish for each job of two windows.
+    pub const SIDE: usize = 37;
+
+    pub const SIZE: usize = 1369;
+    // The mark for no bound on a pair.
+    pub const NO_BOUND: i32 = 2147483647;
+}

@@ -1,0 +1,2 @@
+-- The two clocks and the way from one to the other.
+pub mod Clock

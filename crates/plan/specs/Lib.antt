@@ -1,0 +1,9 @@
+-- Plans and refusals, as document 01 has them. In reading order: the limits of the plan's numbers, the refusals with their numbers and
+-- printed lines, how a line is read and refused, the names of events, a plan's text read, and a plan's text written. These files are
+-- definitions alone.
+pub mod Limits
+pub mod Refusals
+pub mod Reading
+pub mod EventNames
+pub mod PlanRead
+pub mod PlanWritten

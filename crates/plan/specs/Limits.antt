@@ -1,0 +1,42 @@
+-- The ranges of a plan's numbers, both ends included (document 01, 'Plan text', the table), and the sizes of its arrays.
+use Prim.Native.Nat.{ℕ}
+use lib.IntN.{ℤ, pos, negℤ}
+
+-- 'At most 65,536 bytes, a session's steps counted in.'
+abbrev pub longestText : ℕ
+longestText = 65536
+
+-- '`window=` | 1..86,400,000', and the running times' '0..86,400,000'
+abbrev pub longestWindow : ℤ
+longestWindow = pos 86400000
+
+-- '`rounds=` | 1..1,000'
+abbrev pub mostRounds : ℕ
+mostRounds = 1000
+
+-- '`last=` windows in a run | 1..1,000,000,000'
+abbrev pub mostWindows : ℕ
+mostWindows = 1000000000
+
+-- '`jobs=` | 1..9'
+abbrev pub mostJobs : ℕ
+mostJobs = 9
+
+-- '`min=`, `max=` | 0..86,400,000'
+abbrev pub longestRunning : ℤ
+longestRunning = pos 86400000
+
+-- '`release=`, `deadline=` | 0..172,800,000'
+abbrev pub latestDeadline : ℤ
+latestDeadline = pos 172800000
+
+-- '`bounds=` | 0..64'
+abbrev pub mostBounds : ℕ
+mostBounds = 64
+
+-- 'c from -1,000,000,000 to 1,000,000,000'
+abbrev pub greatestC : ℤ
+greatestC = pos 1000000000
+
+abbrev pub leastC : ℤ
+leastC = negℤ greatestC

@@ -1,0 +1,166 @@
+-- A plan's text, read (document 01, 'Plan text'). Each reader below is one line of the document's table, or a group of its lines.
+use Prim.Native.Nat.{ℕ, zero, suc, _-_}
+use mathlib.Core.Bool.{Bool, true, false, not, cond, _&&_, _||_}
+use mathlib.Core.List.{List, [], _∷_, _++_}
+use mathlib.Core.Option.{Option, none, some}
+use lib.Dec.{leb, ltb}
+use lib.IntN.{ℤ, pos, natAbs}
+use lib.ListN.{length, replicate}
+use Rattle.text.specs.Bytes.{bytes}
+use Rattle.text.specs.Lines.{LF, comma, before, has, after, afterKey}
+use Rattle.text.specs.Numbers.{isNumber, numberValue, within, isEmpty}
+use Rattle.text.specs.declared.Fault.the-variants as fault
+use Rattle.plan.specs.declared.Job.{Job}
+use Rattle.plan.specs.declared.Letter.the-variants.{This}
+use Rattle.plan.specs.declared.Kind.the-variants.{Start}
+use Rattle.plan.specs.declared.EventName.{EventName}
+use Rattle.plan.specs.declared.Bound.{Bound}
+use Rattle.plan.specs.declared.BoundLine.{BoundLine}
+use Rattle.plan.specs.declared.BoundLine.the-variants as boundLine
+use Rattle.plan.specs.declared.Plan.{Plan}
+use Rattle.plan.specs.declared.Refusal.the-variants.{Form}
+use Rattle.plan.specs.Limits.{
+  longestText,
+  longestWindow,
+  mostRounds,
+  mostWindows,
+  mostJobs,
+  longestRunning,
+  latestDeadline,
+  mostBounds,
+  leastC,
+  greatestC,
+}
+use Rattle.plan.specs.Refusals.{tooLong}
+use Rattle.plan.specs.Reading.{Lined, value, bad, Reading, read, refused, Reader, next, _>>=_, answer, line, numberLine}
+use Rattle.plan.specs.EventNames.{eventName, sameEvent, isNext}
+
+-- a line that is a key and a count
+abbrev pub countLine : List ℕ → ℕ → ℕ → Reader ℕ
+countLine key lo hi = do
+  z ← numberLine key (pos lo) (pos hi)
+  answer (natAbs z)
+
+-- ---- jobs
+
+-- 'per job, in order: `min=`, `max=`', 'then, same job, `release=`, `deadline=`'. 'A fault in min <= max is a number out of range on the
+-- `max` line.' 'A release above its deadline is no fault of form'
+unfoldable pub jobLines : Reader Job
+jobLines = do
+  min ← numberLine (bytes "min=") (pos 0) longestRunning
+  max ← numberLine (bytes "max=") min longestRunning
+  release ← numberLine (bytes "release=") (pos 0) latestDeadline
+  deadline ← numberLine (bytes "deadline=") (pos 0) latestDeadline
+  answer (record { min = min; max = max; release = release; deadline = deadline })
+
+-- so many jobs more, after those read before them
+unfoldable pub jobsAfter : List Job → ℕ → Reader (List Job)
+jobsAfter done zero = answer done
+jobsAfter done (suc left) = do
+  job ← jobLines
+  jobsAfter (done ++ (job ∷ [])) left
+
+-- ---- bounds
+
+-- a bound line by its parts: A, B and c
+pub record BoundParts : Type 0 where
+  pub a : EventName
+  pub b : EventName
+  pub c : List ℕ
+
+abbrev pub partsOf : Option EventName → Option EventName → List ℕ → Option BoundParts
+partsOf none b c = none
+partsOf (some a) none c = none
+partsOf (some a) (some b) c = cond (isNumber c) (some (record { a = a; b = b; c = c })) none
+
+-- 'that many `bound=A,B,c`': two names and a number, with a comma after each name
+unfoldable pub boundParts : Option (List ℕ) → Option BoundParts
+boundParts none = none
+boundParts (some s) =
+    let t = after comma s in
+    cond (has comma s && has comma t) (partsOf (eventName (before comma s)) (eventName (before comma t)) (after comma t)) none
+
+-- 'a job digit of 0 or above `jobs`'
+abbrev pub isJob : ℕ → ℕ → Bool
+isJob jobs i = leb 1 i && leb i jobs
+
+-- whether an ordered pair was given by one of the bounds
+unfoldable pub isGiven : EventName → EventName → List Bound → Bool
+isGiven a b [] = false
+isGiven a b (d ∷ given) = (sameEvent a (d .a) && sameEvent b (d .b)) || isGiven a b given
+
+-- 'Wrong pairs: both events n, the same event twice, or an ordered pair already given. A,B and B,A are two pairs.'
+unfoldable pub isWrongPair : EventName → EventName → List Bound → Bool
+isWrongPair a b given = (isNext (a .letter) && isNext (b .letter)) || (sameEvent a b || isGiven a b given)
+
+-- 'in a line the order is 1, 2, 3': the numbers of a line that has its form, and then its pair
+unfoldable pub boundOf : ℕ → List Bound → Option BoundParts → BoundLine
+boundOf jobs given none = boundLine.Bad fault.Form
+boundOf jobs given (some q) =
+    let c = numberValue (q .c) in
+    cond (not (isJob jobs (q .a .job) && isJob jobs (q .b .job) && within leastC greatestC c)) (boundLine.Bad fault.Range)
+    (cond (isWrongPair (q .a) (q .b) given) (boundLine.Bad fault.Pair)
+    (boundLine.Value (record { a = q .a; b = q .b; c = c })))
+
+unfoldable pub linedBound : BoundLine → Lined Bound
+linedBound (boundLine.Value b) = value b
+linedBound (boundLine.Bad f) = bad f
+
+abbrev pub boundIn : ℕ → List Bound → List ℕ → BoundLine
+boundIn jobs given l = boundOf jobs given (boundParts (afterKey (bytes "bound=") l))
+
+-- so many bounds more, after those given before them: 'Bounds keep their order, which is part of the plan.'
+unfoldable pub boundsAfter : ℕ → List Bound → ℕ → Reader (List Bound)
+boundsAfter jobs given zero = answer given
+boundsAfter jobs given (suc left) = do
+  b ← line (λ l. linedBound (boundIn jobs given l))
+  boundsAfter jobs (given ++ (b ∷ [])) left
+
+-- ---- the plan
+
+-- what the reader leaves in a place that is no part of the plan
+abbrev pub noJob : Job
+noJob = record { min = pos 0; max = pos 0; release = pos 0; deadline = pos 0 }
+
+abbrev pub noEvent : EventName
+noEvent = record { letter = This; kind = Start; job = 0 }
+
+abbrev pub noBound : Bound
+noBound = record { a = noEvent; b = noEvent; c = pos 0 }
+
+-- an array of so many places, with d in those past the list's end
+abbrev pub filled : {A : Type 0} → ℕ → A → List A → List A
+filled size d xs = xs ++ replicate (size - length xs) d
+
+-- 'Key=value lines in this order': the table, line by line
+unfoldable pub planLines : Reader Plan
+planLines = do
+  window ← numberLine (bytes "window=") (pos 1) longestWindow
+  rounds ← countLine (bytes "rounds=") 1 mostRounds
+  last ← countLine (bytes "last=") 1 mostWindows
+  jobs ← countLine (bytes "jobs=") 1 mostJobs
+  job ← jobsAfter [] jobs
+  bounds ← countLine (bytes "bounds=") 0 mostBounds
+  bound ← boundsAfter jobs [] bounds
+  answer
+      (record {
+        window = window;
+        rounds = rounds;
+        last = last;
+        jobs = jobs;
+        job = filled mostJobs noJob job;
+        bounds = bounds;
+        bound = filled mostBounds noBound bound;
+      })
+
+-- 'Length comes first': a plan at the head of a text, with the steps that may follow it. 'for D = 0 .. that part is empty'
+unfoldable pub planHead : List ℕ → Reading Plan
+planHead s = let r = planLines s 1 in cond (leb (length s) longestText) r (refused tooLong [])
+
+-- 'nothing after the last': a plan alone. What follows it is a line too many, which lacks the form of no line at all.
+unfoldable pub nothingAfter : Reading Plan → Reading Plan
+nothingAfter (read p s n) = cond (isEmpty s) (read p s n) (refused (Form n) (before LF s))
+nothingAfter (refused r part) = refused r part
+
+abbrev pub planAlone : List ℕ → Reading Plan
+planAlone s = nothingAfter (planHead s)

@@ -1,0 +1,60 @@
+-- A plan's text, written, and a plan as a value judged as its text would be (document 01, 'Plan text').
+use Prim.Native.Nat.{ℕ}
+use mathlib.Core.List.{List, [], _∷_, _++_}
+use mathlib.Core.Option.{Option, none, some}
+use lib.IntN.{ℤ, pos}
+use lib.ListN.{take}
+use Rattle.text.specs.Bytes.{bytes}
+use Rattle.text.specs.Lines.{LF, comma}
+use Rattle.text.specs.Numbers.{decimal}
+use Rattle.plan.specs.declared.Job.{Job}
+use Rattle.plan.specs.declared.Bound.{Bound}
+use Rattle.plan.specs.declared.Plan.{Plan}
+use Rattle.plan.specs.declared.Refusal.{Refusal}
+use Rattle.plan.specs.Reading.{Reading, read, refused}
+use Rattle.plan.specs.EventNames.{nameBytes}
+use Rattle.plan.specs.PlanRead.{planAlone}
+
+-- a line that is a key and a number, with the text that follows it
+abbrev pub keyed : List ℕ → ℤ → List ℕ → List ℕ
+keyed key z s = key ++ (decimal z ++ (LF ∷ s))
+
+unfoldable pub jobsText : List Job → List ℕ → List ℕ
+jobsText [] s = s
+jobsText (j ∷ js) s =
+    keyed (bytes "min=") (j .min)
+    (keyed (bytes "max=") (j .max)
+    (keyed (bytes "release=") (j .release)
+    (keyed (bytes "deadline=") (j .deadline)
+    (jobsText js s))))
+
+unfoldable pub boundsText : List Bound → List ℕ
+boundsText [] = []
+boundsText (d ∷ ds) =
+    bytes "bound=" ++ (nameBytes (d .a) ++ (comma ∷ (nameBytes (d .b) ++ (comma ∷ (decimal (d .c) ++ (LF ∷ boundsText ds))))))
+
+-- the jobs and the bounds of a plan, without the places beyond them
+abbrev pub jobsOf : Plan → List Job
+jobsOf p = take (p .jobs) (p .job)
+
+abbrev pub boundsOf : Plan → List Bound
+boundsOf p = take (p .bounds) (p .bound)
+
+-- the plan's lines, in the document's order
+unfoldable pub planText : Plan → List ℕ
+planText p =
+    keyed (bytes "window=") (p .window)
+    (keyed (bytes "rounds=") (pos (p .rounds))
+    (keyed (bytes "last=") (pos (p .last))
+    (keyed (bytes "jobs=") (pos (p .jobs))
+    (jobsText (jobsOf p)
+    (keyed (bytes "bounds=") (pos (p .bounds))
+    (boundsText (boundsOf p)))))))
+
+-- 'A plan handed over as a value is judged as its text would be.'
+unfoldable pub refusalOf : Reading Plan → Option Refusal
+refusalOf (read p s n) = none
+refusalOf (refused r part) = some r
+
+abbrev pub judgedPlan : Plan → Option Refusal
+judgedPlan p = refusalOf (planAlone (planText p))

@@ -1,0 +1,92 @@
+// Plans: their types, their texts read, refused and written, and the refusals of the whole product.
+
+// ---- sizes
+
+// The most jobs and the most bounds that a plan can have.
+pub const MOST_JOBS: usize = 9;
+
+pub const MOST_BOUNDS: usize = 64;
+
+// ---- the plan
+
+// The limits of one job, in whole milliseconds; release and deadline are on the window's own clock.
+pub struct Job {
+    pub min: i32,
+    pub max: i32,
+    pub release: i32,
+    pub deadline: i32,
+}
+
+// The window letter of an event: t this window, n the next one.
+pub enum Letter {
+    This,
+    Next,
+}
+
+// The kind of an event: s start, f finish.
+pub enum Kind {
+    Start,
+    Finish,
+}
+
+// An event as a plan names it, as `nf2`: a window letter, a kind and a job number.
+pub struct EventName {
+    pub letter: Letter,
+    pub kind: Kind,
+    pub job: u8,
+}
+
+// A given bound, `bound=A,B,c`: A - B <= c.
+pub struct Bound {
+    pub a: EventName,
+    pub b: EventName,
+    pub c: i32,
+}
+
+// A plan. The jobs are the first `jobs` places of `job`, the bounds the first `bounds` places of `bound`; the places beyond them are
+// no part of the plan, and the reader leaves zeros there.
+pub struct Plan {
+    pub window: i32,
+    pub rounds: u64,
+    pub last: u64,
+    pub jobs: usize,
+    pub job: [Job; MOST_JOBS],
+    pub bounds: usize,
+    pub bound: [Bound; MOST_BOUNDS],
+}
+
+// ---- refusals
+
+// Why something is refused. The definition `number` gives the paper's number of each case, `value` the D that is printed with it.
+pub enum Refusal {
+    // 1: a line lacks the form required; line 0 where the text is too long.
+    Form(usize),
+    // 2: a number is out of range; line 0 for a run, a calendar or a time that was handed over as a value.
+    Range(usize),
+    // 3: a wrong pair.
+    Pair(usize),
+    // 4: no strategy for this many windows.
+    NoStrategy(u64),
+    // 5: neither settled nor contradicted in this many rounds.
+    Unsettled(u64),
+    // 6: ask or start while a job runs.
+    Running,
+    // 7: finish while none runs.
+    Idle,
+    // 8: start outside the offer.
+    OutsideOffer,
+    // 9: finish earlier than start + min or later than start + max.
+    OutsideTimes,
+    // 10: ask or start once the run is over.
+    Over,
+    // 11: the offer's lower end is above its upper end.
+    EmptyOffer,
+    // 12: the text to be written is longer than the lent slice.
+    NoRoom,
+}
+
+// A bound line as it was read: the bound, or what the line lacks.
+pub enum BoundLine {
+    Value(Bound),
+    Bad(text::Fault),
+}

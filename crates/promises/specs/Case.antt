@@ -1,0 +1,90 @@
+-- A case: a program, its standard input and its whole standard output, as quoted texts.
+use Prim.Native.Nat.{ℕ}
+use Prim.Native.String.{String}
+use mathlib.Core.Path.{_≡_, refl}
+use mathlib.Core.List.{List, [], _∷_, map}
+use Rattle.text.specs.Bytes.{bytes}
+use Rattle.text.specs.Lines.{lenTo, afterKey}
+use Rattle.text.specs.Numbers.{
+  allDigits,
+  isPositive,
+  isNumber,
+  digitsValue,
+  numberValue,
+  numberIn,
+  numberOf,
+  digitsBefore,
+  decimal,
+}
+use Rattle.plan.specs.Refusals.{number, value, refusedLine, faultAt}
+use Rattle.plan.specs.Reading.{next, lined, line, linedNumber}
+use Rattle.plan.specs.EventNames.{eventName, sameEvent}
+use Rattle.plan.specs.PlanRead.{
+  jobLines,
+  jobsAfter,
+  boundParts,
+  isGiven,
+  isWrongPair,
+  boundOf,
+  linedBound,
+  boundsAfter,
+  planLines,
+  planHead,
+  nothingAfter,
+}
+use Rattle.bounds.specs.Events.{jobAt, shift, earliest, latest, nodeOf, eventOf}
+use Rattle.bounds.specs.Judgements.{judged}
+use Rattle.bounds.specs.Tables.{least, plus, join, at, listed, leastOf, judgement, anyBelow, contradicts, keptRows, judgedSet}
+use Rattle.bounds.specs.Elimination.{finishCell, startCell, thenSet, withoutPlace, eliminated}
+use Rattle.rounds.specs.Given.{givenBounds, ranges, orders, ownBounds, betweenBounds}
+use Rattle.rounds.specs.Rounds.{
+  C0,
+  onNext,
+  joined,
+  round,
+  sameCell,
+  sameRow,
+  sameRows,
+  failsAlone,
+  decided,
+  roundsFrom,
+  outcomeFrom,
+  outcome,
+}
+use Rattle.rounds.specs.Bits.{hasEvent, eventSet}
+use Rattle.rounds.specs.Calendars.{thenTables, beforeStarts, termsOf, leastCs, mostCs, allTerms, allCs, calendarOf, calendar}
+use Rattle.rounds.specs.CalendarText.{termLines, jobText, jobTexts, calendarText, outcomeText, answered, calendarOutput}
+use Rattle.runs.specs.Offers.{timeOf, isInForce, endFrom, offerOf, openingIn}
+use Rattle.runs.specs.Steps.{asked, started, closed, finished, stepped}
+use Rattle.session.specs.StepRead.{timed, finishStep, startStep, stepIn, linedStep, stepLine}
+use Rattle.session.specs.AnswerText.{answerLine, endsSession}
+use Rattle.session.specs.Sessions.{answeredStep, afterStep, answersWithin, judgedSession, sessionOf, dispatchOutput}
+
+pub data Program : Type 0 where
+  Calendar : Program
+  Dispatch : Program
+
+pub record Case : Type 0 where
+  pub program : Program
+  pub input : String
+  pub output : String
+
+-- what a program prints
+abbrev pub printed : Program → List ℕ → List ℕ
+printed Calendar s = calendarOutput s
+printed Dispatch s = dispatchOutput s
+
+abbrev pub answer : Case → List ℕ
+answer c = printed (c .program) (bytes (c .input))
+
+abbrev pub expected : Case → List ℕ
+expected c = bytes (c .output)
+
+-- each case's program prints just its output
+abbrev pub Right : List Case → Type 0
+Right cases = map answer cases ≡ map expected cases
+
+-- naming this on an `unfolding` line opens every definition between the input's bytes and the output's
+unfoldable pub computing : Type 0
+unfolding bytes lenTo afterKey allDigits isPositive isNumber digitsValue numberValue numberIn numberOf digitsBefore decimal number value refusedLine faultAt next lined line linedNumber eventName sameEvent jobLines jobsAfter boundParts isGiven isWrongPair boundOf linedBound boundsAfter planLines planHead nothingAfter jobAt shift earliest latest nodeOf eventOf judged least plus join at listed leastOf judgement anyBelow contradicts keptRows judgedSet finishCell startCell thenSet withoutPlace eliminated givenBounds ranges orders ownBounds betweenBounds C0 onNext joined round sameCell sameRow sameRows failsAlone decided roundsFrom outcomeFrom outcome hasEvent eventSet thenTables beforeStarts termsOf leastCs mostCs allTerms allCs calendarOf calendar termLines jobText jobTexts calendarText outcomeText answered timeOf isInForce endFrom offerOf openingIn asked started closed finished stepped timed finishStep startStep stepIn linedStep stepLine answerLine endsSession answeredStep afterStep answersWithin judgedSession sessionOf
+computing = Unit {0}

@@ -1,0 +1,1 @@
+// The front page of the proofs: specs alone.

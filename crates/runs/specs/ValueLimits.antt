@@ -1,0 +1,77 @@
+-- The limits of a time, a run and a calendar that are handed over as values (document 01, 'Numbers of refusal': 'A value out of limits
+-- (2,0) comes before these').
+use Prim.Native.Nat.{ℕ, zero, suc, _+_, _*_, _-_, _^_}
+use mathlib.Core.Bool.{Bool, true, false, not, cond, _&&_, _||_}
+use mathlib.Core.List.{List, [], _∷_}
+use lib.Dec.{eqb, leb, ltb}
+use lib.IntN.{ℤ, pos}
+use lib.ListN.{getD, take}
+use Rattle.text.specs.Numbers.{within}
+use Rattle.clock.specs.declared.RunTime.{RunTime}
+use Rattle.plan.specs.declared.Plan.{Plan}
+use Rattle.plan.specs.Limits.{leastC, greatestC}
+use Rattle.plan.specs.PlanRead.{isJob}
+use Rattle.bounds.specs.Tables.{anyBelow}
+use Rattle.rounds.specs.declared.Terms.{Terms}
+use Rattle.rounds.specs.declared.Calendar.{Calendar}
+use Rattle.rounds.specs.Bits.{hasEvent}
+use Rattle.rounds.specs.Calendars.{eventsBefore, mostEvents, noTerms}
+use Rattle.runs.specs.declared.Probe.{Probe}
+use Rattle.runs.specs.declared.Phase.{Phase}
+use Rattle.runs.specs.declared.Phase.the-variants.{Waiting, Running}
+use Rattle.runs.specs.declared.Run.{Run}
+
+-- ---- 'times are 0..100,000,000,000,000,000'
+
+abbrev pub lastTime : ℤ
+lastTime = pos 100000000000000000
+
+abbrev pub isTime : RunTime → Bool
+isTime t = within (pos 0) lastTime (t .0)
+
+unfoldable pub areTimes : List Probe → Bool
+areTimes [] = true
+areTimes (q ∷ qs) = isTime (q .start) && isTime (q .finish) && areTimes qs
+
+-- ---- runs
+
+-- 'a run's window 1..`last`', 'its job 1..`jobs`'
+abbrev pub isTurn : Plan → ℕ → ℕ → Bool
+isTurn p j i = leb 1 j && leb j (p .last) && isJob (p .jobs) i
+
+-- 'or `last` + 1 waiting for job 1 (the run is over)'
+unfoldable pub isPhase : Plan → Phase → Bool
+isPhase p (Waiting j i) = isTurn p j i || (eqb j (p .last + 1) && eqb i 1)
+isPhase p (Running j i t) = isTurn p j i && isTime t
+
+-- the job of a phase, from 1: those before it have finished in the present window
+abbrev pub jobOfPhase : Phase → ℕ
+jobOfPhase (Waiting j i) = i
+jobOfPhase (Running j i t) = i
+
+-- the phase, and every time that the run has seen
+unfoldable pub isRun : Plan → Run → Bool
+isRun p r =
+    isPhase p (r .phase)
+    && cond (r .«has_previous») (areTimes (take (p .jobs) (r .previous))) true
+    && areTimes (take (jobOfPhase (r .phase) - 1) (r .present))
+
+-- ---- calendars
+
+abbrev pub isC : ℤ → Bool
+isC c = within leastC greatestC c
+
+-- one side of job i: 'its bits name events of the previous window or of earlier jobs only', and each c that they name is a bound's
+unfoldable pub isSide : Plan → ℕ → ℕ → List ℤ → Bool
+isSide p i set cs =
+    ltb set (2 ^ eventsBefore p i)
+    && not (anyBelow (eventsBefore p i) (λ e. hasEvent e set && not (isC (getD cs (i * mostEvents + e) (pos 0)))))
+
+unfoldable pub areTerms : Plan → Calendar → ℕ → Bool
+areTerms p c i =
+    let t = getD (c .terms) i noTerms in
+    isC (t .low .0) && isC (t .high .0) && isSide p i (t .below .0) (c .«at_least») && isSide p i (t .above .0) (c .«at_most»)
+
+-- 'a calendar's low, high and c lie in the range of a bound's c', for each job of the plan
+unfoldable pub isCalendar : Plan → Calendar → Bool
+isCalendar p c = not (anyBelow (p .jobs) (λ i. not (areTerms p c i)))

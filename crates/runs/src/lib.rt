@@ -1,0 +1,85 @@
+// Runs: what a run has seen, the offer for its next start, and the steps that ask, start and finish.
+
+use clock::RunTime;
+use plan::MOST_JOBS;
+use plan::Refusal;
+
+// A probe that has finished: when it started and when it finished.
+pub struct Probe {
+    pub start: RunTime,
+    pub finish: RunTime,
+}
+
+// A run waits for the start of a job, or is running one since some start; windows and jobs are counted from 1. A run that waits in a
+// window past the plan's last one is over.
+pub enum Phase {
+    Waiting {
+        window: u64,
+        job: usize,
+    },
+    Running {
+        window: u64,
+        job: usize,
+        start: RunTime,
+    },
+}
+
+// A run: its phase, and the times seen of the previous and of the present window. Without a previous window its places are no part of the
+// run, and neither are those of jobs that the present window has not finished.
+pub struct Run {
+    pub phase: Phase,
+    pub has_previous: bool,
+    pub previous: [Probe; MOST_JOBS],
+    pub present: [Probe; MOST_JOBS],
+}
+
+// The starts that are on offer: from the greatest lower bound to the least upper bound, both ends included.
+pub struct Offer {
+    pub from: RunTime,
+    pub to: RunTime,
+}
+
+// What there is for an ask or a start: the window, the job and its offer, or why there is none.
+pub enum Opening {
+    Open {
+        window: u64,
+        job: usize,
+        offer: Offer,
+    },
+    Shut(Refusal),
+}
+
+// How a start chooses its time.
+pub enum Choice {
+    At(RunTime),
+    Auto,
+}
+
+// A step of a session.
+pub enum Step {
+    Ask,
+    Start(Choice),
+    Finish(RunTime),
+}
+
+// The answer to a step.
+pub enum Answer {
+    Offered(Offer),
+    Started {
+        window: u64,
+        job: usize,
+        start: RunTime,
+    },
+    Final {
+        window: u64,
+        job: usize,
+        finish: RunTime,
+    },
+    Refused(Refusal),
+}
+
+// The answer to a step and the run after it; where the step is refused, the run as it came in.
+pub struct Answered {
+    pub answer: Answer,
+    pub run: Run,
+}

@@ -1,0 +1,29 @@
+-- Answers, printed (document 01, 'Offers and runs': 'Answers: `offer=a,b`, `started=j,i,T`, `final=j,i,T` (window, job, time) or
+-- `refused=N,D`').
+use Prim.Native.Nat.{ℕ}
+use mathlib.Core.Bool.{Bool, true, false}
+use mathlib.Core.List.{List, [], _∷_, _++_}
+use lib.IntN.{ℤ}
+use Rattle.text.specs.Bytes.{bytes}
+use Rattle.text.specs.Lines.{LF, comma}
+use Rattle.text.specs.Numbers.{decimal, digits}
+use Rattle.plan.specs.Refusals.{refusedLine, ends}
+use Rattle.runs.specs.declared.Answer.{Answer}
+use Rattle.runs.specs.declared.Answer.the-variants.{Offered, Started, Final, Refused}
+
+-- 'window, job, time'
+abbrev pub turnText : ℕ → ℕ → ℤ → List ℕ
+turnText j i t = digits j ++ (comma ∷ (digits i ++ (comma ∷ (decimal t ++ (LF ∷ [])))))
+
+unfoldable pub answerLine : Answer → List ℕ
+answerLine (Offered o) = bytes "offer=" ++ (decimal (o .from .0) ++ (comma ∷ (decimal (o .to .0) ++ (LF ∷ []))))
+answerLine (Started j i t) = bytes "started=" ++ turnText j i (t .0)
+answerLine (Final j i t) = bytes "final=" ++ turnText j i (t .0)
+answerLine (Refused x) = refusedLine x
+
+-- 'A step refused by 1 or 2 ends the program; other refusals go on.'
+unfoldable pub endsSession : Answer → Bool
+endsSession (Offered o) = false
+endsSession (Started j i t) = false
+endsSession (Final j i t) = false
+endsSession (Refused x) = ends x

@@ -1,0 +1,59 @@
+-- The dispatch program's output (document 01, 'Offers and runs': 'Dispatch program: standard input is a plan followed by steps').
+use Prim.Native.Nat.{ℕ, zero, suc}
+use mathlib.Core.Bool.{Bool, true, false, cond}
+use mathlib.Core.List.{List, [], _∷_, _++_}
+use lib.ListN.{length}
+use Rattle.text.specs.Numbers.{isEmpty}
+use Rattle.plan.specs.declared.Plan.{Plan}
+use Rattle.plan.specs.declared.Refusal.the-variants as refusal
+use Rattle.plan.specs.Refusals.{refusedLine}
+use Rattle.plan.specs.Reading.{Reading, read, refused}
+use Rattle.plan.specs.PlanRead.{planHead}
+use Rattle.rounds.specs.declared.Calendar.{Calendar}
+use Rattle.rounds.specs.Rounds.{Outcome, settled, noStrategy, unsettled, outcome}
+use Rattle.rounds.specs.Calendars.{calendar}
+use Rattle.runs.specs.declared.Step.{Step}
+use Rattle.runs.specs.declared.Answered.{Answered}
+use Rattle.runs.specs.declared.Run.{Run}
+use Rattle.runs.specs.Steps.{newRun, stepped}
+use Rattle.session.specs.StepRead.{stepLine}
+use Rattle.session.specs.AnswerText.{answerLine, endsSession}
+
+-- ---- steps
+
+-- one step's answer line, and what follows it from the run after the step
+unfoldable pub answeredStep : Answered → (Run → List ℕ) → List ℕ
+answeredStep a later =
+    let rest = later (a .run) in
+    answerLine (a .answer) ++ cond (endsSession (a .answer)) [] rest
+
+-- 'A step refused by 1 or 2 ends the program': a line that is no step is its last
+unfoldable pub afterStep : Plan → Calendar → Run → Reading Step → (Run → List ℕ → ℕ → List ℕ) → List ℕ
+afterStep p c r (read st s n) later = answeredStep (stepped p c r st) (λ r′. later r′ s n)
+afterStep p c r (refused x part) later = refusedLine x
+
+-- the answers to the steps of a text whose first line has number n. Each step takes a byte at least, so the text's length is more than the
+-- count of its steps.
+unfoldable pub answersWithin : Plan → Calendar → ℕ → Run → List ℕ → ℕ → List ℕ
+answersWithin p c zero r s n = []
+answersWithin p c (suc left) r [] n = []
+answersWithin p c (suc left) r (b ∷ s) n = afterStep p c r (stepLine (b ∷ s) n) (answersWithin p c left)
+
+abbrev pub answers : Plan → Calendar → Run → List ℕ → ℕ → List ℕ
+answers p c r s n = answersWithin p c (length s) r s n
+
+-- ---- the program: from the bytes of the input to those of the output
+
+-- 'The verdict follows; in a session it comes before any step is read.'
+unfoldable pub judgedSession : Plan → Outcome → List ℕ → ℕ → List ℕ
+judgedSession p (settled m t) s n = answers p (calendar p t) newRun s n
+judgedSession p (noStrategy K) s n = refusedLine (refusal.NoStrategy K)
+judgedSession p unsettled s n = refusedLine (refusal.Unsettled (p .rounds))
+
+-- 'A refused plan prints its one line.' 'Line numbers count from the plan's first line.'
+unfoldable pub sessionOf : Reading Plan → List ℕ
+sessionOf (read p s n) = judgedSession p (outcome p) s n
+sessionOf (refused x part) = refusedLine x
+
+abbrev pub dispatchOutput : List ℕ → List ℕ
+dispatchOutput s = sessionOf (planHead s)

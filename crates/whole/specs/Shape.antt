@@ -1,0 +1,71 @@
+-- The statements of the rules: a fact about two whole numbers, each a sum or a difference of a written shape, and the fact about naturals that it comes to.
+
+use mathlib.Core.Path.{_≡_}
+use mathlib.Core.Bool.{true, false}
+use Prim.Native.Nat.{ℕ, suc, _+_, _-_, _^_, _≤_, _<_, min, max}
+use lib.IntN.{ℤ, _+ℤ_, _-ℤ_}
+use lib.Signed.{_≤ℤ_, _<ℤ_, ltZ, leZ}
+use mir.Syntax.{w64}
+use mir.Val.{SFits, toZ, ofZ}
+use Rattle.whole.specs.Split.{up, dn, eqZ}
+
+-- ---- shapes
+
+-- `any ⊖ (any ⊕ any)` is the shape of a - (b + c).
+infixl 6 _⊕_ _⊖_
+pub data Shape : Type 0 where
+  any : Shape
+  _⊕_ : Shape → Shape → Shape
+  _⊖_ : Shape → Shape → Shape
+
+-- K of each number of the shape, with two naturals whose difference it is: sums of the parts of what stands at the shape's places.
+abbrev pub Each : Shape → (ℤ → ℕ → ℕ → Type 0) → Type 0
+Each any K = (a : ℤ) → K a (up a) (dn a)
+Each (s ⊕ t) K = Each s (λ a p n. Each t (λ b q m. K (a +ℤ b) (p + q) (n + m)))
+Each (s ⊖ t) K = Each s (λ a p n. Each t (λ b q m. K (a -ℤ b) (p + m) (n + q)))
+
+-- ---- facts
+
+pub data Fact : Type 0 where
+  le lt eq lt-true lt-false le-true le-false eq-true eq-false : Fact
+
+-- What a fact says of two whole numbers.
+abbrev pub Says : Fact → ℤ → ℤ → Type 0
+Says le a b = a ≤ℤ b
+Says lt a b = a <ℤ b
+Says eq a b = a ≡ b
+Says lt-true a b = ltZ a b ≡ true
+Says lt-false a b = ltZ a b ≡ false
+Says le-true a b = leZ a b ≡ true
+Says le-false a b = leZ a b ≡ false
+Says eq-true a b = eqZ a b ≡ true
+Says eq-false a b = eqZ a b ≡ false
+
+-- The same of two naturals. A rule cannot end in x ≢ y, which is a function: min x y < max x y says it.
+abbrev pub Counts : Fact → ℕ → ℕ → Type 0
+Counts le x y = x ≤ y
+Counts lt x y = x < y
+Counts eq x y = x ≡ y
+Counts lt-true x y = x < y
+Counts lt-false x y = y ≤ x
+Counts le-true x y = x ≤ y
+Counts le-false x y = y < x
+Counts eq-true x y = x ≡ y
+Counts eq-false x y = min x y < max x y
+
+-- ---- rules
+
+-- p - n against q - m is p + m against q + n. A hypothesis is read so, and a goal shown so.
+abbrev pub Reads : Fact → Shape → Shape → Type 0
+Reads f s t = Each s (λ a p n. Each t (λ b q m. Says f a b → Counts f (p + m) (q + n)))
+
+abbrev pub Shows : Fact → Shape → Shape → Type 0
+Shows f s t = Each s (λ a p n. Each t (λ b q m. Counts f (p + m) (q + n) → Says f a b))
+
+-- p - n is below 2 ^ 63, and n - p is not above it: a rule has one premise, so the two bounds are one.
+abbrev pub Fits64 : Shape → Type 0
+Fits64 s = Each s (λ a p n. max (suc p - n) (n - p) ≤ 2 ^ 63 → SFits w64 a)
+
+-- A signed local is its bits, and what is read back from the bits of a number that fits is that number.
+abbrev pub ReadsBack : Shape → Type 0
+ReadsBack s = Each s (λ a p n. SFits w64 a → up (toZ w64 (ofZ w64 a)) + n ≡ p + dn (toZ w64 (ofZ w64 a)))
