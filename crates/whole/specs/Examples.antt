@@ -1,20 +1,22 @@
 -- Facts of the kind that the other crates meet, each proved in one line, as a pattern to copy: bounds z - y <= w between events, a finish s + e, a set
--- moved by a window, a test on a weight, numbers that fit an i64, and what a proof about code is handed.
+-- moved by a window, a test on a weight, numbers that fit their width, and what a proof about code is handed.
 
 use mathlib.Core.Path.{_≡_}
 use mathlib.Core.Logic.{_↔_}
 use mathlib.Core.Bool.{true, false}
-use Prim.Native.Nat.{ℕ, _+_, _*_, _-_, _≤_}
-use native.Mathlib.Nat.{mul-le-mul}
-use native.Mathlib.Omega.{arith}
-use lib.IntN.{ℤ, pos, negsuc, negℤ, _+ℤ_, _-ℤ_, _*ℤ_}
-use lib.Signed.{_≤ℤ_, _<ℤ_, ltZ}
-use mir.Syntax.{w64}
+use Prim.Native.Nat.{ℕ, _+_, _-_, _≤_, _<_}
+use lib.Dec.{eqb}
+use lib.IntN.{ℤ, pos, negsuc, _+ℤ_, _-ℤ_, _*ℤ_}
+use lib.Signed.{_≤ℤ_, _<ℤ_, ltZ, mag}
+use mir.Syntax.{w32, w64}
 use mir.Val.{SFits, toZ, ofZ}
+use mir.Facts.{sfits-lit, toZ-ofZ}
+use Rattle.whole.specs.Split.{Within, eqZ}
 use Rattle.whole.specs.Shape.{any, _⊕_, _⊖_, le}
-use Rattle.whole.specs.SplitLaws.{split-add, split-mul}
+use Rattle.whole.specs.SplitLaws.{split-add, split-mul, told-fits, cast-wide, mul-back, bits-eqb}
 use Rattle.whole.specs.ShapeLaws.{reads, shows}
 use Rattle.whole.specs.Rules.{wholes}
+use Rattle.whole.specs.Order.{fits-least, fits-below, mul-within}
 
 -- ---- bounds between events
 
@@ -72,21 +74,21 @@ which-way w e l h = omega wholes
 room-left : (x w lo : ℤ) → ltZ w lo ≡ false → x ≡ w -ℤ lo → pos 0 ≤ℤ x
 room-left x w lo t d = omega wholes
 
--- ---- what fits an i64
-
-record Within (n : ℕ) (z : ℤ) : Type 0 where
-  least : negℤ (pos n) ≤ℤ z
-  greatest : z ≤ℤ pos n
+-- ---- what fits
 
 sum-fits : (a b : ℤ) → Within 10000000000 a → Within 10000000000 b → SFits w64 (a +ℤ b)
 sum-fits a b p q = omega wholes
 
-three-weights-fit : (a b c : ℤ) → Within 604800000 a → Within 604800000 b → Within 604800000 c → SFits w64 (a +ℤ b +ℤ c)
+three-weights-fit : (a b c : ℤ) → Within 604800000 a → Within 604800000 b → Within 604800000 c → SFits w32 (a +ℤ b +ℤ c)
 three-weights-fit a b c p q r = omega wholes
 
--- A time on the run's clock. The product is bounded by a law, as `omega` takes it for an unknown.
-clock-fits : (j window t : ℕ) → j ≤ 1000000001 → window ≤ 86400000 → t ≤ 100000000000000000 → SFits w64 (pos ((j - 1) * window) +ℤ pos t)
-clock-fits j window t p q r = omega (wholes, mul-le-mul {n₁ = j - 1} {n₂ = 1000000000} (omega arith) q)
+-- Bounds that a number has from its width alone.
+wider-sum-fits : (a b : ℤ) → SFits w32 a → SFits w32 b → SFits w64 (a +ℤ b)
+wider-sum-fits a b f g = omega (wholes, fits-least f, fits-below f, fits-least g, fits-below g)
+
+-- A time on the run's clock. A product is an unknown to `omega`: a law bounds it.
+clock-fits : (j t : ℕ) (window : ℤ) → j ≤ 1000000001 → Within 86400000 window → t ≤ 100000000000000000 → SFits w64 (pos (j - 1) *ℤ window +ℤ pos t)
+clock-fits j t window p q r = omega (wholes, mul-within {m = 1000000000} {a = pos (j - 1)} (omega wholes) q)
 
 multiple : (z w : ℤ) → z ≤ℤ w → (pos 3 *ℤ z) ≤ℤ (w +ℤ w +ℤ w)
 multiple z w p = omega (wholes, split-mul 3 z)
@@ -94,9 +96,31 @@ multiple z w p = omega (wholes, split-mul 3 z)
 -- ---- what a proof about code is handed
 
 -- A signed local is its bits.
-local-is : (z w : ℤ) → SFits w64 z → SFits w64 w → ltZ (toZ w64 (ofZ w64 z)) (toZ w64 (ofZ w64 w)) ≡ true → z <ℤ w
+local-is : (z w : ℤ) → SFits w32 z → SFits w32 w → ltZ (toZ w32 (ofZ w32 z)) (toZ w32 (ofZ w32 w)) ≡ true → z <ℤ w
 local-is z w f g t = omega wholes
 
 -- A sum that the machine makes, and what is read back from it.
 sum-read-back : (a b r : ℤ) → r ≡ toZ w64 (ofZ w64 a) +ℤ toZ w64 (ofZ w64 b) → SFits w64 a → SFits w64 b → SFits w64 r → toZ w64 (ofZ w64 r) ≡ a +ℤ b
 sum-read-back a b r d f g h = omega wholes
+
+-- `x as i64` and `x as i32`: what the cast asks, and what it gives.
+widened : (x : ℤ) → SFits w32 x → toZ w64 (ofZ w64 (toZ w32 (ofZ w32 x))) ≡ x
+widened x f = omega (wholes, cast-wide {v = w64} tt f)
+
+narrows : (x : ℤ) → SFits w64 x → Within 604800000 x → SFits w32 (toZ w64 (ofZ w64 x))
+narrows x f p = omega wholes
+
+narrowed : (x : ℤ) → SFits w64 x → SFits w32 (toZ w64 (ofZ w64 x)) → toZ w32 (ofZ w32 (toZ w64 (ofZ w64 x))) ≡ x
+narrowed x f g = omega wholes
+
+-- An element that was read: its size is told.
+read-is : (v w : ℤ) → mag v < 2147483648 → SFits w32 w → ltZ (toZ w32 (ofZ w32 w)) (toZ w32 (ofZ w32 v)) ≡ false → v ≤ℤ w
+read-is v w p f t = omega (wholes, told-fits w32 v p)
+
+-- `v == i32::MAX`, the mark for no bound.
+no-bound : (v : ℤ) → mag v < 2147483648 → eqb (ofZ w32 v) 2147483647 ≡ eqZ v (pos 2147483647)
+no-bound v p = bits-eqb {b = pos 2147483647} (told-fits w32 v p) (sfits-lit tt)
+
+-- A product that the machine makes, of a natural that was cast and a signed local.
+product-is : (n : ℕ) (z : ℤ) → SFits w64 (pos n) → SFits w64 z → SFits w64 (toZ w64 n *ℤ toZ w64 (ofZ w64 z)) → toZ w64 (ofZ w64 (toZ w64 n *ℤ toZ w64 (ofZ w64 z))) ≡ pos n *ℤ z
+product-is n z f g h = mul-back h (toZ-ofZ f) (toZ-ofZ g)

@@ -1,19 +1,22 @@
 -- The laws of the order of whole numbers, in its own words; each is one call of `omega` with the rules of `Rules`.
 -- The order: transitive with `<ℤ` anywhere in the chain, antisymmetric, total, and each of `≤ℤ` and `<ℤ` is what the other one reversed denies.
 -- Sums and differences: the order is kept by adding and turned by taking away; a term moves over to the other side with its sign changed; what
--- is added and taken away again is gone. Naturals among whole numbers. The tests, as the orders that they decide. The range of an i64.
+-- is added and taken away again is gone. Naturals among whole numbers. The tests, as the orders that they decide. A product of
+-- numbers within bounds. The range of a width.
 -- Reflexivity is the kit's `≤ℤ-refl`, and the group laws of the sum are in the kit's `lib.IntN`.
 
 use mathlib.Core.Path.{_≡_, refl}
 use mathlib.Core.Logic.{_≢_, _↔_, _⊎_, inl, inr, ⊎-elim}
 use mathlib.Core.Bool.{Bool, true, false}
-use Prim.Native.Nat.{ℕ, _-_, _≤_, _<_}
-use lib.IntN.{ℤ, pos, negsuc, negℤ, _+ℤ_, _-ℤ_}
+use Prim.Native.Nat.{ℕ, _+_, _*_, _-_, _^_, _≤_, _<_}
+use native.Mathlib.Nat.{mul-le-mul}
+use native.Mathlib.Omega.{arith}
+use lib.IntN.{ℤ, pos, negsuc, negℤ, _+ℤ_, _-ℤ_, _*ℤ_}
 use lib.Signed.{_≤ℤ_, _<ℤ_, leZ, ltZ}
-use mir.Syntax.{w64}
-use mir.Val.{SFits}
-use Rattle.whole.specs.Split.{up, eqZ}
-use Rattle.whole.specs.SplitLaws.{split-one, split-neg, split-sub, ne-split-iff, eqZ-false-split-iff, fits-split-iff}
+use mir.Syntax.{Width}
+use mir.Val.{SFits, hbits}
+use Rattle.whole.specs.Split.{up, dn, Within, eqZ}
+use Rattle.whole.specs.SplitLaws.{split-one, split-neg, split-sub, split-times, ne-split-iff, eqZ-false-split-iff, fits-split-iff}
 use Rattle.whole.specs.Rules.{whole, wholes}
 
 -- ---- the order
@@ -127,13 +130,21 @@ eqZ-true-iff a b = omega whole
 pub eqZ-false-iff : (a b : ℤ) → eqZ a b ≡ false ↔ a ≢ b
 eqZ-false-iff a b = (λ e d. omega whole, λ d. eqZ-false-split-iff a b .1 (ne-split-iff a b .0 d))
 
--- ---- an i64
+-- ---- products
 
-pub fits-least : {z : ℤ} → SFits w64 z → negsuc 9223372036854775807 ≤ℤ z
-fits-least {z} f = omega (whole, fits-split-iff z .0 f)
+within-iff : (n : ℕ) (z : ℤ) → Within n z ↔ up z + dn z ≤ n
+within-iff n z = (λ p. ⊎-elim (λ e. omega (whole, split-neg (pos n))) (λ e. omega (whole, split-neg (pos n))) (split-one z), λ h. omega (whole, split-neg (pos n)))
 
-pub fits-greatest : {z : ℤ} → SFits w64 z → z ≤ℤ pos 9223372036854775807
-fits-greatest {z} f = omega (whole, fits-split-iff z .0 f)
+pub mul-within : {m n : ℕ} {a b : ℤ} → Within m a → Within n b → Within (m * n) (a *ℤ b)
+mul-within {m} {n} {a} {b} p q = within-iff (m * n) (a *ℤ b) .1 (omega (arith, split-times a b, mul-le-mul (within-iff m a .0 p) (within-iff n b .0 q)))
 
-pub fits-within : {z : ℤ} → negsuc 9223372036854775807 ≤ℤ z → z ≤ℤ pos 9223372036854775807 → SFits w64 z
-fits-within p q = omega whole
+-- ---- what fits a width
+
+pub fits-least : {w : Width} {z : ℤ} → SFits w z → negℤ (pos (2 ^ hbits w)) ≤ℤ z
+fits-least {w} {z} f = omega (whole, fits-split-iff w z .0 f, split-neg (pos (2 ^ hbits w)))
+
+pub fits-below : {w : Width} {z : ℤ} → SFits w z → z <ℤ pos (2 ^ hbits w)
+fits-below {w} {z} f = omega (whole, fits-split-iff w z .0 f)
+
+pub fits-within : {w : Width} {z : ℤ} → negℤ (pos (2 ^ hbits w)) ≤ℤ z → z <ℤ pos (2 ^ hbits w) → SFits w z
+fits-within {w} p q = omega (whole, split-neg (pos (2 ^ hbits w)))

@@ -1,11 +1,11 @@
 -- The rules of `Rules`, spelled out: a rule set lists bare names, so each shape has its own. Every row is `reads` or `shows` of `ShapeLaws` at the shapes
 -- that its name draws: `le·a-b·c+d` reads a hypothesis (a - b) ≤ℤ (c + d), `to-le·a-b·c+d` shows such a goal, and ‹ › are brackets.
--- `≤ℤ` and `≡` have at most two operations in all, `<ℤ` and a test one, a number that is to fit an i64 two, and one that is read back one.
+-- `≤ℤ` and `≡` have at most two operations in all, `<ℤ` and a test one, a number that is to fit a width two, and one that is read back one.
 -- In each set more operations stand before fewer, and a difference before a sum: `omega` takes the first rule that fits, a - b is a + negℤ b, and so it
 -- fits the rule for sums too, which leaves negℤ b an unknown.
 
-use Rattle.whole.specs.Shape.{Shape, any, _⊕_, _⊖_, le, lt, eq, lt-true, lt-false, le-true, le-false, eq-true, eq-false, Reads, Shows, Fits64, ReadsBack}
-use Rattle.whole.specs.ShapeLaws.{reads, shows, fits64, reads-back}
+use Rattle.whole.specs.Shape.{Shape, any, _⊕_, _⊖_, le, lt, eq, lt-true, lt-false, le-true, le-false, eq-true, eq-false, Reads, Shows, Fitting, ReadsBack}
+use Rattle.whole.specs.ShapeLaws.{reads, shows, fitting, reads-back}
 
 -- ---- the shapes
 
@@ -95,8 +95,8 @@ eq-false·a·b = reads eq-false any any
 pub to-eq-false·a·b : Shows eq-false any any
 to-eq-false·a·b = shows eq-false any any
 
-pub fits·a : Fits64 any
-fits·a = fits64 any
+pub fits·a : Fitting any
+fits·a = fitting any
 
 pub back·a : ReadsBack any
 back·a = reads-back any
@@ -658,37 +658,37 @@ to-le-false·a+b·c = shows le-false a+b any
 
 pub ruleset le-false-shapes = (le-false·a·b-c, le-false·a-b·c, le-false·a·b+c, le-false·a+b·c, to-le-false·a·b-c, to-le-false·a-b·c, to-le-false·a·b+c, to-le-false·a+b·c)
 
--- ---- an i64
+-- ---- the machine, at any width
 
-pub fits·a-b-c : Fits64 a-b-c
-fits·a-b-c = fits64 a-b-c
+pub fits·a-b-c : Fitting a-b-c
+fits·a-b-c = fitting a-b-c
 
-pub fits·a-‹b-c› : Fits64 a-‹b-c›
-fits·a-‹b-c› = fits64 a-‹b-c›
+pub fits·a-‹b-c› : Fitting a-‹b-c›
+fits·a-‹b-c› = fitting a-‹b-c›
 
-pub fits·a+b-c : Fits64 a+b-c
-fits·a+b-c = fits64 a+b-c
+pub fits·a+b-c : Fitting a+b-c
+fits·a+b-c = fitting a+b-c
 
-pub fits·a-b+c : Fits64 a-b+c
-fits·a-b+c = fits64 a-b+c
+pub fits·a-b+c : Fitting a-b+c
+fits·a-b+c = fitting a-b+c
 
-pub fits·a+‹b-c› : Fits64 a+‹b-c›
-fits·a+‹b-c› = fits64 a+‹b-c›
+pub fits·a+‹b-c› : Fitting a+‹b-c›
+fits·a+‹b-c› = fitting a+‹b-c›
 
-pub fits·a-‹b+c› : Fits64 a-‹b+c›
-fits·a-‹b+c› = fits64 a-‹b+c›
+pub fits·a-‹b+c› : Fitting a-‹b+c›
+fits·a-‹b+c› = fitting a-‹b+c›
 
-pub fits·a+b+c : Fits64 a+b+c
-fits·a+b+c = fits64 a+b+c
+pub fits·a+b+c : Fitting a+b+c
+fits·a+b+c = fitting a+b+c
 
-pub fits·a+‹b+c› : Fits64 a+‹b+c›
-fits·a+‹b+c› = fits64 a+‹b+c›
+pub fits·a+‹b+c› : Fitting a+‹b+c›
+fits·a+‹b+c› = fitting a+‹b+c›
 
-pub fits·a-b : Fits64 a-b
-fits·a-b = fits64 a-b
+pub fits·a-b : Fitting a-b
+fits·a-b = fitting a-b
 
-pub fits·a+b : Fits64 a+b
-fits·a+b = fits64 a+b
+pub fits·a+b : Fitting a+b
+fits·a+b = fitting a+b
 
 pub back·a-b : ReadsBack a-b
 back·a-b = reads-back a-b
@@ -696,7 +696,7 @@ back·a-b = reads-back a-b
 pub back·a+b : ReadsBack a+b
 back·a+b = reads-back a+b
 
-pub ruleset i64-shapes = (
+pub ruleset machine-shapes = (
   fits·a-b-c,
   fits·a-‹b-c›,
   fits·a+b-c,

@@ -2,8 +2,8 @@
 --     use Rattle.whole.specs.Rules.{wholes}     in another crate (in this one, `Rattle.whole.specs.Rules`)
 --     omega wholes                              or `omega (wholes, h)`, with a fact h that is in no hypothesis and no field of one
 --
---     whole     each side as a whole: reads and shows `≤ℤ`, `<ℤ`, `≡`, and `ltZ`, `leZ`, `eqZ` at true and at false; shows `SFits w64 z`; and reads of a
---               hypothesis `SFits w64 z` that `toZ w64 (ofZ w64 z)` is z
+--     whole     each side as a whole: reads and shows `≤ℤ`, `<ℤ`, `≡`, and `ltZ`, `leZ`, `eqZ` at true and at false; at any width w, shows
+--               `SFits w z`, and reads of a hypothesis `SFits w z` that `toZ w (ofZ w z)` is z
 --     wholes    looks besides into the sums and differences of a side, as far as `RuleTable` goes
 --
 -- A sum or difference that stands deeper is an unknown. There are two ways on:
@@ -14,15 +14,15 @@
 -- A rule is applied to a hypothesis, a `let`, a field and a listed fact, as each stands, and to nothing that a rule has made. So:
 --     a fact for all indices is listed at an index, `omega (wholes, h k)`, and a need that was proved as it is, `omega (wholes, add-result c)`
 --     `a ≢ b` is listed as `ne-split-iff a b .0 d`, and `a == b` of code, which compares bits, as `bits-eq`, both of `SplitLaws`
---     `SFits w64 z` tells of z's bits and not of z's bounds, which are `fits-least` and `fits-greatest` of `Order`
---     a call's result, a field and an element that was read have no `SFits` yet: `let f : SFits w64 z = omega wholes in` makes it where bounds of z are
---     known, and `told-back` of `SplitLaws` is listed where only `mag z < 2 ^ 63` is
+--     `SFits w z` tells of z's bits and not of z's bounds, which are `fits-least f` and `fits-below f` of `Order`
+--     a call's result and an element that was read have no `SFits` yet: it is `told-fits w32 z (c .v .given)` of `SplitLaws`, or `c .f .ok`
+--     a product is an unknown: its bounds are `mul-within` of `Order`, its value `mul-back` of `SplitLaws`
 
 use native.Mathlib.Omega.{arith}
 use borrow.Author.Tests.{leb-true, leb-false, eqb-true, le-leb, lt-leb, eq-eqb}
-use Rattle.whole.specs.RuleTable.{sides, le-shapes, lt-shapes, eq-shapes, lt-true-shapes, lt-false-shapes, le-true-shapes, le-false-shapes, i64-shapes}
+use Rattle.whole.specs.RuleTable.{sides, le-shapes, lt-shapes, eq-shapes, lt-true-shapes, lt-false-shapes, le-true-shapes, le-false-shapes, machine-shapes}
 
 -- The tests between naturals are the kit's: `ltZ (pos a) (pos b)` computes to one.
 pub ruleset whole = (sides, leb-true, leb-false, eqb-true, le-leb, lt-leb, eq-eqb, arith)
 
-pub ruleset wholes = (le-shapes, lt-shapes, eq-shapes, lt-true-shapes, lt-false-shapes, le-true-shapes, le-false-shapes, i64-shapes, whole)
+pub ruleset wholes = (le-shapes, lt-shapes, eq-shapes, lt-true-shapes, lt-false-shapes, le-true-shapes, le-false-shapes, machine-shapes, whole)

@@ -5,8 +5,8 @@ use mathlib.Core.Bool.{true, false}
 use Prim.Native.Nat.{ℕ, suc, _+_, _-_, _^_, _≤_, _<_, min, max}
 use lib.IntN.{ℤ, _+ℤ_, _-ℤ_}
 use lib.Signed.{_≤ℤ_, _<ℤ_, ltZ, leZ}
-use mir.Syntax.{w64}
-use mir.Val.{SFits, toZ, ofZ}
+use mir.Syntax.{Width}
+use mir.Val.{SFits, toZ, ofZ, hbits}
 use Rattle.whole.specs.Split.{up, dn, eqZ}
 
 -- ---- shapes
@@ -62,10 +62,10 @@ Reads f s t = Each s (λ a p n. Each t (λ b q m. Says f a b → Counts f (p + m
 abbrev pub Shows : Fact → Shape → Shape → Type 0
 Shows f s t = Each s (λ a p n. Each t (λ b q m. Counts f (p + m) (q + n) → Says f a b))
 
--- p - n is below 2 ^ 63, and n - p is not above it: a rule has one premise, so the two bounds are one.
-abbrev pub Fits64 : Shape → Type 0
-Fits64 s = Each s (λ a p n. max (suc p - n) (n - p) ≤ 2 ^ 63 → SFits w64 a)
+-- p - n is below 2 ^ hbits w, and n - p is not above it: a rule has one premise, so the two bounds are one.
+abbrev pub Fitting : Shape → Type 0
+Fitting s = (w : Width) → Each s (λ a p n. max (suc p - n) (n - p) ≤ 2 ^ hbits w → SFits w a)
 
 -- A signed local is its bits, and what is read back from the bits of a number that fits is that number.
 abbrev pub ReadsBack : Shape → Type 0
-ReadsBack s = Each s (λ a p n. SFits w64 a → up (toZ w64 (ofZ w64 a)) + n ≡ p + dn (toZ w64 (ofZ w64 a)))
+ReadsBack s = (w : Width) → Each s (λ a p n. SFits w a → up (toZ w (ofZ w a)) + n ≡ p + dn (toZ w (ofZ w a)))

@@ -1,5 +1,5 @@
--- Every rule that `Shape` can state holds: for each fact and all shapes, `reads` a hypothesis and `shows` a goal; for each shape, `fits64` shows that a
--- number of it fits an i64, and `reads-back` reads what its bits hold.
+-- Every rule that `Shape` can state holds: for each fact and all shapes, `reads` a hypothesis and `shows` a goal; for each shape, `fitting` shows that a
+-- number of it fits a width, and `reads-back` reads what its bits hold.
 -- They rest on `SplitLaws`, at the two sides as wholes, and on one law of shapes, `each`: the two naturals of a shape differ by the number.
 
 use mathlib.Core.Path.{_≡_, refl}
@@ -9,7 +9,7 @@ use native.Mathlib.Omega.{arith}
 use lib.IntN.{ℤ, _+ℤ_, _-ℤ_}
 use Rattle.whole.specs.Split.{up, dn}
 use Rattle.whole.specs.SplitLaws.{split-one, split-add, split-sub, le-split-iff, lt-split-iff, eq-split-iff, ltZ-true-split-iff, ltZ-false-split-iff, leZ-true-split-iff, leZ-false-split-iff, eqZ-true-split-iff, eqZ-false-split-iff, fits-split-iff, split-back}
-use Rattle.whole.specs.Shape.{Shape, any, _⊕_, _⊖_, Each, Fact, le, lt, eq, lt-true, lt-false, le-true, le-false, eq-true, eq-false, Says, Counts, Reads, Shows, Fits64, ReadsBack}
+use Rattle.whole.specs.Shape.{Shape, any, _⊕_, _⊖_, Each, Fact, le, lt, eq, lt-true, lt-false, le-true, le-false, eq-true, eq-false, Says, Counts, Reads, Shows, Fitting, ReadsBack}
 
 each : (s : Shape) (K : ℤ → ℕ → ℕ → Type 0) → ((a : ℤ) (p n : ℕ) → up a + n ≡ p + dn a → K a p n) → Each s K
 each any K f = λ a. f a (up a) (dn a) refl
@@ -49,8 +49,8 @@ shows f s t = each s _ (λ a p n e. each t _ (λ b q m d h. fact-iff f a b .1 (m
 
 -- ---- one number
 
-pub fits64 : (s : Shape) → Fits64 s
-fits64 s = each s _ (λ a p n e h. fits-split-iff a .1 (⊎-elim (λ z. omega arith) (λ z. omega arith) (split-one a)))
+pub fitting : (s : Shape) → Fitting s
+fitting s w = each s _ (λ a p n e h. fits-split-iff w a .1 (⊎-elim (λ z. omega arith) (λ z. omega arith) (split-one a)))
 
 pub reads-back : (s : Shape) → ReadsBack s
-reads-back s = each s _ (λ a p n e f. omega (arith, split-back a f))
+reads-back s w = each s _ (λ a p n e f. omega (arith, split-back a f))

@@ -3,7 +3,8 @@
 use Prim.Native.Nat.{ℕ, zero, suc}
 use mathlib.Core.Bool.{Bool, false}
 use lib.Dec.{eqb}
-use lib.IntN.{ℤ, pos, negsuc}
+use lib.IntN.{ℤ, pos, negsuc, negℤ}
+use lib.Signed.{_≤ℤ_}
 
 abbrev pub up : ℤ → ℕ
 up (pos n) = n
@@ -12,6 +13,11 @@ up (negsuc n) = zero
 abbrev pub dn : ℤ → ℕ
 dn (pos n) = zero
 dn (negsuc n) = suc n
+
+-- z is at most n from zero. `omega` reads the two bounds, and shows them.
+pub record Within (n : ℕ) (z : ℤ) : Type 0 where
+  pub least : negℤ (pos n) ≤ℤ z
+  pub greatest : z ≤ℤ pos n
 
 -- The test of equality, beside the kit's `ltZ` and `leZ`, for definitions that compute.
 abbrev pub eqZ : ℤ → ℤ → Bool

@@ -1,9 +1,10 @@
 -- The laws of `up` and `dn`, which turn a fact about whole numbers into one about naturals, the only numbers that `omega` reads.
 -- The operations: one of the two parts is 0; a literal's parts are written on it; a negation swaps them; a sum and a difference are told by an
--- equation with no subtraction in it; a multiple multiplies both.
+-- equation with no subtraction in it; a multiple multiplies both; of a product the sum of its parts is told.
 -- The orders, `≡`, `≢`, and each test at true and at false (`-split-iff`): a is up a - dn a and b is up b - dn b, so a against b is up a + dn b
 -- against up b + dn a. Apart is min < max, since a rule of `omega` cannot end in `≢`.
--- The machine: what fits an i64, what is read back from its bits, and what a test of two of them by `==` or `!=` tells.
+-- The machine, at any width: what fits, what is read back from the bits, what a cast to a wider number asks, and what a test of two numbers by `==` or
+-- `!=` tells.
 -- Not here: the rules that `omega` is handed (`Rules`), and the laws of the order in its own words (`Order`).
 
 use mathlib.Core.Path.{_≡_, refl, sym, _∙_, ap, subst}
@@ -12,13 +13,13 @@ use mathlib.Core.Bool.{Bool, true, false, not, cond}
 use Prim.Native.Nat.{ℕ, zero, suc, _+_, _*_, _-_, _^_, _≤_, _<_, min, max}
 use native.Mathlib.Nat.{mul-zero}
 use native.Mathlib.Omega.{arith}
-use lib.Dec.{T, ltb, eqb, ltb→lt, nltb→le, leb→le, le→leb, lt→ltb}
+use lib.Dec.{T, ltb, leb, eqb, ltb→lt, nltb→le, leb→le, le→leb, lt→ltb}
 use lib.IntN.{ℤ, pos, negsuc, negℤ, subℕ, _+ℤ_, _-ℤ_, _*ℤ_}
 use lib.Signed.{_≤ℤ_, _<ℤ_, leZ, ltZ, leZ-yes, ltZ-yes, mag}
 use borrow.Author.Tests.{ltb-true, ltb-false, leb-true, leb-false, eqb-true, eqb-false, lt-ltb, le-ltb, le-leb, lt-leb, eq-eqb, ne-eqb}
-use mir.Syntax.{w64}
-use mir.Val.{SFits, toZ, ofZ}
-use mir.Facts.{toZ-ofZ}
+use mir.Syntax.{Width}
+use mir.Val.{SFits, toZ, ofZ, hbits}
+use mir.Facts.{toZ-ofZ, fits-ofZ, sfits-toZ, sfits-widen}
 use Rattle.whole.specs.Split.{up, dn, eqZ}
 
 -- ---- the operations
@@ -58,6 +59,13 @@ split-sub a b = omega (arith, split-add a (negℤ b), split-neg b)
 pub split-mul : (k : ℕ) (z : ℤ) → (up (pos k *ℤ z) ≡ k * up z) × (dn (pos k *ℤ z) ≡ k * dn z)
 split-mul k (pos n) = (refl, sym (mul-zero k))
 split-mul k (negsuc n) = omega (arith, split-neg (pos (k * suc n)))
+
+-- The two parts of a product are mixed, their sum is not.
+pub split-times : (a b : ℤ) → up (a *ℤ b) + dn (a *ℤ b) ≡ (up a + dn a) * (up b + dn b)
+split-times (pos a) (pos b) = omega arith
+split-times (pos a) (negsuc b) = omega (arith, split-neg (pos (a * suc b)))
+split-times (negsuc a) (pos b) = omega (arith, split-neg (pos (suc a * b)))
+split-times (negsuc a) (negsuc b) = omega arith
 
 -- ---- the orders and `≡`
 
@@ -131,28 +139,37 @@ eqZ-false-split-iff (negsuc a) (negsuc b) = (λ e. omega (arith, eqb-false a b e
 
 -- ---- the machine
 
-pub fits-split-iff : (z : ℤ) → SFits w64 z ↔ max (suc (up z)) (dn z) ≤ 2 ^ 63
-fits-split-iff (pos n) = (λ f. omega (arith, f .sfits), λ h. record { sfits = omega arith })
-fits-split-iff (negsuc n) = (λ f. omega (arith, f .sfits), λ h. record { sfits = omega arith })
+pub fits-split-iff : (w : Width) (z : ℤ) → SFits w z ↔ max (suc (up z)) (dn z) ≤ 2 ^ hbits w
+fits-split-iff w (pos n) = (λ f. omega (arith, f .sfits), λ h. record { sfits = omega arith })
+fits-split-iff w (negsuc n) = (λ f. omega (arith, f .sfits), λ h. record { sfits = omega arith })
 
 -- The number that a signed local holds is its bits: this is what a need or an invariant says of it.
-pub split-back : (z : ℤ) → SFits w64 z → up (toZ w64 (ofZ w64 z)) + dn z ≡ up z + dn (toZ w64 (ofZ w64 z))
-split-back z f = eq-split-iff (toZ w64 (ofZ w64 z)) z .0 (toZ-ofZ f)
+pub split-back : {w : Width} (z : ℤ) → SFits w z → up (toZ w (ofZ w z)) + dn z ≡ up z + dn (toZ w (ofZ w z))
+split-back {w} z f = eq-split-iff (toZ w (ofZ w z)) z .0 (toZ-ofZ f)
 
 -- Of a call's result (`.ok`) and of an element that was read (`.given`) only its size is told: list this law with the number and that fact.
-pub told-back : (z : ℤ) → mag z < 2 ^ 63 → up (toZ w64 (ofZ w64 z)) + dn z ≡ up z + dn (toZ w64 (ofZ w64 z))
-told-back z p = split-back z (record { sfits = p })
+pub told-fits : (w : Width) (z : ℤ) → mag z < 2 ^ hbits w → SFits w z
+told-fits w z p = record { sfits = p }
+
+-- What a cast to as many bits or more asks: `cast-wide tt (c .fits .x)`. One to fewer asks for bounds, and `omega wholes` shows it of them.
+pub cast-wide : {w v : Width} {z : ℤ} → T (leb (hbits w) (hbits v)) → SFits w z → SFits v (toZ w (ofZ w z))
+cast-wide t f = sfits-widen t (sfits-toZ (fits-ofZ f))
+
+-- A product that the machine makes, of factors that are known: `omega` reads none.
+pub mul-back : {w : Width} {a b x y : ℤ} → SFits w (x *ℤ y) → x ≡ a → y ≡ b → toZ w (ofZ w (x *ℤ y)) ≡ a *ℤ b
+mul-back f d e = toZ-ofZ f ∙ cc
 
 -- `a == b` and `a != b` compare the bits of two signed numbers.
-pub bits-eq : {a b : ℤ} → SFits w64 a → SFits w64 b → ofZ w64 a ≡ ofZ w64 b → a ≡ b
-bits-eq f g e = sym (toZ-ofZ f) ∙ ap (toZ w64) e ∙ toZ-ofZ g
+pub bits-eq : {w : Width} {a b : ℤ} → SFits w a → SFits w b → ofZ w a ≡ ofZ w b → a ≡ b
+bits-eq {w} f g e = sym (toZ-ofZ f) ∙ ap (toZ w) e ∙ toZ-ofZ g
 
-pub bits-ne : (a b : ℤ) → (ofZ w64 a ≡ ofZ w64 b → ⊥) → a ≢ b
-bits-ne a b d e = d (ap (ofZ w64) e)
+pub bits-ne : (w : Width) (a b : ℤ) → (ofZ w a ≡ ofZ w b → ⊥) → a ≢ b
+bits-ne w a b d e = d (ap (ofZ w) e)
 
-by-bits : (a b : ℤ) → SFits w64 a → SFits w64 b → (t : Bool) → eqZ a b ≡ t → eqb (ofZ w64 a) (ofZ w64 b) ≡ t
-by-bits a b f g true e = eq-eqb (ofZ w64 a) (ofZ w64 b) (ap (ofZ w64) (split-unique a b (eqZ-true-split-iff a b .0 e)))
-by-bits a b f g false e = ne-eqb (ofZ w64 a) (ofZ w64 b) (λ d. omega (arith, eqZ-false-split-iff a b .0 e, eq-split-iff a b .0 (bits-eq f g d)))
+module _ {w : Width} where
+  by-bits : (a b : ℤ) → SFits w a → SFits w b → (t : Bool) → eqZ a b ≡ t → eqb (ofZ w a) (ofZ w b) ≡ t
+  by-bits a b f g true e = eq-eqb (ofZ w a) (ofZ w b) (ap (ofZ w) (split-unique a b (eqZ-true-split-iff a b .0 e)))
+  by-bits a b f g false e = ne-eqb (ofZ w a) (ofZ w b) (λ d. omega (arith, eqZ-false-split-iff a b .0 e, eq-split-iff a b .0 (bits-eq f g d)))
 
-pub bits-eqb : {a b : ℤ} → SFits w64 a → SFits w64 b → eqb (ofZ w64 a) (ofZ w64 b) ≡ eqZ a b
-bits-eqb {a} {b} f g = by-bits a b f g (eqZ a b) refl
+  pub bits-eqb : {a b : ℤ} → SFits w a → SFits w b → eqb (ofZ w a) (ofZ w b) ≡ eqZ a b
+  bits-eqb {a} {b} f g = by-bits a b f g (eqZ a b) refl
