@@ -4,7 +4,8 @@
 -- In each set more operations stand before fewer, and a difference before a sum: `omega` takes the first rule that fits, a - b is a + negℤ b, and so it
 -- fits the rule for sums too, which leaves negℤ b an unknown.
 
-use Rattle.whole.specs.Shape.{Shape, any, _⊕_, _⊖_, le, lt, eq, lt-true, lt-false, le-true, le-false, eq-true, eq-false, Reads, Shows, Fitting, ReadsBack}
+use mathlib.Core.Bool.{Bool}
+use Rattle.whole.specs.Shape.{Shape, any, _⊕_, _⊖_, le, lt, eq, eq-true, eq-false, lt-is, le-is, Reads, Shows, Fitting, ReadsBack}
 use Rattle.whole.specs.ShapeLaws.{reads, shows, fitting, reads-back}
 
 -- ---- the shapes
@@ -59,29 +60,17 @@ eq·a·b = reads eq any any
 pub to-eq·a·b : Shows eq any any
 to-eq·a·b = shows eq any any
 
-pub lt-true·a·b : Reads lt-true any any
-lt-true·a·b = reads lt-true any any
+pub lt-is·a·b : (t : Bool) → Reads (lt-is t) any any
+lt-is·a·b t = reads (lt-is t) any any
 
-pub to-lt-true·a·b : Shows lt-true any any
-to-lt-true·a·b = shows lt-true any any
+pub to-lt-is·a·b : (t : Bool) → Shows (lt-is t) any any
+to-lt-is·a·b t = shows (lt-is t) any any
 
-pub lt-false·a·b : Reads lt-false any any
-lt-false·a·b = reads lt-false any any
+pub le-is·a·b : (t : Bool) → Reads (le-is t) any any
+le-is·a·b t = reads (le-is t) any any
 
-pub to-lt-false·a·b : Shows lt-false any any
-to-lt-false·a·b = shows lt-false any any
-
-pub le-true·a·b : Reads le-true any any
-le-true·a·b = reads le-true any any
-
-pub to-le-true·a·b : Shows le-true any any
-to-le-true·a·b = shows le-true any any
-
-pub le-false·a·b : Reads le-false any any
-le-false·a·b = reads le-false any any
-
-pub to-le-false·a·b : Shows le-false any any
-to-le-false·a·b = shows le-false any any
+pub to-le-is·a·b : (t : Bool) → Shows (le-is t) any any
+to-le-is·a·b t = shows (le-is t) any any
 
 pub eq-true·a·b : Reads eq-true any any
 eq-true·a·b = reads eq-true any any
@@ -108,14 +97,10 @@ pub ruleset sides = (
   to-lt·a·b,
   eq·a·b,
   to-eq·a·b,
-  lt-true·a·b,
-  to-lt-true·a·b,
-  lt-false·a·b,
-  to-lt-false·a·b,
-  le-true·a·b,
-  to-le-true·a·b,
-  le-false·a·b,
-  to-le-false·a·b,
+  lt-is·a·b,
+  to-lt-is·a·b,
+  le-is·a·b,
+  to-le-is·a·b,
   eq-true·a·b,
   to-eq-true·a·b,
   eq-false·a·b,
@@ -546,117 +531,61 @@ pub ruleset eq-shapes = (
   to-eq·a+b·c,
 )
 
--- ---- ltZ at true
+-- ---- ltZ
 
-pub lt-true·a·b-c : Reads lt-true any a-b
-lt-true·a·b-c = reads lt-true any a-b
+pub lt-is·a·b-c : (t : Bool) → Reads (lt-is t) any a-b
+lt-is·a·b-c t = reads (lt-is t) any a-b
 
-pub to-lt-true·a·b-c : Shows lt-true any a-b
-to-lt-true·a·b-c = shows lt-true any a-b
+pub to-lt-is·a·b-c : (t : Bool) → Shows (lt-is t) any a-b
+to-lt-is·a·b-c t = shows (lt-is t) any a-b
 
-pub lt-true·a-b·c : Reads lt-true a-b any
-lt-true·a-b·c = reads lt-true a-b any
+pub lt-is·a-b·c : (t : Bool) → Reads (lt-is t) a-b any
+lt-is·a-b·c t = reads (lt-is t) a-b any
 
-pub to-lt-true·a-b·c : Shows lt-true a-b any
-to-lt-true·a-b·c = shows lt-true a-b any
+pub to-lt-is·a-b·c : (t : Bool) → Shows (lt-is t) a-b any
+to-lt-is·a-b·c t = shows (lt-is t) a-b any
 
-pub lt-true·a·b+c : Reads lt-true any a+b
-lt-true·a·b+c = reads lt-true any a+b
+pub lt-is·a·b+c : (t : Bool) → Reads (lt-is t) any a+b
+lt-is·a·b+c t = reads (lt-is t) any a+b
 
-pub to-lt-true·a·b+c : Shows lt-true any a+b
-to-lt-true·a·b+c = shows lt-true any a+b
+pub to-lt-is·a·b+c : (t : Bool) → Shows (lt-is t) any a+b
+to-lt-is·a·b+c t = shows (lt-is t) any a+b
 
-pub lt-true·a+b·c : Reads lt-true a+b any
-lt-true·a+b·c = reads lt-true a+b any
+pub lt-is·a+b·c : (t : Bool) → Reads (lt-is t) a+b any
+lt-is·a+b·c t = reads (lt-is t) a+b any
 
-pub to-lt-true·a+b·c : Shows lt-true a+b any
-to-lt-true·a+b·c = shows lt-true a+b any
+pub to-lt-is·a+b·c : (t : Bool) → Shows (lt-is t) a+b any
+to-lt-is·a+b·c t = shows (lt-is t) a+b any
 
-pub ruleset lt-true-shapes = (lt-true·a·b-c, lt-true·a-b·c, lt-true·a·b+c, lt-true·a+b·c, to-lt-true·a·b-c, to-lt-true·a-b·c, to-lt-true·a·b+c, to-lt-true·a+b·c)
+pub ruleset lt-is-shapes = (lt-is·a·b-c, lt-is·a-b·c, lt-is·a·b+c, lt-is·a+b·c, to-lt-is·a·b-c, to-lt-is·a-b·c, to-lt-is·a·b+c, to-lt-is·a+b·c)
 
--- ---- ltZ at false
+-- ---- leZ
 
-pub lt-false·a·b-c : Reads lt-false any a-b
-lt-false·a·b-c = reads lt-false any a-b
+pub le-is·a·b-c : (t : Bool) → Reads (le-is t) any a-b
+le-is·a·b-c t = reads (le-is t) any a-b
 
-pub to-lt-false·a·b-c : Shows lt-false any a-b
-to-lt-false·a·b-c = shows lt-false any a-b
+pub to-le-is·a·b-c : (t : Bool) → Shows (le-is t) any a-b
+to-le-is·a·b-c t = shows (le-is t) any a-b
 
-pub lt-false·a-b·c : Reads lt-false a-b any
-lt-false·a-b·c = reads lt-false a-b any
+pub le-is·a-b·c : (t : Bool) → Reads (le-is t) a-b any
+le-is·a-b·c t = reads (le-is t) a-b any
 
-pub to-lt-false·a-b·c : Shows lt-false a-b any
-to-lt-false·a-b·c = shows lt-false a-b any
+pub to-le-is·a-b·c : (t : Bool) → Shows (le-is t) a-b any
+to-le-is·a-b·c t = shows (le-is t) a-b any
 
-pub lt-false·a·b+c : Reads lt-false any a+b
-lt-false·a·b+c = reads lt-false any a+b
+pub le-is·a·b+c : (t : Bool) → Reads (le-is t) any a+b
+le-is·a·b+c t = reads (le-is t) any a+b
 
-pub to-lt-false·a·b+c : Shows lt-false any a+b
-to-lt-false·a·b+c = shows lt-false any a+b
+pub to-le-is·a·b+c : (t : Bool) → Shows (le-is t) any a+b
+to-le-is·a·b+c t = shows (le-is t) any a+b
 
-pub lt-false·a+b·c : Reads lt-false a+b any
-lt-false·a+b·c = reads lt-false a+b any
+pub le-is·a+b·c : (t : Bool) → Reads (le-is t) a+b any
+le-is·a+b·c t = reads (le-is t) a+b any
 
-pub to-lt-false·a+b·c : Shows lt-false a+b any
-to-lt-false·a+b·c = shows lt-false a+b any
+pub to-le-is·a+b·c : (t : Bool) → Shows (le-is t) a+b any
+to-le-is·a+b·c t = shows (le-is t) a+b any
 
-pub ruleset lt-false-shapes = (lt-false·a·b-c, lt-false·a-b·c, lt-false·a·b+c, lt-false·a+b·c, to-lt-false·a·b-c, to-lt-false·a-b·c, to-lt-false·a·b+c, to-lt-false·a+b·c)
-
--- ---- leZ at true
-
-pub le-true·a·b-c : Reads le-true any a-b
-le-true·a·b-c = reads le-true any a-b
-
-pub to-le-true·a·b-c : Shows le-true any a-b
-to-le-true·a·b-c = shows le-true any a-b
-
-pub le-true·a-b·c : Reads le-true a-b any
-le-true·a-b·c = reads le-true a-b any
-
-pub to-le-true·a-b·c : Shows le-true a-b any
-to-le-true·a-b·c = shows le-true a-b any
-
-pub le-true·a·b+c : Reads le-true any a+b
-le-true·a·b+c = reads le-true any a+b
-
-pub to-le-true·a·b+c : Shows le-true any a+b
-to-le-true·a·b+c = shows le-true any a+b
-
-pub le-true·a+b·c : Reads le-true a+b any
-le-true·a+b·c = reads le-true a+b any
-
-pub to-le-true·a+b·c : Shows le-true a+b any
-to-le-true·a+b·c = shows le-true a+b any
-
-pub ruleset le-true-shapes = (le-true·a·b-c, le-true·a-b·c, le-true·a·b+c, le-true·a+b·c, to-le-true·a·b-c, to-le-true·a-b·c, to-le-true·a·b+c, to-le-true·a+b·c)
-
--- ---- leZ at false
-
-pub le-false·a·b-c : Reads le-false any a-b
-le-false·a·b-c = reads le-false any a-b
-
-pub to-le-false·a·b-c : Shows le-false any a-b
-to-le-false·a·b-c = shows le-false any a-b
-
-pub le-false·a-b·c : Reads le-false a-b any
-le-false·a-b·c = reads le-false a-b any
-
-pub to-le-false·a-b·c : Shows le-false a-b any
-to-le-false·a-b·c = shows le-false a-b any
-
-pub le-false·a·b+c : Reads le-false any a+b
-le-false·a·b+c = reads le-false any a+b
-
-pub to-le-false·a·b+c : Shows le-false any a+b
-to-le-false·a·b+c = shows le-false any a+b
-
-pub le-false·a+b·c : Reads le-false a+b any
-le-false·a+b·c = reads le-false a+b any
-
-pub to-le-false·a+b·c : Shows le-false a+b any
-to-le-false·a+b·c = shows le-false a+b any
-
-pub ruleset le-false-shapes = (le-false·a·b-c, le-false·a-b·c, le-false·a·b+c, le-false·a+b·c, to-le-false·a·b-c, to-le-false·a-b·c, to-le-false·a·b+c, to-le-false·a+b·c)
+pub ruleset le-is-shapes = (le-is·a·b-c, le-is·a-b·c, le-is·a·b+c, le-is·a+b·c, to-le-is·a·b-c, to-le-is·a-b·c, to-le-is·a·b+c, to-le-is·a+b·c)
 
 -- ---- the machine, at any width
 

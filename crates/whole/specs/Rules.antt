@@ -20,9 +20,9 @@
 
 use native.Mathlib.Omega.{arith}
 use borrow.Author.Tests.{leb-true, leb-false, eqb-true, le-leb, lt-leb, eq-eqb}
-use Rattle.whole.specs.RuleTable.{sides, le-shapes, lt-shapes, eq-shapes, lt-true-shapes, lt-false-shapes, le-true-shapes, le-false-shapes, machine-shapes}
+use Rattle.whole.specs.RuleTable.{sides, le-shapes, lt-shapes, eq-shapes, lt-is-shapes, le-is-shapes, machine-shapes}
 
 -- The tests between naturals are the kit's: `ltZ (pos a) (pos b)` computes to one.
 pub ruleset whole = (sides, leb-true, leb-false, eqb-true, le-leb, lt-leb, eq-eqb, arith)
 
-pub ruleset wholes = (le-shapes, lt-shapes, eq-shapes, lt-true-shapes, lt-false-shapes, le-true-shapes, le-false-shapes, machine-shapes, whole)
+pub ruleset wholes = (le-shapes, lt-shapes, eq-shapes, lt-is-shapes, le-is-shapes, machine-shapes, whole)

@@ -1,7 +1,7 @@
 -- The statements of the rules: a fact about two whole numbers, each a sum or a difference of a written shape, and the fact about naturals that it comes to.
 
 use mathlib.Core.Path.{_≡_}
-use mathlib.Core.Bool.{true, false}
+use mathlib.Core.Bool.{Bool, true, false, cond}
 use Prim.Native.Nat.{ℕ, suc, _+_, _-_, _^_, _≤_, _<_, min, max}
 use lib.IntN.{ℤ, _+ℤ_, _-ℤ_}
 use lib.Signed.{_≤ℤ_, _<ℤ_, ltZ, leZ}
@@ -27,31 +27,29 @@ Each (s ⊖ t) K = Each s (λ a p n. Each t (λ b q m. K (a -ℤ b) (p + m) (n +
 -- ---- facts
 
 pub data Fact : Type 0 where
-  le lt eq lt-true lt-false le-true le-false eq-true eq-false : Fact
+  le lt eq eq-true eq-false : Fact
+  lt-is le-is : Bool → Fact
 
 -- What a fact says of two whole numbers.
 abbrev pub Says : Fact → ℤ → ℤ → Type 0
 Says le a b = a ≤ℤ b
 Says lt a b = a <ℤ b
 Says eq a b = a ≡ b
-Says lt-true a b = ltZ a b ≡ true
-Says lt-false a b = ltZ a b ≡ false
-Says le-true a b = leZ a b ≡ true
-Says le-false a b = leZ a b ≡ false
 Says eq-true a b = eqZ a b ≡ true
 Says eq-false a b = eqZ a b ≡ false
+Says (lt-is t) a b = ltZ a b ≡ t
+Says (le-is t) a b = leZ a b ≡ t
 
--- The same of two naturals. A rule cannot end in x ≢ y, which is a function: min x y < max x y says it.
+-- The same of two naturals. A rule cannot end in x ≢ y, which is a function: min x y < max x y says it. A test comes to an order whatever its answer, so
+-- that one rule finds the answer in what it is applied to.
 abbrev pub Counts : Fact → ℕ → ℕ → Type 0
 Counts le x y = x ≤ y
 Counts lt x y = x < y
 Counts eq x y = x ≡ y
-Counts lt-true x y = x < y
-Counts lt-false x y = y ≤ x
-Counts le-true x y = x ≤ y
-Counts le-false x y = y < x
 Counts eq-true x y = x ≡ y
 Counts eq-false x y = min x y < max x y
+Counts (lt-is t) x y = cond t (suc x) y ≤ cond t y x
+Counts (le-is t) x y = cond t x (suc y) ≤ cond t y x
 
 -- ---- rules
 

@@ -3,13 +3,14 @@
 -- They rest on `SplitLaws`, at the two sides as wholes, and on one law of shapes, `each`: the two naturals of a shape differ by the number.
 
 use mathlib.Core.Path.{_≡_, refl}
+use mathlib.Core.Bool.{true, false}
 use mathlib.Core.Logic.{_↔_, ⊎-elim}
 use Prim.Native.Nat.{ℕ, _+_}
 use native.Mathlib.Omega.{arith}
 use lib.IntN.{ℤ, _+ℤ_, _-ℤ_}
 use Rattle.whole.specs.Split.{up, dn}
 use Rattle.whole.specs.SplitLaws.{split-one, split-add, split-sub, le-split-iff, lt-split-iff, eq-split-iff, ltZ-true-split-iff, ltZ-false-split-iff, leZ-true-split-iff, leZ-false-split-iff, eqZ-true-split-iff, eqZ-false-split-iff, fits-split-iff, split-back}
-use Rattle.whole.specs.Shape.{Shape, any, _⊕_, _⊖_, Each, Fact, le, lt, eq, lt-true, lt-false, le-true, le-false, eq-true, eq-false, Says, Counts, Reads, Shows, Fitting, ReadsBack}
+use Rattle.whole.specs.Shape.{Shape, any, _⊕_, _⊖_, Each, Fact, le, lt, eq, eq-true, eq-false, lt-is, le-is, Says, Counts, Reads, Shows, Fitting, ReadsBack}
 
 each : (s : Shape) (K : ℤ → ℕ → ℕ → Type 0) → ((a : ℤ) (p n : ℕ) → up a + n ≡ p + dn a → K a p n) → Each s K
 each any K f = λ a. f a (up a) (dn a) refl
@@ -22,24 +23,24 @@ fact-iff : (f : Fact) (a b : ℤ) → Says f a b ↔ Counts f (up a + dn b) (up 
 fact-iff le = le-split-iff
 fact-iff lt = lt-split-iff
 fact-iff eq = eq-split-iff
-fact-iff lt-true = ltZ-true-split-iff
-fact-iff lt-false = ltZ-false-split-iff
-fact-iff le-true = leZ-true-split-iff
-fact-iff le-false = leZ-false-split-iff
 fact-iff eq-true = eqZ-true-split-iff
 fact-iff eq-false = eqZ-false-split-iff
+fact-iff (lt-is true) = ltZ-true-split-iff
+fact-iff (lt-is false) = ltZ-false-split-iff
+fact-iff (le-is true) = leZ-true-split-iff
+fact-iff (le-is false) = leZ-false-split-iff
 
 -- Two pairs of naturals with one difference.
 moved : (f : Fact) (x y u v : ℕ) → x + v ≡ u + y → Counts f x y → Counts f u v
 moved le x y u v e h = omega arith
 moved lt x y u v e h = omega arith
 moved eq x y u v e h = omega arith
-moved lt-true x y u v e h = omega arith
-moved lt-false x y u v e h = omega arith
-moved le-true x y u v e h = omega arith
-moved le-false x y u v e h = omega arith
 moved eq-true x y u v e h = omega arith
 moved eq-false x y u v e h = omega arith
+moved (lt-is true) x y u v e h = omega arith
+moved (lt-is false) x y u v e h = omega arith
+moved (le-is true) x y u v e h = omega arith
+moved (le-is false) x y u v e h = omega arith
 
 pub reads : (f : Fact) (s t : Shape) → Reads f s t
 reads f s t = each s _ (λ a p n e. each t _ (λ b q m d h. moved f (up a + dn b) (up b + dn a) (p + m) (q + n) (omega arith) (fact-iff f a b .0 h)))
