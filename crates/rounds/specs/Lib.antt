@@ -1,7 +1,8 @@
--- Rounds, verdict and calendar, as document 01 has them. In reading order: the bounds before judging, the rounds and the verdict, sets of
+-- Rounds, verdict and calendar, as document 01 has them. In reading order: the bounds before judging, the rounds and the verdict, a text judged to its end, sets of
 -- events as bits, the calendar, and the calendar program's output. These files are definitions alone.
 pub mod Given
 pub mod Rounds
+pub mod TextVerdict
 pub mod Bits
 pub mod Calendars
 pub mod CalendarText
