@@ -1,6 +1,9 @@
 -- Texts are lists of bytes. In reading order: quoted texts as bytes, lines and their parts, numbers, and what a lent slice holds after
--- something was written into it. These files are definitions alone.
+-- something was written into it. These files are definitions alone. The laws follow them.
 pub mod Bytes
 pub mod Lines
 pub mod Numbers
 pub mod Lent
+-- ---- laws
+
+pub mod LineLaws

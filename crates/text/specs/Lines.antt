@@ -33,3 +33,11 @@ unfoldable pub afterKey : List ℕ → List ℕ → Option (List ℕ)
 afterKey [] s = some s
 afterKey (k ∷ key) [] = none
 afterKey (k ∷ key) (b ∷ s) = let more = afterKey key s in cond (eqb b k) more none
+
+abbrev pub isSome : {A : Type 0} → Option A → Bool
+isSome none = false
+isSome (some a) = true
+
+-- whether a line begins with a key
+abbrev pub hasKey : List ℕ → List ℕ → Bool
+hasKey key s = isSome (afterKey key s)

@@ -12,3 +12,8 @@ pub enum Number {
     Value(i64),
     Bad(Fault),
 }
+
+mod line;
+
+pub use line::has_key;
+pub use line::len_to;
