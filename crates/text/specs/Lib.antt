@@ -3,7 +3,10 @@
 pub mod Bytes
 pub mod Lines
 pub mod Numbers
+pub mod DigitsRead
 pub mod Lent
 -- ---- laws
 
 pub mod LineLaws
+pub mod NumberLaws
+pub mod DigitsReadLaws

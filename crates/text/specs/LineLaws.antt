@@ -4,9 +4,10 @@
 -- `after-back`); and a text that has a b is what stands before it, the b, and what follows (`has-split`).
 -- Keys: a key that was written is given back (`afterKey-back`), and only a text that begins with the key has something after it (`afterKey-split`); one turn
 -- of the comparison (`afterKey-same`, `afterKey-other`, `afterKey-short`, `afterKey-end`); and what the test `hasKey` tells (`hasKey-true`, `hasKey-false`).
+-- A part of a slice that goes to its end is what is left behind its start (`drop-rest`).
 -- That b does not stand in s is said as `lenTo b s ≡ length s`.
 
-use Prim.Native.Nat.{ℕ, zero, suc, _+_, _≤_, _<_}
+use Prim.Native.Nat.{ℕ, zero, suc, _+_, _-_, _≤_, _<_}
 use mathlib.Core.Path.{_≡_, refl, sym, ap, _∙_, subst}
 use mathlib.Core.Bool.{Bool, true, false, cond, true≢false, false≢true}
 use mathlib.Core.List.{List, [], _∷_, _++_}
@@ -15,8 +16,8 @@ use native.Mathlib.Nat.{zero-add}
 use native.Mathlib.Numerals.{add-one}
 use native.Mathlib.Omega.{arith}
 use lib.Dec.{eqb, ltb}
-use lib.ListN.{length, getD, take, drop, length-append, drop-of-length-le}
-use lib.Seq.{drop-cons, split-at, take-at, drop-at, drop-drop, drop-append-seam}
+use lib.ListN.{length, getD, take, drop, length-append, length-drop, drop-of-length-le}
+use lib.Seq.{drop-cons, take-all, split-at, take-at, drop-at, drop-drop, drop-append-seam}
 use borrow.Author.Tests.{eqb-true, eqb-false, eq-eqb, ne-eqb, lt-ltb, ltb-true}
 use Rattle.text.specs.Lines.{lenTo, before, has, after, afterKey, hasKey, isSome}
 
@@ -134,3 +135,8 @@ hasKey-false key s h = of (afterKey key s) h
     of : (o : Option (List ℕ)) → isSome o ≡ false → o ≡ none
     of none q = refl
     of (some t) q = absurd (true≢false q)
+
+-- ---- the rest of a slice, `&s[k..]`
+
+pub drop-rest : (k : ℕ) (s : List ℕ) → take (length s - k) (drop k s) ≡ drop k s
+drop-rest k s = take-all (length s - k) (drop k s) (omega (arith, length-drop k s))

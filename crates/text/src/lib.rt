@@ -13,7 +13,19 @@ pub enum Number {
     Bad(Fault),
 }
 
+// Digits without a leading zero, as they were read: their number, or `TOO_LARGE` for all numbers from there on.
+enum Digits {
+    Value(u64),
+    Bad,
+}
+
+// Ten times this fits, and it is out of every range.
+const TOO_LARGE: u64 = 10_000_000_000_000_000_000;
+
 mod line;
+mod numbers;
 
 pub use line::has_key;
 pub use line::len_to;
+pub use numbers::number_after;
+pub use numbers::read_number;
