@@ -1,5 +1,5 @@
 -- The laws of digits as the code reads them.
--- A digit more makes a number no smaller (`digitsValue-grows`), so from `tooLarge` on the value does not matter (`digitsRead-large`).
+-- From `tooLarge` on the value does not matter (`digitsRead-large`, `numberWithin-capped`, `numberWithin-capped-neg`).
 -- One turn of the reader: it begins behind the test for a leading zero (`positiveRead-empty`, `positiveRead-zero`, `positiveRead-first`); it stops at a byte
 -- that is no digit (`digitsRead-below`, `digitsRead-above`), goes on past a digit (`digitsRead-past`, `digitsRead-cut`), and ends (`digitsRead-end`).
 -- What a number says that was read so, of either sign (`numberIn-empty`, `numberIn-zero`, `numberIn-zero-led`, `numberIn-positive`, `numberIn-negative`).
@@ -25,6 +25,7 @@ use Rattle.text.specs.declared.Number.the-variants as number
 use Rattle.text.specs.declared.Digits.{Digits}
 use Rattle.text.specs.declared.Digits.the-variants.{Value, Bad}
 use Rattle.text.specs.Numbers.{minus, zeroDigit, nineDigit, isDigit, allDigits, isPositive, isNumber, digitsValue, numberValue, numberWithin, numberIn}
+use Rattle.text.specs.DigitLaws.{isPositive-nil, digitsValue-grows}
 use Rattle.text.specs.NumberLaws.{numberWithin-below, numberWithin-above}
 use Rattle.text.specs.DigitsRead.{tooLarge, capped, digitsRead, positiveRead}
 
@@ -40,11 +41,6 @@ pub isDigit-above : (b : ℕ) → nineDigit < b → isDigit b ≡ false
 isDigit-above b h = rw (lt-leb b nineDigit h, le-leb zeroDigit b (omega arith))
 
 -- ---- large numbers
-
-pub digitsValue-grows : (n : ℕ) (s : List ℕ) → n ≤ digitsValue n s
-unfolding digitsValue
-digitsValue-grows n [] = omega arith
-digitsValue-grows n (d ∷ ds) = omega (arith, digitsValue-grows (n * 10 + (d - zeroDigit)) ds)
 
 pub digitsRead-large : (m n : ℕ) (s : List ℕ) → tooLarge ≤ m → tooLarge ≤ n → digitsRead m s ≡ digitsRead n s
 unfolding digitsRead
@@ -94,10 +90,6 @@ unfolding positiveRead digitsRead isPositive
 positiveRead-first s i h d = rw (drop-cons s i 0 h, ne-eqb (getD s i 0) zeroDigit d)
 
 -- ---- a number of either sign
-
-isPositive-nil : isPositive [] ≡ false
-unfolding isPositive
-isPositive-nil = refl
 
 pub positiveRead-value : (s : List ℕ) (n : ℕ) → positiveRead s ≡ Value n → (isPositive s ≡ true) × (capped (digitsValue 0 s) ≡ n)
 unfolding positiveRead

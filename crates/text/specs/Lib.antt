@@ -8,5 +8,7 @@ pub mod Lent
 -- ---- laws
 
 pub mod LineLaws
+pub mod DigitLaws
 pub mod NumberLaws
 pub mod DigitsReadLaws
+pub mod LentLaws

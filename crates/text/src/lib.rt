@@ -24,8 +24,14 @@ const TOO_LARGE: u64 = 10_000_000_000_000_000_000;
 
 mod line;
 mod numbers;
+mod write;
 
 pub use line::has_key;
 pub use line::len_to;
 pub use numbers::number_after;
 pub use numbers::read_number;
+pub use write::count_digits;
+pub use write::put_byte;
+pub use write::put_bytes;
+pub use write::put_count;
+pub use write::put_number;
