@@ -1,7 +1,9 @@
 -- The laws of writing into a lent slice.
 -- Two texts written in a row are their joint text (`put-append`, and for what two writers did `stored-append`); the length is kept (`put-length`); past the end
 -- nothing changes (`put-out`); a text written from 0 on, where it has room, is the text and the bytes past it (`put-whole`), which is `written`
--- (`put-written`). For writers: one turn of the copy (`put-past`, `put-end`), and digits from the last one on (`put-last`, `put-digits-more`,
+-- (`put-written`).
+-- For callers: what `put_number` ensures of an argument (`stored-number`), and that it moves the place by at most twenty (`stored-near`).
+-- For writers: one turn of the copy (`put-past`, `put-end`), and digits from the last one on (`put-last`, `put-digits-more`,
 -- `put-digits-one`).
 
 use Prim.Native.Nat.{ℕ, suc, _+_, _/_, _%_, _≤_, _<_}
@@ -14,8 +16,13 @@ use native.Mathlib.Omega.{arith}
 use lib.ListN.{length, getD, take, drop, set, length-append, length-set, drop-of-length-le}
 use lib.Seq.{drop-cons, set-out, set-comm, sets, sets-eq}
 use borrow.Author.Tests.{le-leb, leb-true}
-use Rattle.text.specs.Numbers.{zeroDigit, digits}
+use lib.IntN.{ℤ}
+use mir.Syntax.{w64}
+use mir.Val.{SFits, toZ, ofZ}
+use mir.Facts.{toZ-ofZ}
+use Rattle.text.specs.Numbers.{zeroDigit, digits, decimal}
 use Rattle.text.specs.DigitLaws.{digits-one, digits-more, digits-length-one, digits-length-more}
+use Rattle.text.specs.NumberLaws.{decimal-short}
 use Rattle.text.specs.Lent.{written, put, Stored}
 
 -- ---- in a row
@@ -95,3 +102,13 @@ unfolding put
 put-digits-one out at n last h e =
     let place : at ≡ last = omega (arith, digits-length-one n h) in
     ap (put out at) (digits-one n h) ∙ ap (λ (k : ℕ). set out k (zeroDigit + n)) place
+
+-- ---- for callers
+
+-- a signed argument is handed over as its bits
+pub stored-number : {out out′ : List ℕ} {at at′ : ℕ} {z : ℤ} → SFits w64 z → Stored out at (decimal (toZ w64 (ofZ w64 z))) out′ at′ → Stored out at (decimal z) out′ at′
+stored-number f p = rw (toZ-ofZ f) at p
+
+-- how far a number moves the place
+pub stored-near : {out out′ : List ℕ} {at at′ : ℕ} {z : ℤ} → SFits w64 z → Stored out at (decimal (toZ w64 (ofZ w64 z))) out′ at′ → at′ ≤ at + 20
+stored-near {z = z} f p = omega (arith, stored-number f p .place, decimal-short z f)

@@ -12,3 +12,4 @@ pub mod DigitLaws
 pub mod NumberLaws
 pub mod DigitsReadLaws
 pub mod LentLaws
+pub mod Unique
