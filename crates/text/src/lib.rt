@@ -30,7 +30,6 @@ pub use line::has_key;
 pub use line::len_to;
 pub use numbers::number_after;
 pub use numbers::read_number;
-pub use write::count_digits;
 pub use write::put_byte;
 pub use write::put_bytes;
 pub use write::put_count;

@@ -20,15 +20,15 @@ pub fn len_to(s: &[u8], b: u8) -> usize
 pub fn has_key(s: &[u8], key: &[u8]) -> bool
     ensures { λ r. ⌜ r ≡ hasKey (now (key .entry)) (now (s .entry)) ⌝ }
 {
-    let mut i = 0;
-    while i < key.len() {
-        if s.len() <= i {
+    let mut k = 0;
+    while k < key.len() {
+        if s.len() <= k {
             return false;
         }
-        if s[i] != key[i] {
+        if s[k] != key[k] {
             return false;
         }
-        i += 1;
+        k += 1;
     }
     true
 }

@@ -41,7 +41,7 @@ pub fn put_bytes(out: &mut [u8], at: usize, s: &[u8]) -> usize
 }
 
 // How many digits n has.
-pub fn count_digits(n: u64) -> usize
+fn count_digits(n: u64) -> usize
     ensures { λ r. ⌜ r ≡ length (digits n) ⌝ }
 {
     let mut left = n;

@@ -10,10 +10,10 @@ use Rattle.text.proofs.line.has_key.Statement.{statement}
 use Rattle.text.proofs.line.has_key.Tie as tie
 
 abbrev Inv-loop : tie.InvT-loop
-Inv-loop s key i₀ i = (i ≤ length key) × (afterKey key s ≡ afterKey (drop i key) (drop i s))
+Inv-loop s key k₀ k = (k ≤ length key) × (afterKey key s ≡ afterKey (drop k key) (drop k s))
 
 abbrev μ-loop : tie.MeasureT-loop
-μ-loop s key i₀ i = length key - i
+μ-loop s key k₀ k = length key - k
 
 loop-holds : tie.Need-loop-holds Inv-loop μ-loop
 loop-holds c = (omega arith, refl)
@@ -21,7 +21,7 @@ loop-holds c = (omega arith, refl)
 returns : tie.Need-returns Inv-loop μ-loop
 returns c =
     let l = c .before .before in
-    let law = afterKey-short (l .before .args .key .now) (l .before .args .s .now) (l .loop .i) (omega arith) (omega arith) in
+    let law = afterKey-short (l .before .args .key .now) (l .before .args .s .now) (l .loop .k) (omega arith) (omega arith) in
     sym (ap isSome (l .loop .inv .1 ∙ law))
 
 shared-slice-read-if2 : tie.Need-shared-slice-read-if2 Inv-loop μ-loop
@@ -33,11 +33,11 @@ shared-slice-read-if2-2 c = omega arith
 returns-2 : tie.Need-returns-2 Inv-loop μ-loop
 returns-2 c =
     let l = c .before .before .before .before .before in
-    let law = afterKey-other (l .before .args .key .now) (l .before .args .s .now) (l .loop .i) (omega arith) (omega arith) (c .if2 .taken) in
+    let law = afterKey-other (l .before .args .key .now) (l .before .args .s .now) (l .loop .k) (omega arith) (omega arith) (omega arith) in
     sym (ap isSome (l .loop .inv .1 ∙ law))
 
-add-i : tie.Need-add-i Inv-loop μ-loop
-add-i c = omega arith
+add-k : tie.Need-add-k Inv-loop μ-loop
+add-k c = omega arith
 
 loop-less : tie.Need-loop-less Inv-loop μ-loop
 loop-less c = omega arith
@@ -45,13 +45,13 @@ loop-less c = omega arith
 loop-again : tie.Need-loop-again Inv-loop μ-loop
 loop-again c =
     let l = c .before .before .before .before .before in
-    let law = afterKey-same (l .before .args .key .now) (l .before .args .s .now) (l .loop .i) (omega arith) (omega arith) (c .if2 .left) in
+    let law = afterKey-same (l .before .args .key .now) (l .before .args .s .now) (l .loop .k) (omega arith) (omega arith) (omega arith) in
     (omega arith, l .loop .inv .1 ∙ law)
 
 returns-3 : tie.Need-returns-3 Inv-loop μ-loop
 returns-3 c =
     let l = c .before in
-    let law = afterKey-end (l .before .args .key .now) (l .before .args .s .now) (l .loop .i) (omega arith) in
+    let law = afterKey-end (l .before .args .key .now) (l .before .args .s .now) (l .loop .k) (omega arith) in
     sym (ap isSome (l .loop .inv .1 ∙ law))
 
 pub has-key-spec : {M : Type 1} → statement M
@@ -65,7 +65,7 @@ has-key-spec =
     shared-slice-read-if2
     shared-slice-read-if2-2
     returns-2
-    add-i
+    add-k
     loop-less
     loop-again
     returns-3)

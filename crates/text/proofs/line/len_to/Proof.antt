@@ -23,7 +23,7 @@ shared-slice-read-if1 c = omega arith
 returns : tie.Need-returns Inv-loop μ-loop
 returns c =
     let l = c .before .before .before in
-    omega (arith, lenTo-stop (l .before .args .b) (l .before .args .s .now) (l .loop .i) (omega arith) (c .if1 .taken))
+    omega (arith, lenTo-stop (l .before .args .b) (l .before .args .s .now) (l .loop .i) (omega arith) (omega arith))
 
 add-i : tie.Need-add-i Inv-loop μ-loop
 add-i c = omega arith
@@ -34,7 +34,7 @@ loop-less c = omega arith
 loop-again : tie.Need-loop-again Inv-loop μ-loop
 loop-again c =
     let l = c .before .before .before in
-    omega (arith, lenTo-past (l .before .args .b) (l .before .args .s .now) (l .loop .i) (omega arith) (c .if1 .left))
+    omega (arith, lenTo-past (l .before .args .b) (l .before .args .s .now) (l .loop .i) (omega arith) (omega arith))
 
 returns-2 : tie.Need-returns-2 Inv-loop μ-loop
 returns-2 c =

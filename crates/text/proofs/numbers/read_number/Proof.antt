@@ -1,5 +1,6 @@
 -- `read_number`: a law for each return, by the first byte and by what the digits after it are.
 use mathlib.Core.Path.{_≡_, sym, _∙_}
+use native.Mathlib.Omega.{arith}
 use mir.Facts.{toZ-ofZ}
 use borrow.Author.Needs.{needs}
 use Rattle.text.specs.DigitsReadLaws.{
@@ -17,7 +18,7 @@ use Rattle.text.proofs.numbers.read_number.Tie as tie
 returns : tie.Need-returns
 returns c =
     let a = c .before .before .args in
-    sym (numberIn-empty (a .lo) (a .hi) (a .s .now) (c .if1 .taken))
+    sym (numberIn-empty (a .lo) (a .hi) (a .s .now) (omega arith))
 
 shared-slice-read-if2 : tie.Need-shared-slice-read-if2
 shared-slice-read-if2 c = search needs
@@ -35,7 +36,7 @@ returns-2 : tie.Need-returns-2
 returns-2 c =
     let b = c .before .before .before in
     let a = b .before .before .before .before .args in
-    sym (numberIn-negative-bad (a .lo) (a .hi) (a .s .now) (b .if2 .taken) (sym (c .before .before .read-positive .ensures) ∙ c .enum-told .given .1))
+    sym (numberIn-negative-bad (a .lo) (a .hi) (a .s .now) (omega arith) (sym (c .before .before .read-positive .ensures) ∙ c .enum-told .given .1))
 
 negative-in-requires : tie.Need-negative-in-requires
 negative-in-requires c κs = search needs
@@ -46,7 +47,7 @@ returns-3 c =
     let s = b .before .before .before .before in
     let a = s .args in
     c .negative-in .ensures ∙ rw (toZ-ofZ (s .fits .lo), toZ-ofZ (s .fits .hi))
-    (sym (numberIn-negative (a .lo) (a .hi) (a .s .now) (c .before .before .n .given .0 .0) (s .fits .lo) (b .if2 .taken) (sym (c .before .before .before .before .read-positive .ensures) ∙ c .before .before .n .given .1)))
+    (sym (numberIn-negative (a .lo) (a .hi) (a .s .now) (c .before .before .n .given .0 .0) (s .fits .lo) (omega arith) (sym (c .before .before .before .before .read-positive .ensures) ∙ c .before .before .n .given .1)))
 
 shared-slice-read-if3 : tie.Need-shared-slice-read-if3
 shared-slice-read-if3 c = search needs
@@ -60,13 +61,13 @@ returns-4 c =
     let s = b .before .before .before .before .before .before in
     let a = s .args in
     c .in-range .ensures ∙ rw (toZ-ofZ (s .fits .lo), toZ-ofZ (s .fits .hi))
-    (sym (numberIn-zero (a .lo) (a .hi) (a .s .now) (c .before .if4 .taken) (b .if3 .taken)))
+    (sym (numberIn-zero (a .lo) (a .hi) (a .s .now) (omega arith) (omega arith)))
 
 returns-5 : tie.Need-returns-5
 returns-5 c =
     let b = c .before in
     let a = b .before .before .before .before .before .before .args in
-    sym (numberIn-zero-led (a .lo) (a .hi) (a .s .now) (c .if4 .left) (b .if3 .taken))
+    sym (numberIn-zero-led (a .lo) (a .hi) (a .s .now) (omega arith) (omega arith))
 
 read-positive-requires-2 : tie.Need-read-positive-requires-2
 read-positive-requires-2 c κs = search needs
@@ -81,7 +82,7 @@ returns-6 : tie.Need-returns-6
 returns-6 c =
     let b = c .before .before .before in
     let a = b .before .before .before .before .before .before .args in
-    sym (numberIn-positive-bad (a .lo) (a .hi) (a .s .now) (b .before .before .if2 .left) (b .if3 .left) (sym (c .before .before .read-positive2 .ensures) ∙ c .enum-told2 .given .1))
+    sym (numberIn-positive-bad (a .lo) (a .hi) (a .s .now) (omega arith) (omega arith) (sym (c .before .before .read-positive2 .ensures) ∙ c .enum-told2 .given .1))
 
 positive-in-requires : tie.Need-positive-in-requires
 positive-in-requires c κs = search needs
@@ -92,7 +93,7 @@ returns-7 c =
     let s = b .before .before .before .before .before .before in
     let a = s .args in
     c .positive-in .ensures ∙ rw (toZ-ofZ (s .fits .lo), toZ-ofZ (s .fits .hi))
-    (sym (numberIn-positive (a .lo) (a .hi) (a .s .now) (c .before .before .n2 .given .0 .0) (s .fits .hi) (b .before .before .if2 .left) (b .if3 .left) (sym (c .before .before .before .before .read-positive2 .ensures) ∙ c .before .before .n2 .given .1)))
+    (sym (numberIn-positive (a .lo) (a .hi) (a .s .now) (c .before .before .n2 .given .0 .0) (s .fits .hi) (omega arith) (omega arith) (sym (c .before .before .before .before .read-positive2 .ensures) ∙ c .before .before .n2 .given .1)))
 
 pub read-number-spec : {M : Type 1} → statement M
 read-number-spec =

@@ -25,7 +25,7 @@ abbrev μ-loop : tie.MeasureT-loop
 μ-loop s from n₀ i₀ n i = length s - i
 
 returns : tie.Need-returns Inv-loop μ-loop
-returns c = let a = c .before .args in sym (positiveRead-empty (a .s .now) (a .from) (c .if1 .taken))
+returns c = let a = c .before .args in sym (positiveRead-empty (a .s .now) (a .from) (omega arith))
 
 shared-slice-read-if2 : tie.Need-shared-slice-read-if2 Inv-loop μ-loop
 shared-slice-read-if2 c = omega arith
@@ -33,12 +33,12 @@ shared-slice-read-if2 c = omega arith
 returns-2 : tie.Need-returns-2 Inv-loop μ-loop
 returns-2 c =
     let a = c .before .before .before .args in
-    sym (positiveRead-zero (a .s .now) (a .from) (omega arith) (c .if2 .taken))
+    sym (positiveRead-zero (a .s .now) (a .from) (omega arith) (omega arith))
 
 loop-holds : tie.Need-loop-holds Inv-loop μ-loop
 loop-holds c =
     let a = c .before .before .before .args in
-    (omega arith, omega arith, positiveRead-first (a .s .now) (a .from) (omega arith) (c .if2 .left))
+    (omega arith, omega arith, positiveRead-first (a .s .now) (a .from) (omega arith) (omega arith))
 
 shared-slice-read-b : tie.Need-shared-slice-read-b Inv-loop μ-loop
 shared-slice-read-b c = omega arith
