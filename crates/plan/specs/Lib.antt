@@ -1,9 +1,13 @@
 -- Plans and refusals, as document 01 has them. In reading order: the limits of the plan's numbers, the refusals with their numbers and
--- printed lines, how a line is read and refused, the names of events, a plan's text read, and a plan's text written. These files are
--- definitions alone.
+-- printed lines, how a line is read and refused, the names of events, a plan's text read, a plan's text written, and what an accepted plan
+-- is. These files are definitions alone; the laws stand after them.
 pub mod Limits
 pub mod Refusals
 pub mod Reading
 pub mod EventNames
 pub mod PlanRead
 pub mod PlanWritten
+pub mod Accepted
+-- ---- laws
+pub mod ReadingLaws
+pub mod PlanLaws

@@ -1,0 +1,99 @@
+-- What a reading that ended well tells, and what follows it: the reading before it ended well (`next-then`), a line had its LF and its value
+-- (`line-then`), a number is in its range (`numberLine-then`), and so is a count (`countLine-then`). Each hands what it tells to what is shown from the rest.
+use mathlib.Core.Path.{_≡_, refl, _∙_, ap, subst}
+use mathlib.Core.Bool.{Bool, true, false, cond, _&&_}
+use mathlib.Core.List.{List}
+use mathlib.Core.Option.{Option, none, some}
+use Prim.Native.Nat.{ℕ, suc, _≤_}
+use native.Mathlib.Omega.{arith}
+use lib.IntN.{ℤ, pos, negsuc, natAbs}
+use lib.Signed.{_≤ℤ_, leZ}
+use Rattle.whole.specs.Rules.{whole}
+use Rattle.text.specs.Lines.{LF, before, has, after, afterKey}
+use Rattle.text.specs.Numbers.{numberAfter, numberOf, numberIn, numberWithin, numberValue, isNumber}
+use Rattle.text.specs.declared.Fault.the-variants as fault
+use Rattle.text.specs.declared.Number.the-variants as number
+use Rattle.plan.specs.Reading.{Lined, value, bad, Reading, read, refused, Reader, next, lined, line, linedNumber, numberLine}
+use Rattle.plan.specs.PlanRead.{countLine}
+
+-- ---- one reading after another
+
+pub next-then : {A B G : Type 0} (m : Reading A) (f : A → Reader B) {b : B} {t : List ℕ} {k : ℕ}
+    → next m f ≡ read b t k → ((a : A) (r : List ℕ) (i : ℕ) → m ≡ read a r i → f a r i ≡ read b t k → G) → G
+unfolding next
+next-then (read a s n) f e go = go a s n refl e
+next-then (refused r part) f e go = absurd (let z : _≡_ {A = ℕ} 0 1 = cc in omega arith)
+
+pub next-of : {A B : Type 0} {m : Reading A} (f : A → Reader B) {a : A} {r : List ℕ} {i : ℕ} {x : Reading B} → m ≡ read a r i → f a r i ≡ x → next m f ≡ x
+unfolding next
+next-of f e d = rw e d
+
+-- ---- a line
+
+pub record LineRead {A : Type 0} (f : List ℕ → Lined A) (s : List ℕ) (n : ℕ) (a : A) (t : List ℕ) (k : ℕ) : Type 0 where
+  pub ended : has LF s ≡ true
+  pub held : f (before LF s) ≡ value a
+  pub rest : t ≡ after LF s
+  pub number : k ≡ suc n
+
+pub line-read : {A : Type 0} (f : List ℕ → Lined A) (s : List ℕ) (n : ℕ) {a : A} {t : List ℕ} {k : ℕ} → line f s n ≡ read a t k → LineRead f s n a t k
+unfolding line lined
+line-read {A} f s n {a} {t} {k} e = by-end (has LF s) refl e
+  where
+    by-value : (v : Lined A) → f (before LF s) ≡ v → has LF s ≡ true → lined v s n ≡ read a t k → LineRead f s n a t k
+    by-value (value b) h g d = record { ended = g; held = h ∙ ap value (cc); rest = cc; number = cc }
+    by-value (bad b) h g d = absurd (let z : _≡_ {A = ℕ} 0 1 = cc in omega arith)
+
+    by-end : (b : Bool) → has LF s ≡ b → lined (cond b (f (before LF s)) (bad fault.Form)) s n ≡ read a t k → LineRead f s n a t k
+    by-end true g d = by-value (f (before LF s)) refl g d
+    by-end false g d = absurd (let z : _≡_ {A = ℕ} 0 1 = cc in omega arith)
+
+-- ---- a line that is a key and a number
+
+pub record NumberRead (key : List ℕ) (lo hi : ℤ) (s : List ℕ) (z : ℤ) (t : List ℕ) : Type 0 where
+  pub least : lo ≤ℤ z
+  pub most : z ≤ℤ hi
+
+pub numberLine-read : (key : List ℕ) (lo hi : ℤ) (s : List ℕ) (n : ℕ) {z : ℤ} {t : List ℕ} {k : ℕ} → numberLine key lo hi s n ≡ read z t k → NumberRead key lo hi s z t × (k ≡ suc n)
+unfolding linedNumber numberOf numberIn
+numberLine-read key lo hi s n {z} {t} {k} e = (by-key (afterKey key (before LF s)) refl (l .held), l .number)
+  where
+    l : LineRead (λ l. linedNumber (numberAfter key lo hi l)) s n z t k
+    l = line-read (λ l. linedNumber (numberAfter key lo hi l)) s n e
+
+    by-range : (ds : List ℕ) (a b : Bool) → leZ lo (numberValue ds) ≡ a → leZ (numberValue ds) hi ≡ b → linedNumber (cond (a && b) (number.Value (numberValue ds)) (number.Bad fault.Range)) ≡ value z → NumberRead key lo hi s z t
+    by-range ds true true p q d =
+        let v : numberValue ds ≡ z = cc in
+        record { least = subst (λ x. lo ≤ℤ x) v (omega whole); most = subst (λ x. x ≤ℤ hi) v (omega whole) }
+    by-range ds true false p q d = absurd (let z : _≡_ {A = ℕ} 0 1 = cc in omega arith)
+    by-range ds false b p q d = absurd (let z : _≡_ {A = ℕ} 0 1 = cc in omega arith)
+
+    by-form : (ds : List ℕ) (b : Bool) → isNumber ds ≡ b → linedNumber (cond b (numberWithin lo hi (numberValue ds)) (number.Bad fault.Form)) ≡ value z → NumberRead key lo hi s z t
+    by-form ds true p d = by-range ds (leZ lo (numberValue ds)) (leZ (numberValue ds) hi) refl refl d
+    by-form ds false p d = absurd (let z : _≡_ {A = ℕ} 0 1 = cc in omega arith)
+
+    by-key : (o : Option (List ℕ)) → afterKey key (before LF s) ≡ o → linedNumber (numberOf lo hi o) ≡ value z → NumberRead key lo hi s z t
+    by-key none p d = absurd (let z : _≡_ {A = ℕ} 0 1 = cc in omega arith)
+    by-key (some ds) p d = by-form ds (isNumber ds) refl d
+
+pub numberLine-then : {B G : Type 0} (key : List ℕ) (lo hi : ℤ) (s : List ℕ) (n : ℕ) (f : ℤ → Reader B) {b : B} {t : List ℕ} {k : ℕ}
+    → next (numberLine key lo hi s n) f ≡ read b t k → ((z : ℤ) (r : List ℕ) → NumberRead key lo hi s z r → f z r (suc n) ≡ read b t k → G) → G
+numberLine-then key lo hi s n f e go =
+    next-then (numberLine key lo hi s n) f e
+    (λ z r i d h. let q = numberLine-read key lo hi s n d in go z r (q .0) (rw (q .1) at h))
+
+-- ---- a line that is a key and a count
+
+pub record CountRead (key : List ℕ) (lo hi : ℕ) (s : List ℕ) (z : ℕ) (t : List ℕ) : Type 0 where
+  pub least : lo ≤ z
+  pub most : z ≤ hi
+
+counted : (key : List ℕ) (lo hi : ℕ) (s : List ℕ) (z : ℤ) (t : List ℕ) → NumberRead key (pos lo) (pos hi) s z t → CountRead key lo hi s (natAbs z) t
+counted key lo hi s (pos m) t q = record { least = omega (whole, q .least); most = omega (whole, q .most) }
+counted key lo hi s (negsuc m) t q = absurd (omega (whole, q .least))
+
+pub countLine-then : {B G : Type 0} (key : List ℕ) (lo hi : ℕ) (s : List ℕ) (n : ℕ) (f : ℕ → Reader B) {b : B} {t : List ℕ} {k : ℕ}
+    → next (countLine key lo hi s n) f ≡ read b t k → ((z : ℕ) (r : List ℕ) → CountRead key lo hi s z r → f z r (suc n) ≡ read b t k → G) → G
+countLine-then key lo hi s n f {b} {t} {k} e go =
+    next-then (countLine key lo hi s n) f e
+    (λ z r i d h. numberLine-then key (pos lo) (pos hi) s n _ d (λ y u q g. go (natAbs y) u (counted key lo hi s y u q) (cc)))
