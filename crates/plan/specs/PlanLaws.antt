@@ -246,7 +246,7 @@ pub nothingAfter-read : (m : Reading Plan) {p : Plan} {t : List ℕ} {k : ℕ} �
 unfolding nothingAfter
 nothingAfter-read (read q [] n) e = (e, cc)
 nothingAfter-read (read q (a ∷ s) n) e = absurd (let z : _≡_ {A = ℕ} 0 1 = cc in omega arith)
-nothingAfter-read (refused r part) e = absurd (let z : _≡_ {A = ℕ} 0 1 = cc in omega arith)
+nothingAfter-read (refused r s) e = absurd (let z : _≡_ {A = ℕ} 0 1 = cc in omega arith)
 
 pub planAlone-accepted : (s : List ℕ) {p : Plan} {t : List ℕ} {k : ℕ} → planAlone s ≡ read p t k → Accepted p
 planAlone-accepted s e = planHead-accepted s (nothingAfter-read (planHead s) e .0)

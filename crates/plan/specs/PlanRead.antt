@@ -7,7 +7,7 @@ use lib.Dec.{leb, ltb}
 use lib.IntN.{ℤ, pos, natAbs}
 use lib.ListN.{length, replicate}
 use Rattle.text.specs.Bytes.{bytes}
-use Rattle.text.specs.Lines.{LF, comma, before, has, after, afterKey}
+use Rattle.text.specs.Lines.{comma, before, has, after, afterKey}
 use Rattle.text.specs.Numbers.{isNumber, numberValue, within, isEmpty}
 use Rattle.text.specs.declared.Fault.the-variants as fault
 use Rattle.plan.specs.declared.Job.{Job}
@@ -159,8 +159,8 @@ planHead s = let r = planLines s 1 in cond (leb (length s) longestText) r (refus
 
 -- 'nothing after the last': a plan alone. What follows it is a line too many, which lacks the form of no line at all.
 unfoldable pub nothingAfter : Reading Plan → Reading Plan
-nothingAfter (read p s n) = cond (isEmpty s) (read p s n) (refused (Form n) (before LF s))
-nothingAfter (refused r part) = refused r part
+nothingAfter (read p s n) = cond (isEmpty s) (read p s n) (refused (Form n) s)
+nothingAfter (refused r s) = refused r s
 
 abbrev pub planAlone : List ℕ → Reading Plan
 planAlone s = nothingAfter (planHead s)

@@ -54,7 +54,7 @@ planText p =
 -- 'A plan handed over as a value is judged as its text would be.'
 unfoldable pub refusalOf : Reading Plan → Option Refusal
 refusalOf (read p s n) = none
-refusalOf (refused r part) = some r
+refusalOf (refused r s) = some r
 
 abbrev pub judgedPlan : Plan → Option Refusal
 judgedPlan p = refusalOf (planAlone (planText p))

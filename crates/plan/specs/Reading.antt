@@ -18,8 +18,8 @@ pub data Lined (A : Type 0) : Type 0 where
   value : A → Lined A
   bad : Fault → Lined A
 
--- A text read from some line on: the value, what is left of the text and the number of its first line; or the refusal and the faulty line
--- as a part of the text.
+-- A text read from some line on: the value, what is left of the text and the number of its first line; or the refusal and the text from the
+-- faulty line on.
 pub data Reading (A : Type 0) : Type 0 where
   read : A → List ℕ → ℕ → Reading A
   refused : Refusal → List ℕ → Reading A
@@ -31,7 +31,7 @@ Reader A = List ℕ → ℕ → Reading A
 -- 'the first faulty line decides': a reading goes on from where the one before it ended, and ends with its refusal
 unfoldable pub next : {A B : Type 0} → Reading A → (A → Reader B) → Reading B
 next (read a s n) f = f a s n
-next (refused r part) f = refused r part
+next (refused r s) f = refused r s
 
 abbrev pub _>>=_ : {A B : Type 0} → Reader A → (A → Reader B) → Reader B
 _>>=_ m f s n = next (m s n) f
@@ -39,13 +39,13 @@ _>>=_ m f s n = next (m s n) f
 abbrev pub answer : {A : Type 0} → A → Reader A
 answer a s n = read a s n
 
--- A line taken for itself becomes a reading: its value and the text after it, or its refusal with the line as a part.
+-- A line taken for itself becomes a reading: its value and the text after it, or its refusal.
 unfoldable pub lined : {A : Type 0} → Lined A → List ℕ → ℕ → Reading A
 lined (value a) s n = read a (after LF s) (suc n)
-lined (bad f) s n = refused (faultAt n f) (before LF s)
+lined (bad f) s n = refused (faultAt n f) s
 
 -- 'each ended by one LF': without it the line lacks its form, whatever stands in it. 'A line that is missing is faulty by 1 under the
--- number it would have, and as a part it is empty.'
+-- number it would have'
 unfoldable pub line : {A : Type 0} → (List ℕ → Lined A) → Reader A
 line f s n = lined (cond (has LF s) (f (before LF s)) (bad fault.Form)) s n
 
@@ -56,3 +56,9 @@ linedNumber (number.Bad f) = bad f
 -- a line that is a key and a number from lo to hi
 abbrev pub numberLine : List ℕ → ℤ → ℤ → Reader ℤ
 numberLine key lo hi = line (λ l. linedNumber (numberAfter key lo hi l))
+
+-- 'A reader of the refusal also gets back the faulty line as a part of the text, without its LF': of a line that is missing, and of a text that is
+-- not refused, 'as a part it is empty'
+unfoldable pub faultyPart : {A : Type 0} → Reading A → List ℕ
+faultyPart (read a s n) = []
+faultyPart (refused r s) = before LF s

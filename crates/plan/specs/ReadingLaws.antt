@@ -22,7 +22,7 @@ pub next-then : {A B G : Type 0} (m : Reading A) (f : A → Reader B) {b : B} {t
     → next m f ≡ read b t k → ((a : A) (r : List ℕ) (i : ℕ) → m ≡ read a r i → f a r i ≡ read b t k → G) → G
 unfolding next
 next-then (read a s n) f e go = go a s n refl e
-next-then (refused r part) f e go = absurd (let z : _≡_ {A = ℕ} 0 1 = cc in omega arith)
+next-then (refused r s) f e go = absurd (let z : _≡_ {A = ℕ} 0 1 = cc in omega arith)
 
 pub next-of : {A B : Type 0} {m : Reading A} (f : A → Reader B) {a : A} {r : List ℕ} {i : ℕ} {x : Reading B} → m ≡ read a r i → f a r i ≡ x → next m f ≡ x
 unfolding next
