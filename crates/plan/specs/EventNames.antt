@@ -1,6 +1,6 @@
 -- The names of events (document 01, 'Plan text': 'An event is a window letter (t this, n next), a kind (s start, f finish) and one job
 -- digit, as `nf2`').
-use Prim.Native.Nat.{ℕ, _-_}
+use Prim.Native.Nat.{ℕ, _+_, _*_, _-_}
 use mathlib.Core.Bool.{Bool, true, false, cond, _&&_}
 use mathlib.Core.List.{List, [], _∷_}
 use mathlib.Core.Option.{Option, none, some}
@@ -11,6 +11,8 @@ use Rattle.plan.specs.declared.Letter.the-variants.{This, Next}
 use Rattle.plan.specs.declared.Kind.{Kind}
 use Rattle.plan.specs.declared.Kind.the-variants.{Start, Finish}
 use Rattle.plan.specs.declared.EventName.{EventName}
+use Rattle.plan.specs.declared.NameRead.{NameRead}
+use Rattle.plan.specs.declared.NameRead.the-variants.{Value, Bad}
 
 -- ---- written
 
@@ -50,6 +52,11 @@ eventName [] = none
 eventName (a ∷ []) = none
 eventName (a ∷ b ∷ s) = nameOf (letterOf a) (kindOf b) (jobOf s)
 
+-- as the code answers it
+abbrev pub nameRead : Option EventName → NameRead
+nameRead none = Bad
+nameRead (some e) = Value e
+
 -- ---- compared
 
 abbrev pub sameLetter : Letter → Letter → Bool
@@ -71,3 +78,17 @@ sameEvent d e = sameLetter (d .letter) (e .letter) && sameKind (d .kind) (e .kin
 abbrev pub isNext : Letter → Bool
 isNext This = false
 isNext Next = true
+
+-- ---- numbered
+
+abbrev pub letterNumber : Letter → ℕ
+letterNumber This = 0
+letterNumber Next = 1
+
+abbrev pub kindNumber : Kind → ℕ
+kindNumber Start = 0
+kindNumber Finish = 1
+
+-- a number that tells an event from every other
+abbrev pub eventNumber : EventName → ℕ
+eventNumber e = e .job * 4 + letterNumber (e .letter) * 2 + kindNumber (e .kind)

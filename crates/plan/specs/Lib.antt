@@ -9,5 +9,6 @@ pub mod PlanRead
 pub mod PlanWritten
 pub mod Accepted
 -- ---- laws
+pub mod EventNameLaws
 pub mod ReadingLaws
 pub mod PlanLaws

@@ -26,7 +26,7 @@ use Rattle.plan.specs.declared.Refusal.the-variants.{
 }
 
 -- N, 'given exactly when'
-unfoldable pub number : Refusal → ℕ
+abbrev pub number : Refusal → ℕ
 -- 'a line lacks the form required'
 number (Form line) = 1
 -- 'a number out of range'
@@ -53,7 +53,7 @@ number EmptyOffer = 11
 number NoRoom = 12
 
 -- D: the line, K, the rounds, or 0
-unfoldable pub value : Refusal → ℕ
+abbrev pub value : Refusal → ℕ
 value (Form line) = line
 value (Range line) = line
 value (Pair line) = line
@@ -76,7 +76,7 @@ abbrev pub ends : Refusal → Bool
 ends r = leb (number r) 2
 
 -- what a line lacks, as the refusal of that line
-unfoldable pub faultAt : ℕ → Fault → Refusal
+abbrev pub faultAt : ℕ → Fault → Refusal
 faultAt line fault.Form = Form line
 faultAt line fault.Range = Range line
 faultAt line fault.Pair = Pair line

@@ -85,8 +85,23 @@ pub enum Refusal {
     NoRoom,
 }
 
+// An event's name as it was read; Bad where the bytes are no name.
+pub enum NameRead {
+    Value(EventName),
+    Bad,
+}
+
 // A bound line as it was read: the bound, or what the line lacks.
 pub enum BoundLine {
     Value(Bound),
     Bad(text::Fault),
 }
+
+mod names;
+mod refusals;
+
+pub use names::event_name;
+pub use refusals::ends;
+pub use refusals::fault_at;
+pub use refusals::number;
+pub use refusals::value;

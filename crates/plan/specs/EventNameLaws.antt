@@ -1,0 +1,81 @@
+-- The laws of event names. Three bytes are a name by their letter, kind and digit (`eventName-three`), and nothing else is one (`eventName-other`). An event's
+-- number is small (`eventNumber-fits`) and tells it from every other (`sameEvent-number`).
+use mathlib.Core.Path.{_≡_, refl, sym, _∙_, ap}
+use mathlib.Core.Bool.{Bool, true, false, _&&_}
+use mathlib.Core.List.{List, [], _∷_}
+use mathlib.Core.Option.{Option, none, some}
+use Prim.Native.Nat.{ℕ, _+_, _*_, _≤_, _<_}
+use native.Mathlib.Omega.{arith}
+use borrow.Author.Tests.{eqb-true, eqb-false, eq-eqb, ne-eqb}
+use lib.Dec.{eqb}
+use lib.ListN.{length, getD}
+use Rattle.plan.specs.declared.Letter.{Letter}
+use Rattle.plan.specs.declared.Letter.the-variants.{This, Next}
+use Rattle.plan.specs.declared.Kind.{Kind}
+use Rattle.plan.specs.declared.Kind.the-variants.{Start, Finish}
+use Rattle.plan.specs.declared.EventName.{EventName}
+use Rattle.plan.specs.EventNames.{letterOf, kindOf, jobOf, nameOf, eventName, sameLetter, sameKind, sameEvent, letterNumber, kindNumber, eventNumber}
+
+-- ---- read
+
+nameOf-none : (l : Option Letter) (k : Option Kind) → nameOf l k none ≡ none
+nameOf-none none k = refl
+nameOf-none (some l) none = refl
+nameOf-none (some l) (some k) = refl
+
+pub eventName-three : (s : List ℕ) → length s ≡ 3 → eventName s ≡ nameOf (letterOf (getD s 0 0)) (kindOf (getD s 1 0)) (jobOf (getD s 2 0 ∷ []))
+unfolding eventName
+eventName-three [] h = absurd (omega arith)
+eventName-three (a ∷ []) h = absurd (omega arith)
+eventName-three (a ∷ b ∷ []) h = absurd (omega arith)
+eventName-three (a ∷ b ∷ d ∷ []) h = refl
+eventName-three (a ∷ b ∷ d ∷ e ∷ s) h = absurd (omega arith)
+
+pub eventName-other : (s : List ℕ) → (length s ≡ 3 → ⊥) → eventName s ≡ none
+unfolding eventName
+eventName-other [] h = refl
+eventName-other (a ∷ []) h = refl
+eventName-other (a ∷ b ∷ []) h = nameOf-none (letterOf a) (kindOf b)
+eventName-other (a ∷ b ∷ d ∷ []) h = absurd (h refl)
+eventName-other (a ∷ b ∷ d ∷ e ∷ s) h = nameOf-none (letterOf a) (kindOf b)
+
+-- ---- numbered
+
+pub letterNumber-fits : (l : Letter) → letterNumber l ≤ 1
+letterNumber-fits This = omega arith
+letterNumber-fits Next = omega arith
+
+pub kindNumber-fits : (k : Kind) → kindNumber k ≤ 1
+kindNumber-fits Start = omega arith
+kindNumber-fits Finish = omega arith
+
+pub eventNumber-fits : (e : EventName) → e .job < 256 → eventNumber e < 1024
+eventNumber-fits e h = omega (arith, letterNumber-fits (e .letter), kindNumber-fits (e .kind))
+
+sameLetter-number : (l m : Letter) → sameLetter l m ≡ eqb (letterNumber l) (letterNumber m)
+sameLetter-number This This = refl
+sameLetter-number This Next = refl
+sameLetter-number Next This = refl
+sameLetter-number Next Next = refl
+
+sameKind-number : (k n : Kind) → sameKind k n ≡ eqb (kindNumber k) (kindNumber n)
+sameKind-number Start Start = refl
+sameKind-number Start Finish = refl
+sameKind-number Finish Start = refl
+sameKind-number Finish Finish = refl
+
+-- two binary digits below a number
+all-same : (l m k n i j : ℕ) → l ≤ 1 → m ≤ 1 → k ≤ 1 → n ≤ 1 → eqb l m && eqb k n && eqb i j ≡ eqb (i * 4 + l * 2 + k) (j * 4 + m * 2 + n)
+all-same l m k n i j hl hm hk hn = by-tests (eqb l m) (eqb k n) (eqb i j) refl refl refl
+  where
+    by-tests : (a b c : Bool) → eqb l m ≡ a → eqb k n ≡ b → eqb i j ≡ c → a && b && c ≡ eqb (i * 4 + l * 2 + k) (j * 4 + m * 2 + n)
+    by-tests true true true p q r = sym (eq-eqb (i * 4 + l * 2 + k) (j * 4 + m * 2 + n) (omega (arith, eqb-true l m p, eqb-true k n q, eqb-true i j r)))
+    by-tests true true false p q r = sym (ne-eqb (i * 4 + l * 2 + k) (j * 4 + m * 2 + n) (λ e. eqb-false i j r (omega arith)))
+    by-tests true false c p q r = sym (ne-eqb (i * 4 + l * 2 + k) (j * 4 + m * 2 + n) (λ e. eqb-false k n q (omega arith)))
+    by-tests false b c p q r = sym (ne-eqb (i * 4 + l * 2 + k) (j * 4 + m * 2 + n) (λ e. eqb-false l m p (omega arith)))
+
+pub sameEvent-number : (d e : EventName) → sameEvent d e ≡ eqb (eventNumber d) (eventNumber e)
+unfolding sameEvent
+sameEvent-number d e =
+    rw (sameLetter-number (d .letter) (e .letter), sameKind-number (d .kind) (e .kind))
+    (all-same (letterNumber (d .letter)) (letterNumber (e .letter)) (kindNumber (d .kind)) (kindNumber (e .kind)) (d .job) (e .job) (letterNumber-fits (d .letter)) (letterNumber-fits (e .letter)) (kindNumber-fits (d .kind)) (kindNumber-fits (e .kind)))
