@@ -7,8 +7,11 @@ pub mod Reading
 pub mod EventNames
 pub mod PlanRead
 pub mod PlanWritten
+pub mod Pairs
 pub mod Accepted
 -- ---- laws
 pub mod EventNameLaws
+pub mod ListLaws
+pub mod PairLaws
 pub mod ReadingLaws
 pub mod PlanLaws

@@ -4,13 +4,12 @@ use mathlib.Core.Path.{_≡_, refl, ap, subst}
 use mathlib.Core.Bool.{Bool, true, false, not, cond, _&&_}
 use mathlib.Core.List.{List, [], _∷_, _++_, append-assoc, append-nil}
 use mathlib.Core.Option.{Option, none, some}
-use Prim.Native.Nat.{ℕ, zero, suc, _+_, _-_, _≤_, _<_}
+use Prim.Native.Nat.{ℕ, zero, suc, _+_, _≤_, _<_}
 use native.Mathlib.Omega.{arith}
 use borrow.Author.Tests.{leb-true}
 use lib.Dec.{leb}
 use lib.IntN.{ℤ}
-use lib.ListN.{length, take, getD, replicate, length-append, length-replicate, List·getD-append}
-use lib.Seq.{take-append-le}
+use lib.ListN.{length, take, getD}
 use lib.Signed.{leZ}
 use Rattle.whole.specs.Rules.{whole}
 use Rattle.text.specs.Bytes.{bytes}
@@ -25,30 +24,9 @@ use Rattle.plan.specs.Limits.{longestText, mostJobs, mostBounds, leastC,
 use Rattle.plan.specs.Refusals.{tooLong}
 use Rattle.plan.specs.Reading.{value, Reading, read, refused, Reader, next}
 use Rattle.plan.specs.PlanRead.{jobLines, jobsAfter, BoundParts, boundParts, isJob, isWrongPair, boundOf, linedBound, boundIn, boundsAfter, noJob, noBound, filled, planLines, planHead, nothingAfter, planAlone}
+use Rattle.plan.specs.ListLaws.{All, All-at, filled-length, filled-at, filled-take}
 use Rattle.plan.specs.Accepted.{JobAccepted, BoundAccepted, Accepted}
 use Rattle.plan.specs.ReadingLaws.{next-then, next-of, line-read, numberLine-then, countLine-then}
-
--- ---- lists
-
--- what is told of each element
-abbrev pub All : {A : Type 0} → (A → Type 0) → List A → Type 0
-All P [] = Unit
-All P (x ∷ xs) = P x × All P xs
-
-pub All-at : {A : Type 0} (P : A → Type 0) (xs : List A) (d : A) (i : ℕ) → All P xs → i < length xs → P (getD xs i d)
-All-at P [] d i h l = absurd (omega arith)
-All-at P (x ∷ xs) d zero h l = h .0
-All-at P (x ∷ xs) d (suc i) h l = All-at P xs d i (h .1) (omega arith)
-
-module _ {A : Type 0} (size : ℕ) (d : A) (xs : List A) (fits : length xs ≤ size) where
-  pub filled-length : length (filled size d xs) ≡ size
-  filled-length = simp (length-append, length-replicate) (omega arith)
-
-  pub filled-at : (i : ℕ) → i < length xs → getD (filled size d xs) i d ≡ getD xs i d
-  filled-at i l = List·getD-append xs (replicate (size - length xs) d) d i l
-
-  pub filled-take : (i : ℕ) → i ≤ length xs → take i (filled size d xs) ≡ take i xs
-  filled-take i l = take-append-le i xs (replicate (size - length xs) d) l
 
 -- ---- jobs
 
@@ -142,7 +120,7 @@ boundIn-read jobs given l {d} e = by-parts (boundParts (afterKey (bytes "bound="
     by-range q true false cl cm p1 p2 p3 p4 e = absurd (let z : _≡_ {A = ℕ} 0 1 = cc in omega arith)
     by-range q false jb cl cm p1 p2 p3 p4 e = absurd (let z : _≡_ {A = ℕ} 0 1 = cc in omega arith)
 
-    by-parts : (o : Option BoundParts) → boundParts (afterKey (bytes "bound=") l) ≡ o → linedBound (boundOf jobs given o) ≡ value d → BoundRead jobs given l d
+    by-parts : (o : Option BoundParts) → boundParts (afterKey (bytes "bound=") l) ≡ o → linedBound (boundOf jobs (λ a b. isWrongPair a b given) o) ≡ value d → BoundRead jobs given l d
     by-parts none p e = absurd (let z : _≡_ {A = ℕ} 0 1 = cc in omega arith)
     by-parts (some q) p e = by-range q (isJob jobs (q .a .job)) (isJob jobs (q .b .job)) (leZ leastC (numberValue (q .c))) (leZ (numberValue (q .c)) greatestC) refl refl refl refl e
 

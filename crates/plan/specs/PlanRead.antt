@@ -94,12 +94,12 @@ unfoldable pub isWrongPair : EventName → EventName → List Bound → Bool
 isWrongPair a b given = (isNext (a .letter) && isNext (b .letter)) || (sameEvent a b || isGiven a b given)
 
 -- 'in a line the order is 1, 2, 3': the numbers of a line that has its form, and then its pair
-unfoldable pub boundOf : ℕ → List Bound → Option BoundParts → BoundLine
-boundOf jobs given none = boundLine.Bad fault.Form
-boundOf jobs given (some q) =
+unfoldable pub boundOf : ℕ → (EventName → EventName → Bool) → Option BoundParts → BoundLine
+boundOf jobs isWrong none = boundLine.Bad fault.Form
+boundOf jobs isWrong (some q) =
     let c = numberValue (q .c) in
     cond (not (isJob jobs (q .a .job) && isJob jobs (q .b .job) && within leastC greatestC c)) (boundLine.Bad fault.Range)
-    (cond (isWrongPair (q .a) (q .b) given) (boundLine.Bad fault.Pair)
+    (cond (isWrong (q .a) (q .b)) (boundLine.Bad fault.Pair)
     (boundLine.Value (record { a = q .a; b = q .b; c = c })))
 
 unfoldable pub linedBound : BoundLine → Lined Bound
@@ -107,7 +107,7 @@ linedBound (boundLine.Value b) = value b
 linedBound (boundLine.Bad f) = bad f
 
 abbrev pub boundIn : ℕ → List Bound → List ℕ → BoundLine
-boundIn jobs given l = boundOf jobs given (boundParts (afterKey (bytes "bound=") l))
+boundIn jobs given l = boundOf jobs (λ a b. isWrongPair a b given) (boundParts (afterKey (bytes "bound=") l))
 
 -- so many bounds more, after those given before them: 'Bounds keep their order, which is part of the plan.'
 unfoldable pub boundsAfter : ℕ → List Bound → ℕ → Reader (List Bound)

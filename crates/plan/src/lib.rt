@@ -98,6 +98,7 @@ pub enum BoundLine {
 }
 
 mod names;
+mod pairs;
 mod refusals;
 
 pub use names::event_name;

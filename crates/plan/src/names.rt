@@ -4,6 +4,8 @@ use crate::Kind;
 use crate::Letter;
 use crate::NameRead;
 ghost use mathlib.Core.Path.{_≡_};
+ghost use Prim.Native.Nat.{_<_};
+ghost use mathlib.Core.Bool.{_&&_};
 ghost use mathlib.Core.List.{[], _∷_};
 ghost use mathlib.Core.Option.{some};
 ghost use Rattle.plan.specs.EventNames.{eventName, nameOf, letterOf, kindOf, jobOf, nameRead, letterNumber, kindNumber, eventNumber, isNext};
@@ -55,12 +57,22 @@ pub fn event_name(s: &[u8]) -> NameRead
 }
 
 // Whether a letter is n.
-pub fn is_next(l: Letter) -> bool
+fn is_next(l: Letter) -> bool
     ensures { λ r. ⌜ r ≡ isNext l ⌝ }
 {
     match l {
         Letter::This => false,
         Letter::Next => true,
+    }
+}
+
+// Whether both letters are n.
+pub fn both_next(a: Letter, b: Letter) -> bool
+    ensures { λ r. ⌜ r ≡ (isNext a && isNext b) ⌝ }
+{
+    match a {
+        Letter::This => false,
+        Letter::Next => is_next(b),
     }
 }
 
@@ -87,6 +99,7 @@ fn kind_number(k: Kind) -> u32
 // A number below 1,024 that tells an event from every other.
 pub fn event_number(e: EventName) -> u32
     ensures { λ r. ⌜ r ≡ eventNumber e ⌝ }
+    ensures { λ r. ⌜ r < 1024 ⌝ }
 {
     let job = e.job as u32;
     let letter = e.letter;

@@ -34,7 +34,16 @@ add-result-2 c =
     )
 
 returns : tie.Need-returns
-returns c = search needs
+returns c = (
+  cc,
+  omega (
+    arith,
+    c .before .letter-number .ensures,
+    c .kind-number .ensures,
+    letterNumber-fits (c .before .before .before .args .e .letter),
+    kindNumber-fits (c .before .before .before .args .e .kind),
+  ),
+)
 
 pub event-number-spec : {M : Type 1} → statement M
 event-number-spec =

@@ -1,0 +1,33 @@
+-- The laws of lists that the plan's arrays need: what is told of each element (`All`) is told at each place (`All-at`), and of one more (`All-more`); an
+-- array that a list fills has its size, the list's elements at the first places (`filled-at`), and its beginnings (`filled-take`).
+use mathlib.Core.Path.{_≡_}
+use mathlib.Core.List.{List, [], _∷_, _++_}
+use Prim.Native.Nat.{ℕ, zero, suc, _-_, _≤_, _<_}
+use native.Mathlib.Omega.{arith}
+use lib.ListN.{length, take, getD, replicate, length-append, length-replicate, List·getD-append}
+use lib.Seq.{take-append-le}
+use Rattle.plan.specs.PlanRead.{filled}
+
+-- what is told of each element
+abbrev pub All : {A : Type 0} → (A → Type 0) → List A → Type 0
+All P [] = Unit
+All P (x ∷ xs) = P x × All P xs
+
+pub All-at : {A : Type 0} (P : A → Type 0) (xs : List A) (d : A) (i : ℕ) → All P xs → i < length xs → P (getD xs i d)
+All-at P [] d i h l = absurd (omega arith)
+All-at P (x ∷ xs) d zero h l = h .0
+All-at P (x ∷ xs) d (suc i) h l = All-at P xs d i (h .1) (omega arith)
+
+pub All-more : {A : Type 0} (P : A → Type 0) (xs : List A) (x : A) → All P xs → P x → All P (xs ++ (x ∷ []))
+All-more P [] x h p = (p, tt)
+All-more P (y ∷ ys) x h p = (h .0, All-more P ys x (h .1) p)
+
+module _ {A : Type 0} (size : ℕ) (d : A) (xs : List A) (fits : length xs ≤ size) where
+  pub filled-length : length (filled size d xs) ≡ size
+  filled-length = simp (length-append, length-replicate) (omega arith)
+
+  pub filled-at : (i : ℕ) → i < length xs → getD (filled size d xs) i d ≡ getD xs i d
+  filled-at i l = List·getD-append xs (replicate (size - length xs) d) d i l
+
+  pub filled-take : (i : ℕ) → i ≤ length xs → take i (filled size d xs) ≡ take i xs
+  filled-take i l = take-append-le i xs (replicate (size - length xs) d) l
