@@ -8,10 +8,12 @@ pub mod EventNames
 pub mod PlanRead
 pub mod PlanWritten
 pub mod Pairs
+pub mod BoundNames
 pub mod Accepted
 -- ---- laws
 pub mod EventNameLaws
 pub mod ListLaws
 pub mod PairLaws
+pub mod BoundLaws
 pub mod ReadingLaws
 pub mod PlanLaws

@@ -94,13 +94,15 @@ unfoldable pub isWrongPair : EventName → EventName → List Bound → Bool
 isWrongPair a b given = (isNext (a .letter) && isNext (b .letter)) || (sameEvent a b || isGiven a b given)
 
 -- 'in a line the order is 1, 2, 3': the numbers of a line that has its form, and then its pair
+abbrev pub judgedBound : ℕ → (EventName → EventName → Bool) → Bound → BoundLine
+judgedBound jobs isWrong d =
+    cond (not (isJob jobs (d .a .job) && isJob jobs (d .b .job) && within leastC greatestC (d .c))) (boundLine.Bad fault.Range)
+    (cond (isWrong (d .a) (d .b)) (boundLine.Bad fault.Pair)
+    (boundLine.Value d))
+
 unfoldable pub boundOf : ℕ → (EventName → EventName → Bool) → Option BoundParts → BoundLine
 boundOf jobs isWrong none = boundLine.Bad fault.Form
-boundOf jobs isWrong (some q) =
-    let c = numberValue (q .c) in
-    cond (not (isJob jobs (q .a .job) && isJob jobs (q .b .job) && within leastC greatestC c)) (boundLine.Bad fault.Range)
-    (cond (isWrong (q .a) (q .b)) (boundLine.Bad fault.Pair)
-    (boundLine.Value (record { a = q .a; b = q .b; c = c })))
+boundOf jobs isWrong (some q) = judgedBound jobs isWrong (record { a = q .a; b = q .b; c = numberValue (q .c) })
 
 unfoldable pub linedBound : BoundLine → Lined Bound
 linedBound (boundLine.Value b) = value b

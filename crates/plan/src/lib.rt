@@ -91,13 +91,27 @@ pub enum NameRead {
     Bad,
 }
 
+// A name as it was read up to its comma, and the place after the comma.
+enum NamePart {
+    Value(EventName, usize),
+    Bad,
+}
+
+// The names of a bound line, and where its number begins.
+enum BoundNames {
+    Value(EventName, EventName, usize),
+    Bad,
+}
+
 // A bound line as it was read: the bound, or what the line lacks.
 pub enum BoundLine {
     Value(Bound),
     Bad(text::Fault),
 }
 
+mod bound_line;
 mod names;
+mod narrow;
 mod pairs;
 mod refusals;
 

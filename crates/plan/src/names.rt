@@ -8,6 +8,7 @@ ghost use Prim.Native.Nat.{_<_};
 ghost use mathlib.Core.Bool.{_&&_};
 ghost use mathlib.Core.List.{[], _∷_};
 ghost use mathlib.Core.Option.{some};
+ghost use Rattle.plan.specs.PlanRead.{isJob};
 ghost use Rattle.plan.specs.EventNames.{eventName, nameOf, letterOf, kindOf, jobOf, nameRead, letterNumber, kindNumber, eventNumber, isNext};
 
 // A name with its letter and its kind known: its last byte is the job digit.
@@ -105,4 +106,15 @@ pub fn event_number(e: EventName) -> u32
     let letter = e.letter;
     let kind = e.kind;
     job * 4 + letter_number(letter) * 2 + kind_number(kind)
+}
+
+// Whether a job digit names one of the jobs.
+pub fn is_job(i: u8, jobs: usize) -> bool
+    ensures { λ r. ⌜ r ≡ isJob jobs i ⌝ }
+{
+    let job = i as usize;
+    if job < 1 {
+        return false;
+    }
+    job <= jobs
 }

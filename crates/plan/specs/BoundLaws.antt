@@ -1,0 +1,128 @@
+-- The laws of a bound line as the code takes it apart. A name up to its comma (`nameTo-bare`, `nameTo-read`), at a place in the line (`nameTo-fits`); the
+-- two names and the number are the line's parts (`namesIn-parts`); the judgement, test by test (`judgedBound-range`, `-pair`, `-value`).
+use mathlib.Core.Path.{_≡_, refl, sym, _∙_, ap, subst}
+use mathlib.Core.Bool.{Bool, true, false, not, cond, _&&_}
+use mathlib.Core.List.{List}
+use mathlib.Core.Option.{Option, none, some}
+use Prim.Native.Nat.{ℕ, _+_, _≤_, _<_}
+use native.Mathlib.Omega.{arith}
+use borrow.Author.Tests.{lt-ltb, le-ltb, ltb-true}
+use lib.ListN.{length, take, drop, length-drop}
+use lib.Seq.{drop-drop}
+use native.Mathlib.Nat.{add-assoc}
+use Rattle.text.specs.Bytes.{bytes}
+use Rattle.text.specs.Lines.{comma, lenTo, before, has, after, afterKey, hasKey}
+use Rattle.text.specs.LineLaws.{hasKey-true, hasKey-false}
+use Rattle.text.specs.Numbers.{within}
+use Rattle.text.specs.declared.Fault.the-variants as fault
+use Rattle.plan.specs.declared.EventName.{EventName}
+use Rattle.plan.specs.declared.NameRead.{NameRead}
+use Rattle.plan.specs.declared.NameRead.the-variants as nameRead
+use Rattle.plan.specs.declared.NamePart.{NamePart}
+use Rattle.plan.specs.declared.NamePart.the-variants as namePart
+use Rattle.plan.specs.declared.BoundNames.{BoundNames}
+use Rattle.plan.specs.declared.BoundNames.the-variants as boundNames
+use Rattle.plan.specs.declared.Bound.{Bound}
+use Rattle.plan.specs.declared.BoundLine.the-variants as boundLine
+use Rattle.plan.specs.Limits.{leastC, greatestC}
+use Rattle.plan.specs.EventNames.{eventName, nameRead}
+use Rattle.plan.specs.PlanRead.{BoundParts, partsOf, boundParts, isJob, judgedBound}
+use Rattle.plan.specs.BoundNames.{partNamed, nameTo, withSecond, withFirst, namesIn}
+
+-- ---- a name up to its comma
+
+abbrev pub readNamed : ℕ → NameRead → NamePart
+readNamed at nameRead.Bad = namePart.Bad
+readNamed at (nameRead.Value e) = namePart.Value e at
+
+read-named : (k : ℕ) (o : Option EventName) → partNamed k o ≡ readNamed k (nameRead o)
+read-named k none = refl
+read-named k (some e) = refl
+
+module _ (l : List ℕ) (at : ℕ) where
+  -- s is the rest of the line, and i the length to its comma
+  pub nameTo-bare : (s : List ℕ) (i : ℕ) → s ≡ drop at l → i ≡ lenTo comma s → length s ≤ i → nameTo l at ≡ namePart.Bad
+  unfolding nameTo
+  nameTo-bare s i p q h =
+      rw (← p) (rw (le-ltb (lenTo comma s) (length s) (omega arith)))
+
+  pub nameTo-read : (s : List ℕ) (i : ℕ) → s ≡ drop at l → i ≡ lenTo comma s → i < length s → (r : NameRead) → r ≡ nameRead (eventName (take i s)) → nameTo l at ≡ readNamed (at + i + 1) r
+  unfolding nameTo
+  nameTo-read s i p q h r e =
+      rw (← p) (rw (lt-ltb (lenTo comma s) (length s) (omega arith), e, ← q) (read-named (at + i + 1) (eventName (take i s))))
+
+  pub nameTo-fits : at ≤ length l → {e : EventName} {k : ℕ} → nameTo l at ≡ namePart.Value e k → k ≤ length l
+  unfolding nameTo
+  nameTo-fits h {e} {k} d = by-comma (has comma (drop at l)) refl d
+    where
+      by-name : (o : Option EventName) → lenTo comma (drop at l) < length (drop at l) → partNamed (at + lenTo comma (drop at l) + 1) o ≡ namePart.Value e k → k ≤ length l
+      by-name none g d = absurd (let z : _≡_ {A = ℕ} 0 1 = cc in omega arith)
+      by-name (some f) g d = let q : at + lenTo comma (drop at l) + 1 ≡ k = cc in omega (arith, length-drop at l)
+
+      by-comma : (b : Bool) → has comma (drop at l) ≡ b → cond b (partNamed (at + lenTo comma (drop at l) + 1) (eventName (before comma (drop at l)))) namePart.Bad ≡ namePart.Value e k → k ≤ length l
+      by-comma true g d = by-name (eventName (before comma (drop at l))) (ltb-true (lenTo comma (drop at l)) (length (drop at l)) g) d
+      by-comma false g d = absurd (let z : _≡_ {A = ℕ} 0 1 = cc in omega arith)
+
+-- ---- the line's parts
+
+abbrev pub partsFrom : List ℕ → BoundNames → Option BoundParts
+partsFrom l boundNames.Bad = none
+partsFrom l (boundNames.Value a b at) = partsOf (some a) (some b) (drop at l)
+
+after-drop : (l : List ℕ) (at : ℕ) → after comma (drop at l) ≡ drop (at + lenTo comma (drop at l) + 1) l
+after-drop l at = drop-drop (lenTo comma (drop at l) + 1) at l ∙ ap (λ n. drop n l) (sym (add-assoc at (lenTo comma (drop at l)) 1))
+
+-- the second name, after the first one
+second-parts : (l : List ℕ) (k : ℕ) (a : EventName)
+    → cond (has comma (drop k l)) (partsOf (some a) (eventName (before comma (drop k l))) (after comma (drop k l))) none ≡ partsFrom l (withSecond a (nameTo l k))
+unfolding nameTo
+second-parts l k a = by-comma (has comma (drop k l)) (eventName (before comma (drop k l)))
+  where
+    by-comma : (t : Bool) (o : Option EventName)
+        → cond t (partsOf (some a) o (after comma (drop k l))) none ≡ partsFrom l (withSecond a (cond t (partNamed (k + lenTo comma (drop k l) + 1) o) namePart.Bad))
+    by-comma true none = refl
+    by-comma true (some b) = ap (λ c. partsOf (some a) (some b) c) (after-drop l k)
+    by-comma false o = refl
+
+first-parts : (l : List ℕ) (k : ℕ) → boundParts (some (drop k l)) ≡ partsFrom l (withFirst l (nameTo l k))
+unfolding nameTo boundParts
+first-parts l k = by-comma (has comma (drop k l)) (eventName (before comma (drop k l)))
+  where
+    none-parts : (t : Bool) → _≡_ {A = Option BoundParts} (cond t none none) none
+    none-parts true = refl
+    none-parts false = refl
+
+    by-comma : (t : Bool) (o : Option EventName)
+        → cond (t && has comma (after comma (drop k l))) (partsOf o (eventName (before comma (after comma (drop k l)))) (after comma (after comma (drop k l)))) none
+        ≡ partsFrom l (withFirst l (cond t (partNamed (k + lenTo comma (drop k l) + 1) o) namePart.Bad))
+    by-comma true none = none-parts (has comma (after comma (drop k l)))
+    by-comma true (some a) = rw (after-drop l k) (second-parts l (k + lenTo comma (drop k l) + 1) a)
+    by-comma false o = refl
+
+pub namesIn-parts : (l : List ℕ) → boundParts (afterKey (bytes "bound=") l) ≡ partsFrom l (namesIn l)
+unfolding namesIn bytes boundParts
+namesIn-parts l = by-key (hasKey (bytes "bound=") l) refl
+  where
+    by-key : (b : Bool) → hasKey (bytes "bound=") l ≡ b → boundParts (afterKey (bytes "bound=") l) ≡ partsFrom l (cond b (withFirst l (nameTo l 6)) boundNames.Bad)
+    by-key true h = ap boundParts (hasKey-true (bytes "bound=") l h) ∙ first-parts l 6
+    by-key false h = ap boundParts (hasKey-false (bytes "bound=") l h)
+
+pub namesIn-other : (l : List ℕ) → hasKey (bytes "bound=") l ≡ false → namesIn l ≡ boundNames.Bad
+unfolding namesIn
+namesIn-other l h = rw h
+
+pub namesIn-key : (l : List ℕ) → hasKey (bytes "bound=") l ≡ true → namesIn l ≡ withFirst l (nameTo l 6)
+unfolding namesIn
+namesIn-key l h = rw h
+
+-- ---- the judgement
+
+module _ (jobs : ℕ) (isWrong : EventName → EventName → Bool) (d : Bound) where
+  pub judgedBound-range : isJob jobs (d .a .job) && isJob jobs (d .b .job) && within leastC greatestC (d .c) ≡ false → judgedBound jobs isWrong d ≡ boundLine.Bad fault.Range
+  judgedBound-range h = rw h
+
+  pub judgedBound-pair : isJob jobs (d .a .job) && isJob jobs (d .b .job) && within leastC greatestC (d .c) ≡ true → isWrong (d .a) (d .b) ≡ true → judgedBound jobs isWrong d ≡ boundLine.Bad fault.Pair
+  judgedBound-pair h w = rw (h, w)
+
+  pub judgedBound-value : isJob jobs (d .a .job) && isJob jobs (d .b .job) && within leastC greatestC (d .c) ≡ true → isWrong (d .a) (d .b) ≡ false → judgedBound jobs isWrong d ≡ boundLine.Value d
+  judgedBound-value h w = rw (h, w)
