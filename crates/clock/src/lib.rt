@@ -1,6 +1,11 @@
 // The two clocks. A time on a window's own clock and a time on the run's clock are values of two types, so that one is never taken
 // for the other; only a conversion by window number leads across. All times are whole milliseconds.
 
+mod across;
+
+pub use across::begins_at;
+pub use across::on_run;
+
 // A time on a window's own clock, which begins with the window.
 pub struct WindowTime(pub i64);
 

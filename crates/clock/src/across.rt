@@ -1,0 +1,28 @@
+// The way from a window's own clock to the run's.
+
+use crate::RunTime;
+use crate::WindowTime;
+ghost use mathlib.Core.Path.{_≡_};
+ghost use Rattle.clock.specs.Clock.{beginsAt, onRun};
+ghost use Rattle.clock.specs.Spans.{Spanned, Near};
+
+// When window j begins on the run's clock.
+pub fn begins_at(window: i32, j: u64) -> i64
+    requires { ⌜ Spanned window j ⌝ }
+    ensures { λ r. ⌜ r ≡ beginsAt window j ⌝ }
+{
+    let before = (j - 1) as i64;
+    let length = window as i64;
+    before * length
+}
+
+// A time of window j, on the run's clock.
+pub fn on_run(window: i32, j: u64, t: WindowTime) -> RunTime
+    requires { ⌜ Spanned window j ⌝ }
+    requires { ⌜ Near (t .0) ⌝ }
+    ensures { λ r. ⌜ r ≡ onRun window j t ⌝ }
+{
+    let beginning = begins_at(window, j);
+    let own = t.0;
+    RunTime(beginning + own)
+}
