@@ -1,5 +1,7 @@
 -- Runs, as document 01 has them. In reading order: the limits of what is handed over as a value, the offer, and the steps with the order
--- of their refusals. These files are definitions alone.
+-- of their refusals. The first files are definitions alone.
 pub mod ValueLimits
 pub mod Offers
 pub mod Steps
+-- ---- laws
+pub mod OfferLaws
