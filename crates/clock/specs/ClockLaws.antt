@@ -1,17 +1,21 @@
 -- In the ranges of `Spans` a window begins between 0 and 86,400,000,000,000,000 on the run's clock, so that this time and one near it fit an i64.
+-- What the machine adds to a time is the number of milliseconds itself. Two comparisons tell whether a time is between two others.
 use Prim.Native.Nat.{ℕ, _*_, _-_, _≤_}
-use mathlib.Core.Path.{_≡_, ap}
+use mathlib.Core.Path.{_≡_}
+use mathlib.Core.Bool.{true, false}
 use mathlib.Core.Logic.{⊎-elim}
 use native.Mathlib.Nat.{mul-le-mul}
 use native.Mathlib.Omega.{arith}
 use lib.IntN.{ℤ, pos, _+ℤ_, _*ℤ_}
-use lib.Signed.{_≤ℤ_}
+use lib.Signed.{_≤ℤ_, leZ}
 use mir.Syntax.{w32, w64}
-use mir.Val.{SFits}
+use mir.Val.{SFits, toZ, ofZ}
+use mir.Facts.{toZ-ofZ}
 use Rattle.whole.specs.Split.{up, dn}
 use Rattle.whole.specs.SplitLaws.{split-one, split-mul}
-use Rattle.whole.specs.Rules.{wholes}
-use Rattle.clock.specs.Clock.{beginsAt}
+use Rattle.whole.specs.Rules.{whole, wholes}
+use Rattle.clock.specs.declared.RunTime.{RunTime}
+use Rattle.clock.specs.Clock.{beginsAt, isEarlier, isBetween}
 use Rattle.clock.specs.Spans.{Spanned, Near}
 
 module _ (window : ℤ) (j : ℕ) (s : Spanned window j) where
@@ -35,3 +39,28 @@ module _ (window : ℤ) (j : ℕ) (s : Spanned window j) where
 
   pub onRun-fits : {t : ℤ} → Near t → SFits w64 (beginsAt window j +ℤ t)
   onRun-fits n = let l = beginsAt-least in let g = beginsAt-greatest in omega wholes
+
+-- ---- sums of the machine
+
+pub widened-fits : {c : ℤ} → SFits w32 c → SFits w64 c
+widened-fits f = record { sfits = omega (arith, f .sfits) }
+
+pub widened-back : {c : ℤ} → SFits w32 c → toZ w64 (ofZ w64 (toZ w32 (ofZ w32 c))) ≡ c
+widened-back f = rw (toZ-ofZ f) (toZ-ofZ (widened-fits f))
+
+pub sum-back : (t c : ℤ) → SFits w64 t → SFits w32 c → toZ w64 (ofZ w64 t) +ℤ toZ w64 (ofZ w64 (toZ w32 (ofZ w32 c))) ≡ t +ℤ c
+sum-back t c f g = rw (widened-back g, toZ-ofZ f)
+
+-- ---- comparisons
+
+module _ (from to t : RunTime) where
+  pub isBetween-early : isEarlier t from ≡ true → isBetween from to t ≡ false
+  isBetween-early e = let h : leZ (from .0) (t .0) ≡ false = omega whole in rw h
+
+  pub isBetween-late : isEarlier t from ≡ false → isEarlier to t ≡ true → isBetween from to t ≡ false
+  isBetween-late e f =
+      let h : leZ (from .0) (t .0) ≡ true = omega whole in let k : leZ (t .0) (to .0) ≡ false = omega whole in rw (h, k)
+
+  pub isBetween-on : isEarlier t from ≡ false → isEarlier to t ≡ false → isBetween from to t ≡ true
+  isBetween-on e f =
+      let h : leZ (from .0) (t .0) ≡ true = omega whole in let k : leZ (t .0) (to .0) ≡ true = omega whole in rw (h, k)

@@ -2,9 +2,13 @@
 // for the other; only a conversion by window number leads across. All times are whole milliseconds.
 
 mod across;
+mod times;
 
 pub use across::begins_at;
 pub use across::on_run;
+pub use times::is_between;
+pub use times::is_earlier;
+pub use times::moved_by;
 
 // A time on a window's own clock, which begins with the window.
 pub struct WindowTime(pub i64);
