@@ -3,5 +3,7 @@
 pub mod ValueLimits
 pub mod Offers
 pub mod Steps
+pub mod Ends
 -- ---- laws
+pub mod EndLaws
 pub mod OfferLaws

@@ -1,8 +1,13 @@
 // Runs: what a run has seen, the offer for its next start, and the steps that ask, start and finish.
 
+mod ends;
+
 use clock::RunTime;
 use plan::MOST_JOBS;
 use plan::Refusal;
+
+// The places of a calendar's c on one side: a row of rounds::MOST_EVENTS for each job.
+const MOST_TERMS: usize = 324;
 
 // A probe that has finished: when it started and when it finished.
 pub struct Probe {

@@ -1,0 +1,237 @@
+-- A walk along the bits of a set comes to the same end as looking at every event. The events below the lowest bit add nothing (`endIn-gap`), so that
+-- the next term is that of the lowest bit (`endIn-turn`), and a set with no bit among the events left is at its end (`endIn-stop`). An end worked out
+-- window by window is the end of `Offers` (`endOf-is`).
+use Prim.Native.Nat.{ℕ, zero, suc, _+_, _*_, _-_, _/_, _%_, _^_, _≤_, _<_}
+use mathlib.Core.Path.{_≡_, refl, sym, ap, _∙_}
+use mathlib.Core.Bool.{Bool, true, false, cond, _&&_, _||_}
+use mathlib.Core.List.{List}
+use native.Mathlib.Nat.{pow-suc, pow-succ', div-div-eq-div-mul, div-one, zero-add, add-zero, suc-add, add-suc, pos-of-ne-zero, add-assoc, mul-add, add-sub-cancel-left}
+use native.Mathlib.Numerals.{add-one}
+use native.Mathlib.Omega.{arith}
+use lib.Dec.{eqb, leb, ltb}
+use lib.IntN.{ℤ, pos, _+ℤ_}
+use lib.ListN.{getD}
+use lib.Count.{trailingZeros, under, trailing-of-zero}
+use borrow.Author.Tests.{eqb-true, eqb-false, eq-eqb, ne-eqb, lt-ltb, le-ltb, le-leb, lt-leb}
+use mir.Syntax.{w32, w64}
+use mir.Val.{SFits, toZ, ofZ}
+use mir.Facts.{toZ-ofZ}
+use Rattle.clock.specs.declared.RunTime.{RunTime}
+use Rattle.clock.specs.Clock.{movedBy}
+use Rattle.plan.specs.declared.Plan.{Plan}
+use Rattle.rounds.specs.Bits.{hasEvent}
+use Rattle.rounds.specs.Calendars.{eventsBefore}
+use Rattle.runs.specs.declared.Probe.{Probe}
+use Rattle.runs.specs.declared.Run.{Run}
+use Rattle.runs.specs.Offers.{noProbe, timeIn, timeOf, isInForce, endFrom}
+use Rattle.runs.specs.Ends.{pickOf, pickedTime, timeOn, termIn, endIn, endOf, TermsFit}
+
+-- ---- bits
+
+-- below the lowest bit
+hasEvent-even : (s : ℕ) → s % 2 ≡ 0 → hasEvent 0 s ≡ false
+unfolding hasEvent
+hasEvent-even s h = ne-eqb (s % 2) 1 (λ e. omega arith)
+
+hasEvent-odd : (s : ℕ) → s % 2 ≡ 1 → hasEvent 0 s ≡ true
+unfolding hasEvent
+hasEvent-odd s h = eq-eqb (s % 2) 1 h
+
+-- one more zero below the lowest bit: the number is even
+trailing-even : (d s gap r : ℕ) → s % 2 ≡ r → suc gap ≤ under r (trailingZeros d (s / 2)) → (s % 2 ≡ 0) × (gap ≤ trailingZeros d (s / 2))
+trailing-even d s gap zero e h = (e, omega arith)
+trailing-even d s gap (suc r) e h = absurd (omega arith)
+
+shift-suc : (s k : ℕ) → s / 2 / 2 ^ k ≡ s / 2 ^ suc k
+shift-suc s k = div-div-eq-div-mul s 2 (2 ^ k) ∙ ap (λ (x : ℕ). s / x) (sym (pow-succ' 2 k))
+
+shift-half : (s k : ℕ) → s / 2 ^ k / 2 ≡ s / 2 ^ suc k
+shift-half s k = div-div-eq-div-mul s (2 ^ k) 2 ∙ ap (λ (x : ℕ). s / x) (sym (pow-suc 2 k))
+
+-- the lowest bit of a number that has one
+trailing-odd : (d s : ℕ) → 0 < s → s < 2 ^ d → s / 2 ^ trailingZeros d s % 2 ≡ 1
+unfolding trailingZeros
+trailing-odd zero s p h = absurd (omega arith)
+trailing-odd (suc d) s p h = go (λ q l. trailing-odd d (s / 2) q l) (s % 2) refl
+  where
+    go : (0 < s / 2 → s / 2 < 2 ^ d → s / 2 / 2 ^ trailingZeros d (s / 2) % 2 ≡ 1)
+        → (b : ℕ) → s % 2 ≡ b → s / 2 ^ under b (trailingZeros d (s / 2)) % 2 ≡ 1
+    go rest zero e =
+        rw (← shift-suc s (trailingZeros d (s / 2))) (rest (omega arith) (omega arith))
+    go rest (suc b) e = rw (div-one) (omega arith)
+
+-- what is left of a walk is less than what was
+pub half-less : {s t : ℕ} → t ≤ s → (s ≡ 0 → ⊥) → t / 2 < s
+half-less {s} {t} h n = omega (arith, pos-of-ne-zero n)
+
+-- ---- one window
+
+pick-time : (b : Bool) (t u : RunTime) → cond b t u .0 ≡ cond b (t .0) (u .0)
+pick-time true t u = refl
+pick-time false t u = refl
+
+pub timeOn-is : (qs : List Probe) (e : ℕ) → timeOn (getD qs (e / 2) noProbe) e .0 ≡ timeIn qs e
+timeOn-is qs e = pick-time (eqb (e % 2) 0) _ _
+
+-- the term that the code makes of what it reads, and what it picks
+module _ (qs : List Probe) (cs : List ℤ) (at k : ℕ) (t : RunTime) (e : t ≡ timeOn (getD qs (k / 2) noProbe) k) (f : SFits w32 (getD cs (at + k) (pos 0))) where
+  pub termIn-read : t .0 +ℤ toZ w32 (ofZ w32 (getD cs (at + k) (pos 0))) ≡ termIn qs cs at k
+  termIn-read = rw (toZ-ofZ f, e, timeOn-is)
+
+  pub pickedTime-read : (upper : Bool) (end u v : RunTime) → v ≡ pickedTime upper end u
+      → u ≡ movedBy t (toZ w32 (ofZ w32 (getD cs (at + k) (pos 0)))) → v .0 ≡ pickOf upper (end .0) (termIn qs cs at k)
+  pickedTime-read upper end u v p m =
+      ap (λ (x : RunTime). x .0) p ∙ ap (λ (x : RunTime). pickOf upper (end .0) (x .0)) m ∙ ap (pickOf upper (end .0)) termIn-read
+
+module _ (pick : ℤ → ℤ → ℤ) (qs : List Probe) (cs : List ℤ) (at : ℕ) where
+  -- an event that is not in the set adds nothing
+  endIn-past : (set : ℕ) (end : ℤ) (e n : ℕ) → hasEvent 0 set ≡ false
+      → endIn pick qs set cs at end e (suc n) ≡ endIn pick qs (set / 2) cs at end (suc e) n
+  unfolding endIn
+  endIn-past set end e n h = rw h
+
+  endIn-next : (set : ℕ) (end : ℤ) (e n : ℕ) → hasEvent 0 set ≡ true
+      → endIn pick qs set cs at end e (suc n) ≡ endIn pick qs (set / 2) cs at (pick end (termIn qs cs at e)) (suc e) n
+  unfolding endIn
+  endIn-next set end e n h = rw h
+
+  pub endIn-gap : (d gap set : ℕ) (end : ℤ) (e n : ℕ) → gap ≤ trailingZeros d set
+      → endIn pick qs set cs at end e (gap + n) ≡ endIn pick qs (set / 2 ^ gap) cs at end (e + gap) n
+  unfolding trailingZeros
+  endIn-gap d zero set end e n h = rw (zero-add, add-zero, div-one)
+  endIn-gap zero (suc gap) set end e n h = absurd (omega arith)
+  endIn-gap (suc d) (suc gap) set end e n h =
+      let t = trailing-even d set gap (set % 2) refl h in
+      rw (suc-add)
+      (endIn-past set end e (gap + n) (hasEvent-even set (t .0)) ∙ endIn-gap d gap (set / 2) end (suc e) n (t .1)
+      ∙ rw (shift-suc, suc-add, add-suc))
+
+  pub endIn-stop : (set : ℕ) (end : ℤ) (e n : ℕ) → n ≤ trailingZeros 64 set → endIn pick qs set cs at end e n ≡ end
+  unfolding endIn
+  endIn-stop set end e n h = rw (← add-zero n) (endIn-gap 64 n set end e 0 h)
+
+  pub endIn-end : (end : ℤ) (e n : ℕ) → n ≤ 64 → endIn pick qs 0 cs at end e n ≡ end
+  endIn-end end e n h = endIn-stop 0 end e n (omega (arith, trailing-of-zero 64))
+
+  pub endIn-turn : (set : ℕ) (end : ℤ) (e count : ℕ) → 0 < set → set < 2 ^ 64 → e + trailingZeros 64 set < count
+      → endIn pick qs set cs at end e (count - e)
+      ≡ endIn pick qs (set / 2 ^ trailingZeros 64 set / 2) cs at (pick end (termIn qs cs at (e + trailingZeros 64 set)))
+      (e + trailingZeros 64 set + 1) (count - (e + trailingZeros 64 set + 1))
+  endIn-turn set end e count p h l =
+      let gap = trailingZeros 64 set in
+      let left : count - e ≡ gap + suc (count - (e + gap + 1)) = omega arith in
+      rw (left, add-one)
+      (endIn-gap 64 gap set end e _ (omega arith) ∙ endIn-next (set / 2 ^ gap) end (e + gap) _ (hasEvent-odd _ (trailing-odd 64 set p h)))
+
+-- ---- what fits
+
+hasEvent-shift : (gap k s : ℕ) → hasEvent (gap + k) s ≡ hasEvent k (s / 2 ^ gap)
+unfolding hasEvent
+hasEvent-shift zero k s = rw (zero-add, div-one)
+hasEvent-shift (suc gap) k s = rw (suc-add) (hasEvent-shift gap k (s / 2) ∙ rw (shift-suc))
+
+module _ (qs : List Probe) (cs : List ℤ) (at set e count : ℕ) (t : TermsFit qs set cs at e (count - e)) (l : e + trailingZeros 64 set < count) where
+  pub termIn-fits : 0 < set → set < 2 ^ 64 → SFits w64 (termIn qs cs at (e + trailingZeros 64 set))
+  termIn-fits p h =
+      let gap = trailingZeros 64 set in
+      t .fit gap (omega arith)
+      (ap (λ (k : ℕ). hasEvent k set) (sym (add-zero gap)) ∙ hasEvent-shift gap 0 set ∙ hasEvent-odd _ (trailing-odd 64 set p h))
+
+  pub TermsFit-turn :
+      TermsFit qs (set / 2 ^ trailingZeros 64 set / 2) cs at (e + trailingZeros 64 set + 1) (count - (e + trailingZeros 64 set + 1))
+  TermsFit-turn =
+      let gap = trailingZeros 64 set in
+      record {
+        fit = λ k m n.
+            let place : e + gap + 1 + k ≡ e + (suc gap + k) = omega arith in
+            rw (place) (t .fit (suc gap + k) (omega arith) (hasEvent-shift (suc gap) k set ∙ rw (← shift-half) n));
+      }
+
+-- ---- both windows
+
+and-yes : (b : Bool) → (b && true) ≡ b
+and-yes true = refl
+and-yes false = refl
+
+and-no : (b : Bool) → (b && false) ≡ false
+and-no true = refl
+and-no false = refl
+
+module _ (pick : ℤ → ℤ → ℤ) (p : Plan) (r : Run) (set : ℕ) (cs : List ℤ) (row : ℕ) where
+  one-event : (b : Bool) (t end : ℤ) (e n : ℕ) → (hasEvent e set && isInForce p r e) ≡ b → timeOf p r e ≡ t
+      → endFrom pick p r set cs row end e (suc n)
+      ≡ endFrom pick p r set cs row (cond b (pick end (t +ℤ getD cs (row + e) (pos 0))) end) (suc e) n
+  unfolding endFrom
+  one-event b t end e n h k = rw (h, k)
+
+  here : (e : ℕ) → hasEvent e set ≡ hasEvent 0 (set / 2 ^ e)
+  here e = ap (λ (k : ℕ). hasEvent k set) (sym (add-zero e)) ∙ hasEvent-shift e 0 set
+
+  previous-part : r .«has_previous» ≡ true → (n m : ℕ) (end : ℤ) (e : ℕ) → e + n ≤ 2 * p .jobs
+      → endFrom pick p r set cs row end e (n + m)
+      ≡ endFrom pick p r set cs row (endIn pick (r .previous) (set / 2 ^ e) cs row end e n) (e + n) m
+  unfolding endIn timeOf isInForce
+  previous-part y zero m end e h = rw (zero-add, add-zero)
+  previous-part y (suc n) m end e h =
+      rw (suc-add)
+      (one-event (hasEvent 0 (set / 2 ^ e)) (timeIn (r .previous) e) end e (n + m)
+      (rw (y) (and-yes _ ∙ here e)) (rw (lt-ltb e (2 * p .jobs) (omega arith)))
+      ∙ previous-part y n m _ (suc e) (omega arith) ∙ rw (shift-half, suc-add, add-suc))
+
+  -- 'The terms of the first window are the same, without those that name the previous window.'
+  no-previous-part : r .«has_previous» ≡ false → (n m : ℕ) (end : ℤ) (e : ℕ) → e + n ≤ 2 * p .jobs
+      → endFrom pick p r set cs row end e (n + m) ≡ endFrom pick p r set cs row end (e + n) m
+  unfolding isInForce
+  no-previous-part y zero m end e h = rw (zero-add, add-zero)
+  no-previous-part y (suc n) m end e h =
+      rw (suc-add)
+      (one-event false (timeOf p r e) end e (n + m) (rw (y, lt-leb (2 * p .jobs) e (omega arith)) (and-no (hasEvent e set))) refl
+      ∙ no-previous-part y n m end (suc e) (omega arith) ∙ rw (suc-add, add-suc))
+
+  or-yes : (b : Bool) → (b || true) ≡ true
+  or-yes true = refl
+  or-yes false = refl
+
+  present-part : (n : ℕ) (end : ℤ) (k : ℕ)
+      → endFrom pick p r set cs row end (2 * p .jobs + k) n
+      ≡ endIn pick (r .present) (set / 2 ^ (2 * p .jobs) / 2 ^ k) cs (row + 2 * p .jobs) end k n
+  unfolding endFrom endIn timeOf isInForce
+  present-part zero end k = refl
+  present-part (suc n) end k =
+      let jobs2 = 2 * p .jobs in
+      let now = cond (hasEvent 0 (set / 2 ^ jobs2 / 2 ^ k)) (pick end (timeIn (r .present) k +ℤ getD cs (row + (jobs2 + k)) (pos 0))) end in
+      one-event (hasEvent 0 (set / 2 ^ jobs2 / 2 ^ k)) (timeIn (r .present) k) end (jobs2 + k) n
+      (rw (le-leb jobs2 (jobs2 + k) (omega arith), or-yes)
+      (and-yes _ ∙ hasEvent-shift jobs2 k set ∙ ap (λ (x : ℕ). hasEvent x (set / 2 ^ jobs2)) (sym (add-zero k)) ∙ hasEvent-shift k 0 (set / 2 ^ jobs2)))
+      (rw (le-ltb (jobs2 + k) jobs2 (omega arith), add-sub-cancel-left))
+      ∙ (rw (add-suc) at (present-part n now (suc k))) ∙ rw (shift-half, add-assoc)
+
+  present-whole : (n : ℕ) (end : ℤ)
+      → endFrom pick p r set cs row end (2 * p .jobs) n ≡ endIn pick (r .present) (set / 2 ^ (2 * p .jobs)) cs (row + 2 * p .jobs) end 0 n
+  present-whole n end = rw (add-zero, div-one) at (present-part n end 0)
+
+  end-by : (i : ℕ) (end : ℤ) (b : Bool) → r .«has_previous» ≡ b
+      → endFrom pick p r set cs row end 0 (2 * p .jobs + 2 * i)
+      ≡ endIn pick (r .present) (set / 2 ^ (2 * p .jobs)) cs (row + 2 * p .jobs)
+      (cond b (endIn pick (r .previous) set cs row end 0 (2 * p .jobs)) end) 0 (2 * i)
+  end-by i end true y =
+      previous-part y (2 * p .jobs) (2 * i) end 0 (omega arith)
+      ∙ rw (zero-add, div-one) (present-whole (2 * i) _)
+  end-by i end false y =
+      no-previous-part y (2 * p .jobs) (2 * i) end 0 (omega arith)
+      ∙ rw (zero-add) (present-whole (2 * i) _)
+
+  pub endOf-is : (i : ℕ) (end : ℤ) → endFrom pick p r set cs row end 0 (eventsBefore p i) ≡ endOf pick (p .jobs) i r set cs row end
+  unfolding endOf
+  endOf-is i end = rw (mul-add) (end-by i end (r .«has_previous») refl)
+
+module _ (pick : ℤ → ℤ → ℤ) (jobs i : ℕ) (r : Run) (set : ℕ) (cs : List ℤ) (row : ℕ) (end : ℤ) where
+  pub endOf-later : r .«has_previous» ≡ true → (far : ℤ) → far ≡ endIn pick (r .previous) set cs row end 0 (2 * jobs)
+      → endIn pick (r .present) (set / 2 ^ (2 * jobs)) cs (row + 2 * jobs) far 0 (2 * i) ≡ endOf pick jobs i r set cs row end
+  unfolding endOf
+  endOf-later y far e = rw (y, e)
+
+  pub endOf-first : r .«has_previous» ≡ false
+      → endIn pick (r .present) (set / 2 ^ (2 * jobs)) cs (row + 2 * jobs) end 0 (2 * i) ≡ endOf pick jobs i r set cs row end
+  unfolding endOf
+  endOf-first y = rw (y)

@@ -1,0 +1,107 @@
+// The two ends of an offer, worked out along the bits of the events that bound a start.
+
+use crate::MOST_TERMS;
+use crate::Probe;
+use crate::Run;
+use clock::RunTime;
+use plan::MOST_JOBS;
+use rounds::MOST_EVENTS;
+ghost use mathlib.Core.Path.{_≡_};
+ghost use Prim.Native.Nat.{_+_, _*_, _≤_, _<_};
+ghost use Rattle.rounds.specs.Calendars.{mostEvents};
+ghost use Rattle.runs.specs.Ends.{pickOf, pickedTime, timeOn, endIn, endOf, TermsFit, EndFits};
+
+// The earlier of two times at the upper end, the later one at the lower end.
+fn picked(upper: bool, t: RunTime, u: RunTime) -> RunTime
+    ensures { λ r. ⌜ r ≡ pickedTime upper t u ⌝ }
+{
+    if upper {
+        if clock::is_earlier(u, t) {
+            return u;
+        }
+        return t;
+    }
+    if clock::is_earlier(t, u) {
+        return u;
+    }
+    t
+}
+
+// The time of an event of the job that a probe has done: its start, or its finish.
+fn time_on(q: Probe, e: usize) -> RunTime
+    ensures { λ r. ⌜ r ≡ timeOn q e ⌝ }
+{
+    if e % 2 == 0 {
+        let start = q.start;
+        return start;
+    }
+    let finish = q.finish;
+    finish
+}
+
+// An end and the terms of one window's first count events, those of the set; the c of event e stands at place row + e. Only members cost a turn.
+fn end_in(
+    upper: bool,
+    seen: [Probe; MOST_JOBS],
+    set: u64,
+    cs: &[i32; MOST_TERMS],
+    row: usize,
+    end: RunTime,
+    count: usize,
+) -> RunTime
+    requires { ⌜ count ≤ 18 ⌝ }
+    requires { ⌜ row + count ≤ 324 ⌝ }
+    requires { ⌜ TermsFit seen set (now cs) row 0 count ⌝ }
+    ensures { λ r. ⌜ r .0 ≡ endIn (pickOf upper) seen set (now (cs .entry)) row (end .0) 0 count ⌝ }
+{
+    let mut end = end;
+    let mut rest = set;
+    let mut e: usize = 0;
+    while rest != 0 {
+        let gap = u64::trailing_zeros(rest) as u64;
+        let k = e + gap as usize;
+        if count <= k {
+            return end;
+        }
+        let job = k / 2;
+        let place = row + k;
+        let q = seen[job];
+        let c = cs[place];
+        let t = time_on(q, k);
+        let term = clock::moved_by(t, c);
+        end = picked(upper, end, term);
+        rest = rest >> gap;
+        rest = rest >> 1;
+        e = k + 1;
+    }
+    end
+}
+
+// An end and the terms of both windows: those of the previous one, if there is one, and those of the present window's jobs before the one at place i.
+pub fn end_of(
+    upper: bool,
+    jobs: usize,
+    i: usize,
+    run: Run,
+    set: u64,
+    cs: &[i32; MOST_TERMS],
+    end: RunTime,
+) -> RunTime
+    requires { ⌜ jobs ≤ 9 ⌝ }
+    requires { ⌜ i < 9 ⌝ }
+    requires { ⌜ EndFits jobs i run set (now cs) ⌝ }
+    ensures { λ r. ⌜ r .0 ≡ endOf (pickOf upper) jobs i run set (now (cs .entry)) (i * mostEvents) (end .0) ⌝ }
+{
+    let own = 2 * jobs;
+    let before = 2 * i;
+    let row = i * MOST_EVENTS;
+    let next = row + own;
+    let rest = set >> own;
+    let present = run.present;
+    if run.has_previous {
+        let previous = run.previous;
+        let far = end_in(upper, previous, set, cs, row, end, own);
+        return end_in(upper, present, rest, cs, next, far, before);
+    }
+    end_in(upper, present, rest, cs, next, end, before)
+}
