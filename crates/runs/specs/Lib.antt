@@ -4,6 +4,8 @@ pub mod ValueLimits
 pub mod Offers
 pub mod Steps
 pub mod Ends
+pub mod Due
 -- ---- laws
 pub mod EndLaws
+pub mod DueLaws
 pub mod OfferLaws

@@ -1,10 +1,13 @@
 // Runs: what a run has seen, the offer for its next start, and the steps that ask, start and finish.
 
 mod ends;
+mod offers;
+mod steps;
 
 use clock::RunTime;
 use plan::MOST_JOBS;
 use plan::Refusal;
+use rounds::Terms;
 
 // The places of a calendar's c on one side: a row of rounds::MOST_EVENTS for each job.
 const MOST_TERMS: usize = 324;
@@ -87,4 +90,13 @@ pub enum Answer {
 pub struct Answered {
     pub answer: Answer,
     pub run: Run,
+}
+
+// What a step reads of its plan and its calendar: the plan's window, last and jobs, and the limits and the terms of the job that is due.
+pub struct Due {
+    pub window: i32,
+    pub last: u64,
+    pub jobs: usize,
+    pub job: plan::Job,
+    pub terms: Terms,
 }

@@ -1,0 +1,77 @@
+-- A step that reads of its plan and its calendar only what they say of the job that is due comes to the same answer.
+use Prim.Native.Nat.{ℕ, zero, suc, _+_, _*_, _-_, _≤_, _<_}
+use mathlib.Core.Path.{_≡_, refl, sym, ap, ap₂, subst, _∙_}
+use mathlib.Core.Bool.{Bool, true, false, cond}
+use mathlib.Core.List.{List}
+use native.Mathlib.Omega.{arith}
+use lib.IntN.{ℤ, pos}
+use lib.ListN.{getD, replicate, getD-replicate}
+use borrow.Author.Tests.{lt-ltb, le-ltb}
+use Rattle.clock.specs.declared.RunTime.{RunTime}
+use Rattle.clock.specs.Clock.{onRun}
+use Rattle.plan.specs.declared.Plan.{Plan}
+use Rattle.plan.specs.declared.Refusal.the-variants as refusal
+use Rattle.plan.specs.Limits.{mostJobs}
+use Rattle.rounds.specs.declared.Terms.{Terms}
+use Rattle.rounds.specs.declared.Calendar.{Calendar}
+use Rattle.rounds.specs.Calendars.{mostEvents, noTerms}
+use Rattle.runs.specs.declared.Due.{Due}
+use Rattle.runs.specs.declared.Offer.{Offer}
+use Rattle.runs.specs.declared.Opening.the-variants.{Open, Shut}
+use Rattle.runs.specs.declared.Phase.{Phase}
+use Rattle.runs.specs.declared.Phase.the-variants.{Waiting, Running}
+use Rattle.runs.specs.declared.Run.{Run}
+use Rattle.runs.specs.Offers.{greater, lesser, offerOf, opened, openingIn, opening}
+use Rattle.runs.specs.Ends.{pickOf, endOf}
+use Rattle.runs.specs.EndLaws.{endOf-is}
+use Rattle.runs.specs.Due.{duePlan, dueCalendar, dueOf, OfferInside, FinishInside, PhaseInside, StepInside}
+
+-- ---- the offer
+
+-- the offer of job i, from its terms
+offer-terms : Due → Terms → List ℤ → List ℤ → Run → ℕ → ℕ → Offer
+offer-terms d t cs ds r j i =
+    record {
+      from = record { 0 = endOf greater (d .jobs) (i - 1) r (t .below .0) cs ((i - 1) * mostEvents) (onRun (d .window) j (t .low) .0) };
+      to = record { 0 = endOf lesser (d .jobs) (i - 1) r (t .above .0) ds ((i - 1) * mostEvents) (onRun (d .window) j (t .high) .0) };
+    }
+
+offer-is : (d : Due) (cs ds : List ℤ) (r : Run) (j i : ℕ) (t : Terms) → getD (replicate mostJobs (d .terms)) (i - 1) noTerms ≡ t
+    → offerOf (duePlan d) (dueCalendar d cs ds) r j i ≡ offer-terms d t cs ds r j i
+unfolding offerOf offer-terms
+offer-is d cs ds r j i t e =
+    rw (e, endOf-is greater (duePlan d) r, endOf-is lesser (duePlan d) r)
+
+module _ (d : Due) (cs ds : List ℤ) (r : Run) (j i : ℕ) (h : i ≤ mostJobs) where
+  pub offerOf-due : (from to : RunTime)
+      → from .0 ≡ endOf (pickOf false) (d .jobs) (i - 1) r (d .terms .below .0) cs ((i - 1) * mostEvents) (onRun (d .window) j (d .terms .low) .0)
+      → to .0 ≡ endOf (pickOf true) (d .jobs) (i - 1) r (d .terms .above .0) ds ((i - 1) * mostEvents) (onRun (d .window) j (d .terms .high) .0)
+      → record { from = from; to = to } ≡ offerOf (duePlan d) (dueCalendar d cs ds) r j i
+  unfolding offer-terms
+  offerOf-due from to p q =
+      ap₂ (λ (x y : ℤ). record { from = record { 0 = x }; to = record { 0 = y } }) p q
+      ∙ sym (offer-is d cs ds r j i (d .terms) (getD-replicate mostJobs (i - 1) (d .terms) noTerms (omega arith)))
+
+-- ---- what there is for an ask or a start
+
+module _ (p : Plan) (c : Calendar) (r : Run) (j i : ℕ) (e : r .phase ≡ Waiting j i) where
+  pub opening-over : p .last < j → opening p c r ≡ Shut refusal.Over
+  unfolding openingIn
+  opening-over h = rw (e, lt-ltb (p .last) j h)
+
+  pub opening-waiting : j ≤ p .last → opening p c r ≡ opened j i (offerOf p c r j i)
+  unfolding openingIn
+  opening-waiting h = rw (e, le-ltb (p .last) j h)
+
+pub opening-running : (p : Plan) (c : Calendar) (r : Run) (j i : ℕ) (t : RunTime) → r .phase ≡ Running j i t → opening p c r ≡ Shut refusal.Running
+unfolding openingIn
+opening-running p c r j i t e = rw (e)
+
+-- ---- the ranges, case by case of the phase
+
+module _ (d : Due) (cs ds : List ℤ) (r : Run) (h : StepInside d cs ds r) where
+  pub inside-waiting : (j i : ℕ) → r .phase ≡ Waiting j i → j ≤ d .last → OfferInside d cs ds r j i
+  inside-waiting j i e = subst (λ (f : Phase). PhaseInside d cs ds r f) e h
+
+  pub inside-running : (j i : ℕ) (t : RunTime) → r .phase ≡ Running j i t → FinishInside d j i t
+  inside-running j i t e = subst (λ (f : Phase). PhaseInside d cs ds r f) e h
