@@ -4,3 +4,5 @@ pub mod Events
 pub mod Judgements
 pub mod Tables
 pub mod Elimination
+-- ---- laws
+pub mod BuildLaws

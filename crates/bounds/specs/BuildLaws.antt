@@ -1,0 +1,118 @@
+-- What stands in a table that was built: `at (build k f) y z` is f y z below k, and nothing past it. A test of `anyBelow` that holds, holds
+-- somewhere; one that does not, holds nowhere. Events and nodes are one to one.
+use Prim.Native.Nat.{ℕ, zero, suc, _+_, _*_, _/_, _%_, _≤_, _<_}
+use mathlib.Core.Path.{_≡_, refl, sym, ap, subst, _∙_}
+use mathlib.Core.Logic.{_⊎_, inl, inr, ⊎-elim}
+use mathlib.Core.Bool.{Bool, true, false, cond, _||_}
+use mathlib.Core.List.{List, [], _∷_}
+use native.Mathlib.Omega.{arith}
+use lib.Dec.{eqb}
+use lib.ListN.{length, getD}
+use borrow.Author.Tests.{eq-eqb, ne-eqb}
+use Rattle.bounds.specs.declared.Event.{Event}
+use Rattle.bounds.specs.declared.Event.the-variants.{Origin, Start, Finish}
+use Rattle.bounds.specs.Events.{startNode, finishNode, nodeOf, eventOf}
+use Rattle.bounds.specs.Tables.{Cell, off, Rows, at, listed, build, anyBelow}
+
+-- ---- lists that are listed
+
+pub getD-listed : {A : Type 0} (k : ℕ) (f : ℕ → A) (i : ℕ) (d : A) → i < k → getD (listed k f) i d ≡ f i
+unfolding listed
+getD-listed zero f i d h = absurd (omega arith)
+getD-listed (suc k) f zero d h = refl
+getD-listed (suc k) f (suc i) d h = getD-listed k (λ i. f (suc i)) i d (omega arith)
+
+pub length-listed : {A : Type 0} (k : ℕ) (f : ℕ → A) → length (listed k f) ≡ k
+unfolding listed
+length-listed zero f = refl
+length-listed (suc k) f = ap suc (length-listed k (λ i. f (suc i)))
+
+pub listed-past : {A : Type 0} (k : ℕ) (f : ℕ → A) (i : ℕ) (d : A) → k ≤ i → getD (listed k f) i d ≡ d
+unfolding listed
+listed-past zero f i d h = refl
+listed-past (suc k) f zero d h = absurd (omega arith)
+listed-past (suc k) f (suc i) d h = listed-past k (λ i. f (suc i)) i d (omega arith)
+
+-- ---- tables that are built
+
+pub at-build : (k : ℕ) (f : ℕ → ℕ → Cell) (y z : ℕ) → y < k → z < k → at (build k f) y z ≡ f y z
+unfolding at
+at-build k f y z p q = ap (λ row. getD row z off) (getD-listed k (λ y. listed k (λ z. f y z)) y [] p) ∙ getD-listed k (λ z. f y z) z off q
+
+pub at-build-below : (k : ℕ) (f : ℕ → ℕ → Cell) (y z : ℕ) → k ≤ y → at (build k f) y z ≡ off
+unfolding at
+at-build-below k f y z p = ap (λ row. getD row z off) (listed-past k (λ y. listed k (λ z. f y z)) y [] p)
+
+pub at-build-right : (k : ℕ) (f : ℕ → ℕ → Cell) (y z : ℕ) → y < k → k ≤ z → at (build k f) y z ≡ off
+unfolding at
+at-build-right k f y z p q =
+    ap (λ row. getD row z off) (getD-listed k (λ y. listed k (λ z. f y z)) y [] p) ∙ listed-past k (λ z. f y z) z off q
+
+-- ---- tests
+
+or-some : (b c : Bool) → b || c ≡ true → (b ≡ true) ⊎ (c ≡ true)
+or-some true c h = inl refl
+or-some false c h = inr h
+
+or-none : (b c : Bool) → b || c ≡ false → (b ≡ false) × (c ≡ false)
+or-none true c h = absurd (let z : _≡_ {A = ℕ} 0 1 = cc in omega arith)
+or-none false c h = (refl, h)
+
+pub anyBelow-some : (k : ℕ) (f : ℕ → Bool) → anyBelow k f ≡ true → (i : ℕ) × (i < k) × (f i ≡ true)
+unfolding anyBelow
+anyBelow-some zero f h = absurd (let z : _≡_ {A = ℕ} 0 1 = cc in omega arith)
+anyBelow-some (suc k) f h =
+    ⊎-elim (λ e. (0, omega arith, e))
+    (λ e. let r = anyBelow-some k (λ i. f (suc i)) e in (suc (r .0), omega arith, r .2))
+    (or-some (f 0) (anyBelow k (λ i. f (suc i))) h)
+
+pub anyBelow-none : (k : ℕ) (f : ℕ → Bool) → anyBelow k f ≡ false → (i : ℕ) → i < k → f i ≡ false
+unfolding anyBelow
+anyBelow-none zero f h i p = absurd (omega arith)
+anyBelow-none (suc k) f h zero p = or-none (f 0) (anyBelow k (λ i. f (suc i))) h .0
+anyBelow-none (suc k) f h (suc i) p =
+    anyBelow-none k (λ i. f (suc i)) (or-none (f 0) (anyBelow k (λ i. f (suc i))) h .1) i (omega arith)
+
+-- ---- events and nodes
+
+event-start : (k m : ℕ) → m ≡ 2 * k → cond (eqb (m % 2) 0) (Start (m / 2)) (Finish (m / 2)) ≡ Start k
+event-start k m e =
+    let even : m % 2 ≡ 0 = omega arith in
+    let half : m / 2 ≡ k = omega arith in
+    rw (eq-eqb (m % 2) 0 even, half)
+
+event-finish : (k m : ℕ) → m ≡ 1 + 2 * k → cond (eqb (m % 2) 0) (Start (m / 2)) (Finish (m / 2)) ≡ Finish k
+event-finish k m e =
+    let odd : m % 2 ≡ 0 → ⊥ = omega arith in
+    let half : m / 2 ≡ k = omega arith in
+    rw (ne-eqb (m % 2) 0 odd, half)
+
+pub eventOf-start : (k : ℕ) → eventOf (startNode k) ≡ Start k
+unfolding eventOf
+eventOf-start k = ap eventOf (suc-of (2 * k)) ∙ event-start k (2 * k) refl
+  where
+    suc-of : (m : ℕ) → 1 + m ≡ suc m
+    suc-of m = omega arith
+
+pub eventOf-finish : (k : ℕ) → eventOf (finishNode k) ≡ Finish k
+unfolding eventOf
+eventOf-finish k = ap eventOf (suc-of (2 * k)) ∙ event-finish k (1 + 2 * k) refl
+  where
+    suc-of : (m : ℕ) → 2 + m ≡ suc (1 + m)
+    suc-of m = omega arith
+
+pub eventOf-nodeOf : (e : Event) → eventOf (nodeOf e) ≡ e
+unfolding nodeOf eventOf
+eventOf-nodeOf Origin = refl
+eventOf-nodeOf (Start k) = eventOf-start k
+eventOf-nodeOf (Finish k) = eventOf-finish k
+
+-- a node is the origin, a start or a finish
+byNode-after : (P : ℕ → Type 0) (m r : ℕ) → r < 2 → m % 2 ≡ r → ((k : ℕ) → P (startNode k)) → ((k : ℕ) → P (finishNode k)) → P (suc m)
+byNode-after P m zero p e s f = let h : startNode (m / 2) ≡ suc m = omega arith in subst P h (s (m / 2))
+byNode-after P m (suc zero) p e s f = let h : finishNode (m / 2) ≡ suc m = omega arith in subst P h (f (m / 2))
+byNode-after P m (suc (suc r)) p e s f = absurd (omega arith)
+
+pub byNode : (P : ℕ → Type 0) → P 0 → ((k : ℕ) → P (startNode k)) → ((k : ℕ) → P (finishNode k)) → (y : ℕ) → P y
+byNode P o s f zero = o
+byNode P o s f (suc m) = byNode-after P m (m % 2) (omega arith) refl s f

@@ -1,0 +1,4 @@
+-- What a way to choose the starts is, from first principles, and that the verdict and the offers of document 01 answer exactly that. In
+-- reading order: histories, what it is that a history keeps the plan's bounds, and what a strategy is. These three are definitions alone.
+pub mod Histories
+pub mod Strategies

@@ -1,0 +1,71 @@
+-- What a strategy is: 002's Definitions 3 and 4, with document 01's bounds. Nothing is named here but the plan's own numbers and bounds.
+use Prim.Native.Nat.{ℕ, zero, suc, _*_, _<_}
+use mathlib.Core.List.{List, [], _∷_, List·Memᴰ}
+use lib.IntN.{ℤ, _+ℤ_, _-ℤ_}
+use lib.Signed.{_≤ℤ_}
+use lib.ListN.{length, getD}
+use Rattle.plan.specs.declared.Kind.{Kind}
+use Rattle.plan.specs.declared.Kind.the-variants as kind
+use Rattle.plan.specs.declared.EventName.{EventName}
+use Rattle.plan.specs.declared.Bound.{Bound}
+use Rattle.plan.specs.declared.Plan.{Plan}
+use Rattle.plan.specs.PlanWritten.{boundsOf}
+use Rattle.rounds.specs.Given.{placeOf}
+use Rattle.strategy.specs.Histories.{Ran, History, noRan, ranFor, turn, seenFrom}
+
+-- ---- the bounds of one window and the next, over what was seen from that window on, on its own clock
+
+abbrev pub ranIn : History → ℕ → Ran
+ranIn u k = getD u k noRan
+
+-- which job of the two windows an event is of, from 0, and when the event was
+abbrev pub placeIn : Plan → EventName → ℕ
+placeIn p e = placeOf p (e .letter) (e .job)
+
+abbrev pub kindIn : Kind → Ran → ℤ
+kindIn kind.Start r = r .start
+kindIn kind.Finish r = r .finish
+
+abbrev pub timeIn : Plan → History → EventName → ℤ
+timeIn p u e = kindIn (e .kind) (ranIn u (placeIn p e))
+
+-- '`bound=A,B,c` means A - B <= c.'
+abbrev pub GivenKept : Plan → History → Bound → Type 0
+GivenKept p u d =
+    placeIn p (d .a) < length u → placeIn p (d .b) < length u → (timeIn p u (d .a) -ℤ timeIn p u (d .b)) ≤ℤ d .c
+
+-- every bound whose events have been seen
+pub record KeptIn (p : Plan) (u : History) : Type 0 where
+  -- 'release', 'deadline'
+  pub released : (i : ℕ) → i < p .jobs → i < length u → turn p i .release ≤ℤ ranIn u i .start
+  pub inTime : (i : ℕ) → i < p .jobs → i < length u → ranIn u i .finish ≤ℤ turn p i .deadline
+  -- 'the finish of job i is at most the start of job i+1', 'the last finish is at most the next window's first start'
+  pub ordered : (i : ℕ) → i < p .jobs → suc i < length u → ranIn u i .finish ≤ℤ ranIn u (suc i) .start
+  -- 'all given bounds'
+  pub given : (d : Bound) → List·Memᴰ d (boundsOf p) → GivenKept p u d
+
+-- every bound of every window and of every two neighbours
+abbrev pub Kept : Plan → History → Type 0
+Kept p h = (j : ℕ) → KeptIn p (seenFrom p j h)
+
+-- ---- strategies
+
+-- 'exists s :: for all e in [l, u] :: ..', for the next g jobs one after the other: their starts can be chosen, each in the light of all that has
+-- been seen, so that Q holds of the history in the end, whatever the running times
+unfoldable pub Forced : Plan → (History → Type 0) → ℕ → History → Type 0
+Forced p Q zero h = Q h
+Forced p Q (suc g) h =
+    (t : ℤ)
+    × ((e : ℤ) → turn p (length h) .min ≤ℤ e → e ≤ℤ turn p (length h) .max → Forced p Q g (ranFor h t e))
+
+-- Definition 3, after a history: the next g jobs can be started so that every bound is kept
+abbrev pub Strategy : Plan → History → ℕ → Type 0
+Strategy p h g = Forced p (Kept p) g h
+
+-- Definition 3: 'Schedulability' of k windows, from the beginning
+abbrev pub StrategyFor : Plan → ℕ → Type 0
+StrategyFor p k = Strategy p [] (k * p .jobs)
+
+-- Definition 4: of windows without end. 'schedulable if and only if' every number of windows is
+abbrev pub StrategyForAll : Plan → Type 0
+StrategyForAll p = (k : ℕ) → StrategyFor p k
