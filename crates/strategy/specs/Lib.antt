@@ -2,3 +2,12 @@
 -- reading order: histories, what it is that a history keeps the plan's bounds, and what a strategy is. These three are definitions alone.
 pub mod Histories
 pub mod Strategies
+-- ---- laws
+pub mod Keeping
+pub mod CellLaws
+pub mod JudgementLaws
+pub mod SetLaws
+pub mod EliminationLaws
+pub mod Soundness
+pub mod HistoryLaws
+pub mod PlaceLaws
