@@ -11,3 +11,7 @@ pub mod EliminationLaws
 pub mod Soundness
 pub mod HistoryLaws
 pub mod PlaceLaws
+pub mod GivenLaws
+pub mod WindowLaws
+pub mod SeenLaws
+pub mod KeptLaws

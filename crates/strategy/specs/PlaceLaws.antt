@@ -240,3 +240,97 @@ module _ (p : Plan) (sound : Sound p) (k : ℕ) (two : k < p .jobs + p .jobs) (t
   place-none e =
       ⊎-elim none-finish (λ (r : (v : Rows) × (withoutFinish p k t ≡ bounds v) × (withoutStart p k v ≡ contradiction)). none-start (r .0) (r .1) (r .2))
       (thenSet-none (withoutFinish p k t) (withoutStart p k) e)
+
+-- ---- several jobs: the last count of the places from low on
+
+module _ (p : Plan) (sound : Sound p) (low : ℕ) where
+  -- the game of these jobs
+  abbrev pub Played : ℕ → Rows → History → Type 0
+  Played count t u = Forced p (Keeps (nodes (low + count)) (at t)) count u
+
+  abbrev TidyBelow : ℕ → Rows → Type 0
+  TidyBelow count t = Tidy p (nodes (low + count)) t
+
+  -- the last of them, and the others before it
+  played-last : (count : ℕ) (t : Rows) (u : History) → Played (suc count) t u
+      → Forced p (Forced p (Keeps (nodes (suc (low + count))) (at t)) 1) count u
+  played-last count t u q =
+      forced-split p (Keeps (nodes (suc (low + count))) (at t)) count 1 u
+      (subst (λ g. Forced p (Keeps (nodes (suc (low + count))) (at t)) g u) (sym (add-one count))
+      (subst (λ n. Forced p (Keeps (nodes n) (at t)) (suc count) u) (add-suc low count) q))
+
+  played-before : (count : ℕ) (t : Rows) (u : History) → Forced p (Forced p (Keeps (nodes (suc (low + count))) (at t)) 1) count u
+      → Played (suc count) t u
+  played-before count t u q =
+      subst (λ n. Forced p (Keeps (nodes n) (at t)) (suc count) u) (sym (add-suc low count))
+      (subst (λ g. Forced p (Keeps (nodes (suc (low + count))) (at t)) g u) (add-one count)
+      (forced-join p (Keeps (nodes (suc (low + count))) (at t)) count 1 u q))
+
+  tidy-last : (count : ℕ) (t : Rows) → TidyBelow (suc count) t → Tidy p (nodes (suc (low + count))) t
+  tidy-last count t tidy = subst (λ n. Tidy p (nodes n) t) (add-suc low count) tidy
+
+  module _ (count : ℕ) (t t₂ : Rows) (e : eliminated p low (suc count) t ≡ bounds t₂) where
+    first-of : (v : Rows) × (withoutPlace p (low + count) t ≡ bounds v) × (eliminated p low count v ≡ bounds t₂)
+    unfolding eliminated
+    first-of = thenSet-bounds (withoutPlace p (low + count) t) (eliminated p low count) t₂ e
+
+  same-bounds : (t v : Rows) → bounds t ≡ bounds v → t ≡ v
+  same-bounds t v e = cc
+
+  pub elim-tidy : (count : ℕ) (t t₂ : Rows) → low + count ≤ p .jobs + p .jobs → TidyBelow count t → eliminated p low count t ≡ bounds t₂ → Tidy p (nodes low) t₂
+  unfolding eliminated
+  elim-tidy zero t t₂ two tidy e =
+      subst (λ n. Tidy p (nodes n) t₂) (add-zero low) (subst (λ t. Tidy p (nodes (low + 0)) t) (same-bounds t t₂ e) tidy)
+  elim-tidy (suc count) t t₂ two tidy e =
+      let r = first-of count t t₂ e in
+      elim-tidy count (r .0) t₂ (omega arith)
+      (place-tidy p sound (low + count) (omega arith) t (tidy-last count t tidy) (r .0) (r .1)) (r .2)
+
+  pub elim-keeps : (count : ℕ) (t t₂ : Rows) → low + count ≤ p .jobs + p .jobs → TidyBelow count t → eliminated p low count t ≡ bounds t₂
+      → (u : History) → length u ≡ low → Played count t u → Keeps (nodes low) (at t₂) u
+  unfolding eliminated Forced
+  elim-keeps zero t t₂ two tidy e u n q = λ y z a b.
+      subst (λ t. Holds (at t y z) (gap u y z)) (same-bounds t t₂ e) (q y z (omega arith) (omega arith))
+  elim-keeps (suc count) t t₂ two tidy e u n q =
+      let r = first-of count t t₂ e in
+      let t′ = tidy-last count t tidy in
+      elim-keeps count (r .0) t₂ (omega arith) (place-tidy p sound (low + count) (omega arith) t t′ (r .0) (r .1)) (r .2) u n
+      (forced-map p _ _ count u
+      (λ h f c. place-keeps p sound (low + count) (omega arith) t t′ (r .0) (r .1) h (f .size ∙ ap (λ n. n + count) n) c)
+      (played-last count t u q))
+
+  pub elim-back : (count : ℕ) (t t₂ : Rows) → low + count ≤ p .jobs + p .jobs → TidyBelow count t → eliminated p low count t ≡ bounds t₂
+      → (u : History) → length u ≡ low → Timely p u → Keeps (nodes low) (at t₂) u → Played count t u
+  unfolding eliminated Forced
+  elim-back zero t t₂ two tidy e u n old kept = λ y z a b.
+      subst (λ t. Holds (at t y z) (gap u y z)) (sym (same-bounds t t₂ e)) (kept y z (omega arith) (omega arith))
+  elim-back (suc count) t t₂ two tidy e u n old kept =
+      let r = first-of count t t₂ e in
+      let t′ = tidy-last count t tidy in
+      played-before count t u
+      (forced-map p _ _ count u
+      (λ h f c. place-back p sound (low + count) (omega arith) t t′ (r .0) (r .1) h (f .size ∙ ap (λ n. n + count) n) (f .timely old) c)
+      (elim-back count (r .0) t₂ (omega arith) (place-tidy p sound (low + count) (omega arith) t t′ (r .0) (r .1)) (r .2) u n old kept))
+
+  not-none : (t : Rows) → bounds t ≡ contradiction → ⊥
+  not-none t e = let z : _≡_ {A = ℕ} 0 1 = cc in omega arith
+
+  pub elim-none : (count : ℕ) (t : Rows) → low + count ≤ p .jobs + p .jobs → TidyBelow count t → eliminated p low count t ≡ contradiction
+      → Fails p low (Played count t)
+  unfolding eliminated
+  elim-none zero t two tidy e = absurd (not-none t e)
+  elim-none (suc count) t two tidy e =
+      let t′ = tidy-last count t tidy in
+      let low-enough : low + count < p .jobs + p .jobs = omega arith in
+      ⊎-elim
+      (λ (c : withoutPlace p (low + count) t ≡ contradiction).
+      fails-map p sound _ _ low (λ h n old q. played-last count t h q)
+      (fails-before p sound _ low count (place-none p sound (low + count) low-enough t t′ c)))
+      (λ (r : (v : Rows) × (withoutPlace p (low + count) t ≡ bounds v) × (eliminated p low count v ≡ contradiction)).
+      fails-map p sound _ _ low
+      (λ h n old q.
+      forced-map p _ _ count h
+      (λ h′ f c. place-keeps p sound (low + count) low-enough t t′ (r .0) (r .1) h′ (f .size ∙ ap (λ n. n + count) n) c)
+      (played-last count t h q))
+      (elim-none count (r .0) (omega arith) (place-tidy p sound (low + count) low-enough t t′ (r .0) (r .1)) (r .2)))
+      (thenSet-none (withoutPlace p (low + count) t) (eliminated p low count) e)

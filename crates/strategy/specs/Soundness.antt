@@ -1,10 +1,29 @@
--- What the laws use of a plan that was accepted: it has a job, and no job's min is above its max.
-use Prim.Native.Nat.{ℕ, _<_}
+-- What the laws use of a plan that was accepted.
+use Prim.Native.Nat.{ℕ, _≤_, _<_}
+use mathlib.Core.Path.{_≡_}
+use mathlib.Core.Bool.{Bool, true, false}
+use mathlib.Core.List.{List·Memᴰ}
 use lib.Signed.{_≤ℤ_}
 use lib.ListN.{getD}
+use Rattle.plan.specs.declared.Bound.{Bound}
+use Rattle.plan.specs.declared.EventName.{EventName}
 use Rattle.plan.specs.declared.Plan.{Plan}
+use Rattle.plan.specs.EventNames.{isNext}
 use Rattle.plan.specs.PlanRead.{noJob}
+use Rattle.plan.specs.PlanWritten.{boundsOf}
+
+-- 'a job digit of 0 or above `jobs`' is refused
+pub record NamesJob (p : Plan) (e : EventName) : Type 0 where
+  pub least : 0 < e .job
+  pub most : e .job ≤ p .jobs
+
+-- and so is a pair 'both events n'
+pub record SoundBound (p : Plan) (d : Bound) : Type 0 where
+  pub a : NamesJob p (d .a)
+  pub b : NamesJob p (d .b)
+  pub one-this : isNext (d .a .letter) ≡ true → isNext (d .b .letter) ≡ false
 
 pub record Sound (p : Plan) : Type 0 where
   pub some-job : 0 < p .jobs
   pub min-max : (i : ℕ) → i < p .jobs → getD (p .job) i noJob .min ≤ℤ getD (p .job) i noJob .max
+  pub bounds : (d : Bound) → List·Memᴰ d (boundsOf p) → SoundBound p d

@@ -1,0 +1,249 @@
+-- The bounds of a plan before they are judged, and what they say of times: a window's own bounds and those between windows are kept exactly if
+-- the plan's bounds are, where each start leaves its job the longest running time before the deadline (that is the start's latest).
+use Prim.Native.Nat.{ℕ, zero, suc, _+_, _*_, _-_, _≤_, _<_}
+use mathlib.Core.Path.{_≡_, refl, sym, ap, subst, _∙_}
+use mathlib.Core.Logic.{_⊎_, inl, inr, ⊎-elim}
+use mathlib.Core.Bool.{Bool, true, false, cond, _&&_, _||_}
+use mathlib.Core.List.{List, [], _∷_, _++_, List·Memᴰ, List·Memᴰ·head, List·Memᴰ·tail, List·Memᴰ·not-nil, List·Memᴰ·cases-cons}
+use native.Mathlib.Omega.{arith}
+use lib.Dec.{eqb, ltb}
+use lib.IntN.{ℤ, pos, negℤ, _+ℤ_, _-ℤ_}
+use lib.Signed.{_≤ℤ_}
+use lib.ListN.{length, getD}
+use borrow.Author.Tests.{eq-eqb, eqb-true, lt-ltb}
+use Rattle.whole.specs.SplitLaws.{split-neg, split-add, split-sub}
+use Rattle.whole.specs.Rules.{wholes}
+use Rattle.plan.specs.declared.Letter.{Letter}
+use Rattle.plan.specs.declared.Letter.the-variants.{This, Next}
+use Rattle.plan.specs.declared.Kind.{Kind}
+use Rattle.plan.specs.declared.Kind.the-variants as kind
+use Rattle.plan.specs.declared.EventName.{EventName}
+use Rattle.plan.specs.declared.Bound.{Bound}
+use Rattle.plan.specs.declared.Plan.{Plan}
+use Rattle.plan.specs.EventNames.{isNext}
+use Rattle.plan.specs.PlanWritten.{boundsOf}
+use Rattle.bounds.specs.declared.Event.{Event}
+use Rattle.bounds.specs.declared.Event.the-variants.{Origin, Start, Finish}
+use Rattle.bounds.specs.Events.{isThis, jobAt, shift, earliest, latest, eventOf, nodeOf, startNode, finishNode, nodes}
+use Rattle.bounds.specs.Tables.{Cell, off, upto, least, Between, leastOf}
+use Rattle.bounds.specs.BuildLaws.{eventOf-nodeOf}
+use Rattle.rounds.specs.Given.{placeOf, eventAt, named, meant, hasNext, givenBounds, upTo, downTo, inOrder, ranges, orders, ownBounds, betweenBounds}
+use Rattle.strategy.specs.Histories.{Ran, History, turn}
+use Rattle.strategy.specs.Strategies.{ranIn, placeIn, kindIn, timeIn, GivenKept, KeptIn}
+use Rattle.strategy.specs.Keeping.{Holds, when, gap, Keeps, RunsWithin, Timely}
+use Rattle.strategy.specs.CellLaws.{least-iff}
+use Rattle.strategy.specs.SetLaws.{jobAt-turn}
+use Rattle.strategy.specs.EliminationLaws.{below-or-last}
+use Rattle.strategy.specs.Soundness.{NamesJob, SoundBound, Sound}
+
+-- ---- what holds of all bounds of a list
+
+abbrev pub All : (Between → Type 0) → List Between → Type 0
+All P bs = (b : Between) → List·Memᴰ b bs → P b
+
+all-nil : (P : Between → Type 0) → All P []
+all-nil P b m = absurd (List·Memᴰ·not-nil m)
+
+all-cons : (P : Between → Type 0) (a : Between) (bs : List Between) → P a → All P bs → All P (a ∷ bs)
+all-cons P a bs h f b m = ⊎-elim (λ (e : b ≡ a). subst P (sym e) h) (λ n. f b n) (List·Memᴰ·cases-cons m)
+
+all-first : (P : Between → Type 0) (a : Between) (bs : List Between) → All P (a ∷ bs) → P a
+all-first P a bs f = f a (List·Memᴰ·head refl)
+
+all-others : (P : Between → Type 0) (a : Between) (bs : List Between) → All P (a ∷ bs) → All P bs
+all-others P a bs f b m = f b (List·Memᴰ·tail m)
+
+all-join : (P : Between → Type 0) (xs bs : List Between) → All P xs → All P bs → All P (xs ++ bs)
+all-join P [] bs f g = g
+all-join P (a ∷ xs) bs f g = all-cons P a (xs ++ bs) (all-first P a xs f) (all-join P xs bs (all-others P a xs f) g)
+
+all-left : (P : Between → Type 0) (xs bs : List Between) → All P (xs ++ bs) → All P xs
+all-left P [] bs f = all-nil P
+all-left P (a ∷ xs) bs f = all-cons P a xs (all-first P a (xs ++ bs) f) (all-left P xs bs (all-others P a (xs ++ bs) f))
+
+all-right : (P : Between → Type 0) (xs bs : List Between) → All P (xs ++ bs) → All P bs
+all-right P [] bs f = f
+all-right P (a ∷ xs) bs f = all-right P xs bs (all-others P a (xs ++ bs) f)
+
+-- ---- the least weight of a list
+
+and-true : (a b : Bool) → a && b ≡ true → (a ≡ true) × (b ≡ true)
+and-true true b h = (refl, h)
+and-true false b h = absurd (let z : _≡_ {A = ℕ} 0 1 = cc in omega arith)
+
+module _ (y z : ℕ) (x : ℤ) where
+  -- b says something of the pair y, z, and x keeps it
+  abbrev Says : Between → Type 0
+  Says b = nodeOf (b .y) ≡ y → nodeOf (b .z) ≡ z → x ≤ℤ b .w
+
+  says-first : (b : Between) (c : Cell) (t : Bool) → (eqb (nodeOf (b .y)) y && eqb (nodeOf (b .z)) z) ≡ t
+      → Holds (cond t (least (upto (b .w)) c) c) x → Says b × Holds c x
+  says-first b c true e h =
+      let r = least-iff (upto (b .w)) c x .0 h in
+      (λ i j. r .0, r .1)
+  says-first b c false e h = (
+    λ i j. absurd (let t : (eqb (nodeOf (b .y)) y && eqb (nodeOf (b .z)) z) ≡ true = rw (eq-eqb (nodeOf (b .y)) y i, eq-eqb (nodeOf (b .z)) z j) in
+        let z : _≡_ {A = ℕ} 0 1 = cc in omega arith),
+    h,
+  )
+
+  first-says : (b : Between) (c : Cell) (t : Bool) → (eqb (nodeOf (b .y)) y && eqb (nodeOf (b .z)) z) ≡ t
+      → Says b → Holds c x → Holds (cond t (least (upto (b .w)) c) c) x
+  first-says b c true e s h =
+      let r = and-true (eqb (nodeOf (b .y)) y) (eqb (nodeOf (b .z)) z) e in
+      least-iff (upto (b .w)) c x .1 (s (eqb-true (nodeOf (b .y)) y (r .0)) (eqb-true (nodeOf (b .z)) z (r .1)), h)
+  first-says b c false e s h = h
+
+  leastOf-says : (bs : List Between) → Holds (leastOf bs y z) x → All Says bs
+  unfolding leastOf
+  leastOf-says [] h = all-nil Says
+  leastOf-says (b ∷ bs) h =
+      let r = says-first b (leastOf bs y z) _ refl h in
+      all-cons Says b bs (r .0) (leastOf-says bs (r .1))
+
+  says-leastOf : (bs : List Between) → All Says bs → Holds (leastOf bs y z) x
+  unfolding leastOf
+  says-leastOf [] f = tt
+  says-leastOf (b ∷ bs) f = first-says b (leastOf bs y z) _ refl (all-first Says b bs f) (says-leastOf bs (all-others Says b bs f))
+
+-- ---- times that keep a list of bounds
+
+abbrev pub BetweenKept : History → Between → Type 0
+BetweenKept u b = (when u (b .z) -ℤ when u (b .y)) ≤ℤ b .w
+
+pub record Below (k : ℕ) (b : Between) : Type 0 where
+  pub y : nodeOf (b .y) < k
+  pub z : nodeOf (b .z) < k
+
+pub leastOf-kept : (k : ℕ) (bs : List Between) (u : History) → All (Below k) bs → Keeps k (leastOf bs) u → All (BetweenKept u) bs
+leastOf-kept k bs u low kept b m =
+    let l = low b m in
+    let h = leastOf-says (nodeOf (b .y)) (nodeOf (b .z)) _ bs (kept (nodeOf (b .y)) (nodeOf (b .z)) (l .y) (l .z)) b m refl refl in
+    rw (eventOf-nodeOf (b .y), eventOf-nodeOf (b .z)) at h
+
+pub kept-leastOf : (k : ℕ) (bs : List Between) (u : History) → All (BetweenKept u) bs → Keeps k (leastOf bs) u
+kept-leastOf k bs u kept y z a b =
+    says-leastOf y z (gap u y z) bs
+    (λ d m i j.
+    rw (ap eventOf (sym i) ∙ eventOf-nodeOf (d .y), ap eventOf (sym j) ∙ eventOf-nodeOf (d .z)) (kept d m))
+
+-- ---- a bound that stands in a list where a test holds, or where it does not
+
+module _ (P : Between → Type 0) where
+  all-if : (n : Bool) (a : Between) (bs : List Between) → (n ≡ true → P a) → All P bs → All P (cond n (a ∷ bs) bs)
+  all-if true a bs h f = all-cons P a bs (h refl) f
+  all-if false a bs h f = f
+
+  all-unless : (n : Bool) (a : Between) (bs : List Between) → (n ≡ false → P a) → All P bs → All P (cond n bs (a ∷ bs))
+  all-unless true a bs h f = f
+  all-unless false a bs h f = all-cons P a bs (h refl) f
+
+  each-if : (n : Bool) (a : Between) (bs : List Between) → All P (cond n (a ∷ bs) bs) → (n ≡ true → P a) × All P bs
+  each-if true a bs f = (λ e. all-first P a bs f, all-others P a bs f)
+  each-if false a bs f = (λ e. absurd (let z : _≡_ {A = ℕ} 0 1 = cc in omega arith), f)
+
+  each-unless : (n : Bool) (a : Between) (bs : List Between) → All P (cond n bs (a ∷ bs)) → (n ≡ false → P a) × All P bs
+  each-unless true a bs f = (λ e. absurd (let z : _≡_ {A = ℕ} 0 1 = cc in omega arith), f)
+  each-unless false a bs f = (λ e. all-first P a bs f, all-others P a bs f)
+
+-- ---- the three parts of a window's own bounds
+
+module _ (P : Between → Type 0) where
+  module _ (p : Plan) where
+    -- the four bounds that one job's range makes
+    pub record Ranged (i : ℕ) : Type 0 where
+      pub startUp : P (upTo p (Start i))
+      pub startDown : P (downTo p (Start i))
+      pub finishUp : P (upTo p (Finish i))
+      pub finishDown : P (downTo p (Finish i))
+
+    all-ranges : (k : ℕ) → ((i : ℕ) → i < k → Ranged i) → All P (ranges p k)
+    unfolding ranges
+    all-ranges zero f = all-nil P
+    all-ranges (suc k) f =
+        let r = f k (omega arith) in
+        all-cons P _ _ (r .startUp)
+        (all-cons P _ _ (r .startDown)
+        (all-cons P _ _ (r .finishUp)
+        (all-cons P _ _ (r .finishDown) (all-ranges k (λ i h. f i (omega arith))))))
+
+    each-range : (k : ℕ) → All P (ranges p k) → (i : ℕ) → i < k → Ranged i
+    unfolding ranges
+    each-range zero f i h = absurd (omega arith)
+    each-range (suc k) f i h =
+        let f₁ = all-others P _ _ f in
+        let f₂ = all-others P _ _ f₁ in
+        let f₃ = all-others P _ _ f₂ in
+        ⊎-elim (λ (a : i < k). each-range k (all-others P _ _ f₃) i a)
+        (λ (a : i ≡ k).
+        subst Ranged (sym a)
+        (record { startUp = all-first P _ _ f; startDown = all-first P _ _ f₁; finishUp = all-first P _ _ f₂; finishDown = all-first P _ _ f₃ }))
+        (below-or-last i k h)
+
+    all-given : (t : Bool) (ds : List Bound) → ((d : Bound) → List·Memᴰ d ds → hasNext d ≡ t → P (meant p d)) → All P (givenBounds p t ds)
+    unfolding givenBounds
+    all-given t [] f = all-nil P
+    all-given true (d ∷ ds) f =
+        all-if P (hasNext d) (meant p d) (givenBounds p true ds) (f d (List·Memᴰ·head refl)) (all-given true ds (λ c m. f c (List·Memᴰ·tail m)))
+    all-given false (d ∷ ds) f =
+        all-unless P (hasNext d) (meant p d) (givenBounds p false ds) (f d (List·Memᴰ·head refl)) (all-given false ds (λ c m. f c (List·Memᴰ·tail m)))
+
+    each-given : (t : Bool) (ds : List Bound) → All P (givenBounds p t ds) → (d : Bound) → List·Memᴰ d ds → hasNext d ≡ t → P (meant p d)
+    unfolding givenBounds
+    each-given t [] f d m n = absurd (List·Memᴰ·not-nil m)
+    each-given true (c ∷ ds) f d m n =
+        let r = each-if P (hasNext c) (meant p c) (givenBounds p true ds) f in
+        ⊎-elim (λ (e : d ≡ c). subst (λ d. hasNext d ≡ true → P (meant p d)) (sym e) (r .0) n) (λ k. each-given true ds (r .1) d k n) (List·Memᴰ·cases-cons m)
+    each-given false (c ∷ ds) f d m n =
+        let r = each-unless P (hasNext c) (meant p c) (givenBounds p false ds) f in
+        ⊎-elim (λ (e : d ≡ c). subst (λ d. hasNext d ≡ false → P (meant p d)) (sym e) (r .0) n) (λ k. each-given false ds (r .1) d k n) (List·Memᴰ·cases-cons m)
+
+  all-orders : (k : ℕ) → ((i : ℕ) → i < k → P (inOrder i)) → All P (orders k)
+  unfolding orders
+  all-orders zero f = all-nil P
+  all-orders (suc k) f = all-cons P _ _ (f k (omega arith)) (all-orders k (λ i h. f i (omega arith)))
+
+  each-order : (k : ℕ) → All P (orders k) → (i : ℕ) → i < k → P (inOrder i)
+  unfolding orders
+  each-order zero f i h = absurd (omega arith)
+  each-order (suc k) f i h =
+      ⊎-elim (λ (a : i < k). each-order k (all-others P _ _ f) i a)
+      (λ (a : i ≡ k). subst (λ i. P (inOrder i)) (sym a) (all-first P _ _ f))
+      (below-or-last i k h)
+
+-- ---- the two lists as a whole
+
+module _ (P : Between → Type 0) (p : Plan) where
+  pub record OwnAll : Type 0 where
+    pub ranged : (i : ℕ) → i < p .jobs → Ranged P p i
+    pub ordered : (i : ℕ) → suc i < p .jobs → P (inOrder i)
+    pub given : (d : Bound) → List·Memᴰ d (boundsOf p) → hasNext d ≡ false → P (meant p d)
+
+  pub own-all : OwnAll → All P (ownBounds p)
+  unfolding ownBounds
+  own-all o =
+      all-join P (ranges p (p .jobs)) _ (all-ranges P p (p .jobs) (o .ranged))
+      (all-join P (orders (p .jobs - 1)) _ (all-orders P (p .jobs - 1) (λ i h. o .ordered i (omega arith)))
+      (all-given P p false (boundsOf p) (o .given)))
+
+  pub all-own : All P (ownBounds p) → OwnAll
+  unfolding ownBounds
+  all-own f =
+      let g = all-right P (ranges p (p .jobs)) _ f in
+      record {
+        ranged = each-range P p (p .jobs) (all-left P (ranges p (p .jobs)) _ f);
+        ordered = λ i h. each-order P (p .jobs - 1) (all-left P (orders (p .jobs - 1)) _ g) i (omega arith);
+        given = each-given P p false (boundsOf p) (all-right P (orders (p .jobs - 1)) _ g);
+      }
+
+  pub record AcrossAll : Type 0 where
+    pub ordered : P (inOrder (p .jobs - 1))
+    pub given : (d : Bound) → List·Memᴰ d (boundsOf p) → hasNext d ≡ true → P (meant p d)
+
+  pub across-all : AcrossAll → All P (betweenBounds p)
+  unfolding betweenBounds
+  across-all a = all-cons P _ _ (a .ordered) (all-given P p true (boundsOf p) (a .given))
+
+  pub all-across : All P (betweenBounds p) → AcrossAll
+  unfolding betweenBounds
+  all-across f = record { ordered = all-first P _ _ f; given = each-given P p true (boundsOf p) (all-others P _ _ f) }
