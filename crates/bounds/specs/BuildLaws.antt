@@ -6,9 +6,9 @@ use mathlib.Core.Logic.{_⊎_, inl, inr, ⊎-elim}
 use mathlib.Core.Bool.{Bool, true, false, cond, _||_}
 use mathlib.Core.List.{List, [], _∷_}
 use native.Mathlib.Omega.{arith}
-use lib.Dec.{eqb}
+use lib.Dec.{eqb, ltb}
 use lib.ListN.{length, getD}
-use borrow.Author.Tests.{eq-eqb, ne-eqb}
+use borrow.Author.Tests.{eq-eqb, ne-eqb, ltb-true, ltb-false}
 use Rattle.bounds.specs.declared.Event.{Event}
 use Rattle.bounds.specs.declared.Event.the-variants.{Origin, Start, Finish}
 use Rattle.bounds.specs.Events.{startNode, finishNode, nodeOf, eventOf}
@@ -39,14 +39,22 @@ pub at-build : (k : ℕ) (f : ℕ → ℕ → Cell) (y z : ℕ) → y < k → z 
 unfolding at
 at-build k f y z p q = ap (λ row. getD row z off) (getD-listed k (λ y. listed k (λ z. f y z)) y [] p) ∙ getD-listed k (λ z. f y z) z off q
 
-pub at-build-below : (k : ℕ) (f : ℕ → ℕ → Cell) (y z : ℕ) → k ≤ y → at (build k f) y z ≡ off
-unfolding at
-at-build-below k f y z p = ap (λ row. getD row z off) (listed-past k (λ y. listed k (λ z. f y z)) y [] p)
-
-pub at-build-right : (k : ℕ) (f : ℕ → ℕ → Cell) (y z : ℕ) → y < k → k ≤ z → at (build k f) y z ≡ off
+at-build-right : (k : ℕ) (f : ℕ → ℕ → Cell) (y z : ℕ) → y < k → k ≤ z → at (build k f) y z ≡ off
 unfolding at
 at-build-right k f y z p q =
     ap (λ row. getD row z off) (getD-listed k (λ y. listed k (λ z. f y z)) y [] p) ∙ listed-past k (λ z. f y z) z off q
+
+at-build-below : (k : ℕ) (f : ℕ → ℕ → Cell) (y z : ℕ) → k ≤ y → at (build k f) y z ≡ off
+unfolding at
+at-build-below k f y z p = ap (λ row. getD row z off) (listed-past k (λ y. listed k (λ z. f y z)) y [] p)
+
+past-at : (k : ℕ) (f : ℕ → ℕ → Cell) (y z : ℕ) (b : Bool) → ltb y k ≡ b → (k ≤ y) ⊎ (k ≤ z) → at (build k f) y z ≡ off
+past-at k f y z b e (inl h) = at-build-below k f y z h
+past-at k f y z true e (inr h) = at-build-right k f y z (ltb-true y k e) h
+past-at k f y z false e (inr h) = at-build-below k f y z (ltb-false y k e)
+
+pub at-build-past : (k : ℕ) (f : ℕ → ℕ → Cell) (y z : ℕ) → (k ≤ y) ⊎ (k ≤ z) → at (build k f) y z ≡ off
+at-build-past k f y z h = past-at k f y z (ltb y k) refl h
 
 -- ---- tests
 

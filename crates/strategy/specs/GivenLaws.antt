@@ -73,7 +73,7 @@ and-true false b h = absurd (let z : _≡_ {A = ℕ} 0 1 = cc in omega arith)
 
 module _ (y z : ℕ) (x : ℤ) where
   -- b says something of the pair y, z, and x keeps it
-  abbrev Says : Between → Type 0
+  abbrev pub Says : Between → Type 0
   Says b = nodeOf (b .y) ≡ y → nodeOf (b .z) ≡ z → x ≤ℤ b .w
 
   says-first : (b : Between) (c : Cell) (t : Bool) → (eqb (nodeOf (b .y)) y && eqb (nodeOf (b .z)) z) ≡ t
@@ -94,7 +94,7 @@ module _ (y z : ℕ) (x : ℤ) where
       least-iff (upto (b .w)) c x .1 (s (eqb-true (nodeOf (b .y)) y (r .0)) (eqb-true (nodeOf (b .z)) z (r .1)), h)
   first-says b c false e s h = h
 
-  leastOf-says : (bs : List Between) → Holds (leastOf bs y z) x → All Says bs
+  pub leastOf-says : (bs : List Between) → Holds (leastOf bs y z) x → All Says bs
   unfolding leastOf
   leastOf-says [] h = all-nil Says
   leastOf-says (b ∷ bs) h =

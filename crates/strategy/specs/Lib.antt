@@ -15,3 +15,5 @@ pub mod GivenLaws
 pub mod WindowLaws
 pub mod SeenLaws
 pub mod KeptLaws
+pub mod JoinedLaws
+pub mod RoundLaws

@@ -158,3 +158,19 @@ seen-next p j h =
     ∙ ran-next j (ranIn h (j * p .jobs + (1 * p .jobs + i))) (p .window)
     ∙ ap (λ k. since (pos (suc j) *ℤ p .window) (ranIn h k)) same
     ∙ sym (ran-seen p (suc j) h i low₃))
+
+-- the first window's clock is the run's
+since-zero : (x w : ℤ) → x -ℤ pos 0 *ℤ w ≡ x
+since-zero x w = let a = split-mul 0 w in omega wholes
+
+pub seen-all : (p : Plan) (h : History) → seenFrom p 0 h ≡ h
+seen-all p h =
+    let a = length-seen p 0 h in
+    ext-getD noRan (seenFrom p 0 h) h (omega arith)
+    (λ i l.
+    let low : 0 * p .jobs + i < length h = omega arith in
+    let same : 0 * p .jobs + i ≡ i = omega arith in
+    ran-seen p 0 h i low ∙ ap (λ k. since (pos 0 *ℤ p .window) (ranIn h k)) same ∙ ran-zero (ranIn h i) (p .window))
+  where
+    ran-zero : (r : Ran) (w : ℤ) → since (pos 0 *ℤ w) r ≡ r
+    ran-zero r w = λ i. record { start = since-zero (r .start) w i; finish = since-zero (r .finish) w i }

@@ -3,7 +3,7 @@
 -- to and from the origin are never left out, and they say it.
 use Prim.Native.Nat.{ℕ, zero, suc, _+_, _*_, _-_, _≤_, _<_, _%_}
 use mathlib.Core.Path.{_≡_, refl, sym, ap, subst, _∙_}
-use mathlib.Core.Logic.{_↔_}
+use mathlib.Core.Logic.{_⊎_}
 use mathlib.Core.Bool.{Bool, true, false, cond}
 use native.Mathlib.Omega.{arith}
 use native.Mathlib.Nat.{mod-eq-of-lt, mod-eq-sub-mod}
@@ -23,7 +23,7 @@ use Rattle.bounds.specs.declared.Judgement.the-variants.{Contradiction, LeftOut
 use Rattle.bounds.specs.Events.{isThis, jobAt, earliest, latest, eventOf, startNode, finishNode, nodes}
 use Rattle.bounds.specs.Judgements.{judged, judgedOrigin, judgedSame}
 use Rattle.bounds.specs.Tables.{Cell, off, upto, Rows, at, build, judgement, isContradiction, keptCell, anyBelow, Set, contradiction, bounds, contradicts, keptRows, judgedRows, judgedSet}
-use Rattle.bounds.specs.BuildLaws.{at-build, anyBelow-some, anyBelow-none, eventOf-start, eventOf-finish, byNode}
+use Rattle.bounds.specs.BuildLaws.{at-build, at-build-past, anyBelow-some, anyBelow-none, eventOf-start, eventOf-finish, byNode}
 use Rattle.strategy.specs.Histories.{Ran, History, turn}
 use Rattle.strategy.specs.Strategies.{ranIn}
 use Rattle.strategy.specs.Keeping.{Holds, when, gap, Keeps, RunsWithin, Timely, extreme, Extreme, InRange, Anchored, Sized}
@@ -109,6 +109,11 @@ module _ (p : Plan) (k : ℕ) (f : ℕ → ℕ → Cell) where
       ap (λ t. at t y z) (sym (set-bounds (contradicts p k (build k f)) _ t h .1))
       ∙ at-build k _ y z a b
       ∙ ap (λ c. keptCell (judgement p y z c) c) (at-build k f y z a b)
+
+  pub judgedSet-past : (t : Rows) → judgedSet p k f ≡ bounds t → (y z : ℕ) → (k ≤ y) ⊎ (k ≤ z) → at t y z ≡ off
+  unfolding judgedSet keptRows
+  judgedSet-past t h y z past =
+      ap (λ t. at t y z) (sym (set-bounds (contradicts p k (build k f)) _ t h .1)) ∙ at-build-past k _ y z past
 
   pub judgedSet-some : judgedSet p k f ≡ contradiction
       → (y : ℕ) × (z : ℕ) × (y < k) × (z < k) × (isContradiction (judgement p y z (f y z)) ≡ true)

@@ -1,0 +1,192 @@
+-- The round theorem: after whole windows, a strategy for m more windows exists exactly if the history keeps the plan's bounds and its last window
+-- keeps C(m). A contradiction in round m + 1 means that no strategy goes m + 1 windows past the first. From the beginning, a strategy for m + 1
+-- windows exists exactly if one window alone, with C(m), gives no contradiction when it is eliminated.
+use Prim.Native.Nat.{ℕ, zero, suc, _+_, _*_, _-_, _≤_, _<_}
+use mathlib.Core.Path.{_≡_, refl, sym, ap, subst, _∙_}
+use mathlib.Core.Logic.{_⊎_, inl, inr, ⊎-elim}
+use mathlib.Core.Bool.{Bool, true, false}
+use mathlib.Core.List.{List, [], _∷_, _++_}
+use native.Mathlib.Nat.{zero-mul, zero-add}
+use native.Mathlib.Omega.{arith}
+use lib.ListN.{length, length-append, List·getD-append}
+use Rattle.plan.specs.declared.Plan.{Plan}
+use Rattle.bounds.specs.declared.Event.the-variants.{Origin, Start, Finish}
+use Rattle.bounds.specs.Events.{eventOf, startNode, finishNode, nodes}
+use Rattle.bounds.specs.Tables.{Cell, off, upto, Rows, at, Set, contradiction, bounds}
+use Rattle.bounds.specs.Elimination.{thenSet, eliminated}
+use Rattle.bounds.specs.BuildLaws.{eventOf-start, eventOf-finish, byNode}
+use Rattle.rounds.specs.Rounds.{C0, joined, round}
+use Rattle.rounds.specs.Given.{ownBounds, betweenBounds}
+use Rattle.strategy.specs.Histories.{Ran, History, noRan, ranFor, turn, seenFrom}
+use Rattle.strategy.specs.Strategies.{ranIn, KeptIn, Kept, Forced, Strategy}
+use Rattle.strategy.specs.Keeping.{Holds, when, gap, Keeps, Timely, Extreme, Anchored}
+use Rattle.strategy.specs.Soundness.{Sound}
+use Rattle.strategy.specs.HistoryLaws.{Follows, forced-map, forced-split, forced-join, forced-play, Fails, fails-before, fails-map}
+use Rattle.strategy.specs.PlaceLaws.{Tidy, thenSet-bounds, thenSet-none, Played, elim-tidy, elim-keeps, elim-back, elim-none}
+use Rattle.strategy.specs.GivenLaws.{All, BetweenKept}
+use Rattle.strategy.specs.WindowLaws.{Held, held-own, held-across, own-held}
+use Rattle.strategy.specs.SeenLaws.{length-seen, timely-seen, forced-seen, seen-forced, seen-next, seen-all}
+use Rattle.strategy.specs.KeptLaws.{Always, kept-before, held-next, held-one, Punctual, held-of, punctual-of, kept-of, forced-punctual}
+use Rattle.strategy.specs.JoinedLaws.{C0-tidy, C0-keeps, C0-back, C0-none, Both, joined-tidy, joined-keeps, joined-back, joined-none}
+
+-- 'C(0) is one window's own bounds. Round m (m from 1): put C(m-1) on the next window, C(0) on this one, ..'
+unfoldable pub C : Plan → ℕ → Set
+C p zero = C0 p
+C p (suc m) = thenSet (C0 p) (λ c0. thenSet (C p m) (round p c0))
+
+-- ---- the beginning of a history keeps what its longer one keeps
+
+when-before : (u m : History) (y : ℕ) → y < nodes (length u) → when (u ++ m) (eventOf y) ≡ when u (eventOf y)
+unfolding eventOf
+when-before u m =
+    byNode (λ y. y < nodes (length u) → when (u ++ m) (eventOf y) ≡ when u (eventOf y)) (λ h. refl)
+    (λ k h. let l : k < length u = omega arith in rw (eventOf-start k) (ap (λ r. r .start) (List·getD-append u m noRan k l)))
+    (λ k h. let l : k < length u = omega arith in rw (eventOf-finish k) (ap (λ r. r .finish) (List·getD-append u m noRan k l)))
+
+pub keeps-before : (k : ℕ) (f : ℕ → ℕ → Cell) (u m : History) → k ≤ nodes (length u) → Keeps k f (u ++ m) → Keeps k f u
+keeps-before k f u m n kept y z a b =
+    rw (when-before u m y (omega arith), when-before u m z (omega arith)) at (kept y z a b)
+
+module _ (p : Plan) (sound : Sound p) where
+  -- a strategy from here on means that so far the bounds are kept
+  pub strategy-kept : (g : ℕ) (h : History) → Strategy p h g → Kept p h
+  strategy-kept g h s =
+      let r = forced-play p sound (Kept p) true g h s in
+      kept-before p h (r .follows .more) (subst (Kept p) (r .follows .whole) (r .won))
+
+  -- ---- the parts of a round
+
+  pub record Round (m : ℕ) (c : Rows) : Type 0 where
+    pub own : Rows
+    pub own-is : C0 p ≡ bounds own
+    pub before : Rows
+    pub before-is : C p m ≡ bounds before
+    pub both : Rows
+    pub both-is : joined p own before ≡ bounds both
+    pub left-is : eliminated p (p .jobs) (p .jobs) both ≡ bounds c
+
+  pub round-parts : (m : ℕ) (c : Rows) → C p (suc m) ≡ bounds c → Round m c
+  unfolding C round
+  round-parts m c e =
+      let r = thenSet-bounds (C0 p) _ c e in
+      let q = thenSet-bounds (C p m) (round p (r .0)) c (r .2) in
+      let s = thenSet-bounds (joined p (r .0) (q .0)) (eliminated p (p .jobs) (p .jobs)) c (q .2) in
+      record { own = r .0; own-is = r .1; before = q .0; before-is = q .1; both = s .0; both-is = s .1; left-is = s .2 }
+
+  pub C-tidy : (m : ℕ) (c : Rows) → C p m ≡ bounds c → Tidy p (nodes (p .jobs)) c
+  unfolding C
+  C-tidy zero c e = C0-tidy p sound c e
+  C-tidy (suc m) c e =
+      let r = round-parts m c e in
+      elim-tidy p sound (p .jobs) (p .jobs) (r .both) c (omega arith)
+      (joined-tidy p sound (r .own) (r .before) (r .own-is) (C-tidy m (r .before) (r .before-is) .anchored) (r .both) (r .both-is)) (r .left-is)
+
+  round-tidy : (m : ℕ) (c : Rows) (r : Round m c) → Tidy p (nodes (p .jobs + p .jobs)) (r .both)
+  round-tidy m c r =
+      joined-tidy p sound (r .own) (r .before) (r .own-is) (C-tidy m (r .before) (r .before-is) .anchored) (r .both) (r .both-is)
+
+  same-set : (a b : Rows) (x : Set) → x ≡ bounds a → x ≡ bounds b → a ≡ b
+  same-set a b x e f = cc
+
+  -- what keeps C(m) keeps C(0)
+  pub C-own : (m : ℕ) (c : Rows) → C p m ≡ bounds c → (c0 : Rows) → C0 p ≡ bounds c0 → (u : History) → length u ≡ p .jobs → Timely p u
+      → Keeps (nodes (p .jobs)) (at c) u → Keeps (nodes (p .jobs)) (at c0) u
+  unfolding C
+  C-own zero c e c0 e0 u n old kept = subst (λ c. Keeps (nodes (p .jobs)) (at c) u) (same-set c c0 (C0 p) e e0) kept
+  C-own (suc m) c e c0 e0 u n old kept =
+      let r = round-parts m c e in
+      let g = elim-back p sound (p .jobs) (p .jobs) (r .both) c (omega arith) (round-tidy m c r) (r .left-is) u n old kept in
+      let q = forced-play p sound _ true (p .jobs) u g in
+      let size = q .follows .size in
+      let b = joined-back p sound (r .own) (r .before) (r .own-is) (C-tidy m (r .before) (r .before-is) .anchored) (r .both) (r .both-is)
+      (q .history) (omega arith) (q .follows .timely old) (q .won) in
+      subst (λ c. Keeps (nodes (p .jobs)) (at c) u) (same-set (r .own) c0 (C0 p) (r .own-is) e0)
+      (keeps-before (nodes (p .jobs)) (at (r .own)) u (q .follows .more) (omega arith)
+      (subst (λ h. Keeps (nodes (p .jobs)) (at (r .own)) h) (q .follows .whole) (b .this)))
+
+  -- times of one window that keep C(m) keep the plan's bounds on it
+  pub C-held : (m : ℕ) (c : Rows) → C p m ≡ bounds c → (c0 : Rows) → C0 p ≡ bounds c0 → (u : History) → length u ≡ p .jobs → Timely p u
+      → Keeps (nodes (p .jobs)) (at c) u → Held p u
+  C-held m c e c0 e0 u n old kept =
+      own-held p sound u (C0-back p sound c0 e0 u (omega arith) old (C-own m c e c0 e0 u n old kept)) (λ l. absurd (omega arith))
+
+  -- ---- from one round to the next
+
+  Answers : ℕ → Rows → Type 0
+  Answers m c = (j : ℕ) (h : History) → length h ≡ suc j * p .jobs → Timely p h → Punctual p h → Strategy p h (m * p .jobs)
+      → Keeps (nodes (p .jobs)) (at c) (seenFrom p j h)
+
+  more-windows : (m : ℕ) → suc m * p .jobs ≡ p .jobs + m * p .jobs
+  more-windows m = omega arith
+
+  -- a strategy for one window more makes a game of two windows
+  strategy-both : (m : ℕ) (c0 c : Rows) → C0 p ≡ bounds c0 → Answers m c → (j : ℕ) (h : History) → length h ≡ suc j * p .jobs
+      → Timely p h → Punctual p h → Strategy p h (suc m * p .jobs) → Forced p (Both p c0 c) (p .jobs) (seenFrom p j h)
+  unfolding Answers
+  strategy-both m c0 c e0 answers j h n old c-h s =
+      forced-seen p j (Both p c0 c) (p .jobs) h (omega arith)
+      (forced-map p _ _ (p .jobs) h
+      (λ h′ f q.
+      let size = f .size in
+      let two : length h′ ≡ suc (suc j) * p .jobs = omega arith in
+      let old′ = f .timely old in
+      let held = held-of p h′ (strategy-kept (m * p .jobs) h′ (q .0)) (q .1) in
+      let len = length-seen p j h′ in
+      record {
+        this = C0-keeps p sound c0 e0 (seenFrom p j h′) (held-own p sound (seenFrom p j h′) (held j) (timely-seen p j h′ old′) (omega arith));
+        next = rw (seen-next p j h′) (answers (suc j) h′ two old′ (q .1) (q .0));
+        across = held-across p sound (seenFrom p j h′) (held j) (omega arith);
+      })
+      (forced-punctual p sound (λ h. Strategy p h (m * p .jobs)) (λ h q. strategy-kept (m * p .jobs) h q) (p .jobs) h c-h
+      (forced-split p (Kept p) (p .jobs) (m * p .jobs) h (subst (λ g. Strategy p h g) (more-windows m) s))))
+
+  pub strategy-keeps : (m : ℕ) (c : Rows) → C p m ≡ bounds c → (j : ℕ) (h : History) → length h ≡ suc j * p .jobs
+      → Timely p h → Punctual p h → Strategy p h (m * p .jobs) → Keeps (nodes (p .jobs)) (at c) (seenFrom p j h)
+  unfolding C Forced Answers
+  strategy-keeps zero c e j h n old c-h s =
+      let len = length-seen p j h in
+      let k : Kept p h = strategy-kept (0 * p .jobs) h s in
+      C0-keeps p sound c e (seenFrom p j h)
+      (held-own p sound (seenFrom p j h) (held-of p h k c-h j) (timely-seen p j h old) (omega arith))
+  strategy-keeps (suc m) c e j h n old c-h s =
+      let r = round-parts m c e in
+      let len = length-seen p j h in
+      elim-keeps p sound (p .jobs) (p .jobs) (r .both) c (omega arith) (round-tidy m c r) (r .left-is) (seenFrom p j h) (omega arith)
+      (forced-map p _ _ (p .jobs) (seenFrom p j h)
+      (λ u f b. let size = f .size in
+      joined-keeps p sound (r .own) (r .before) (r .own-is) (C-tidy m (r .before) (r .before-is) .anchored) (r .both) (r .both-is) u (omega arith) b)
+      (strategy-both m (r .own) (r .before) (r .own-is) (strategy-keeps m (r .before) (r .before-is)) j h n old c-h s))
+
+  pub keeps-strategy : (m : ℕ) (c : Rows) → C p m ≡ bounds c → (j : ℕ) (h : History) → length h ≡ suc j * p .jobs
+      → Timely p h → Punctual p h → Kept p h → Keeps (nodes (p .jobs)) (at c) (seenFrom p j h) → Strategy p h (m * p .jobs)
+  unfolding C Forced
+  keeps-strategy zero c e j h n old c-h k kept = subst (λ g. Strategy p h g) (sym (zero-mul (p .jobs))) k
+  keeps-strategy (suc m) c e j h n old c-h k kept =
+      let r = round-parts m c e in
+      let len = length-seen p j h in
+      subst (λ g. Strategy p h g) (sym (more-windows m))
+      (forced-join p (Kept p) (p .jobs) (m * p .jobs) h
+      (forced-map p _ _ (p .jobs) h
+      (λ h′ f q.
+      let size = f .size in
+      let two : length h′ ≡ suc (suc j) * p .jobs = omega arith in
+      let old′ = f .timely old in
+      let len₁ = length-seen p j h′ in
+      let len₂ = length-seen p (suc j) h′ in
+      let u-old = timely-seen p j h′ old′ in
+      let b = joined-back p sound (r .own) (r .before) (r .own-is) (C-tidy m (r .before) (r .before-is) .anchored) (r .both) (r .both-is)
+      (seenFrom p j h′) (omega arith) u-old q in
+      let next : Keeps (nodes (p .jobs)) (at (r .before)) (seenFrom p (suc j) h′) = rw (seen-next p j h′) at (b .next) in
+      let this-held : Held p (seenFrom p j h′) =
+      own-held p sound (seenFrom p j h′) (C0-back p sound (r .own) (r .own-is) (seenFrom p j h′) (omega arith) u-old (b .this)) (λ l. b .across) in
+      let next-held : Held p (seenFrom p (suc j) h′) =
+      C-held m (r .before) (r .before-is) (r .own) (r .own-is) (seenFrom p (suc j) h′) (omega arith) (timely-seen p (suc j) h′ old′) next in
+      let held : Always p (Held p) h′ =
+      subst (λ h. Always p (Held p) h) (sym (f .whole))
+      (held-next p sound h (f .more) j n (ap length (sym (f .whole)) ∙ two) (held-of p h k c-h)
+      (subst (λ h. Held p (seenFrom p j h)) (f .whole) this-held)
+      (subst (λ h. Held p (seenFrom p (suc j) h)) (f .whole) next-held)) in
+      keeps-strategy m (r .before) (r .before-is) (suc j) h′ two old′ (punctual-of p h′ held) (kept-of p h′ held) next)
+      (seen-forced p j _ (p .jobs) h (omega arith)
+      (elim-back p sound (p .jobs) (p .jobs) (r .both) c (omega arith) (round-tidy m c r) (r .left-is) (seenFrom p j h) (omega arith)
+      (timely-seen p j h old) kept))))
