@@ -28,15 +28,18 @@ abbrev pub judgedReverse : Plan → ℕ → ℤ → Judgement
 judgedReverse p k w = atLeast (negℤ (jobAt p k .min)) w
 
 -- 'otherwise: a contradiction if w < earliest(z) - latest(y).'
+abbrev pub fromOrigin : ℤ → ℤ → Judgement
+fromOrigin low w = cond (ltZ w low) Contradiction Kept
+
 abbrev pub judgedOrigin : Plan → Event → Event → ℤ → Judgement
-judgedOrigin p y z w = cond (ltZ w (earliest p z -ℤ latest p y)) Contradiction Kept
+judgedOrigin p y z w = fromOrigin (earliest p z -ℤ latest p y) w
 
 -- 'If neither is the origin and w >= latest(z) - earliest(y), it is left out.'
+abbrev pub apart : ℤ → ℤ → ℤ → Judgement
+apart low high w = cond (ltZ w low) Contradiction (cond (leZ high w) LeftOut Kept)
+
 abbrev pub judgedApart : Plan → Event → Event → ℤ → Judgement
-judgedApart p y z w =
-    cond (ltZ w (earliest p z -ℤ latest p y)) Contradiction
-    (cond (leZ (latest p z -ℤ earliest p y) w) LeftOut
-    Kept)
+judgedApart p y z w = apart (earliest p z -ℤ latest p y) (latest p z -ℤ earliest p y) w
 
 -- the judgement of z - y <= w, by what y and z are
 unfoldable pub judged : Plan → Event → Event → ℤ → Judgement

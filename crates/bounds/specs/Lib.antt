@@ -1,8 +1,14 @@
 -- Elimination, as document 01 has it. In reading order: the plan's own numbers, events with their earliest and latest, tables of bounds,
--- the judgement of a bound, and the elimination of one event. These files are definitions alone.
+-- the judgement of a bound, the elimination of one event, and then what the code has of these: times and tables in arrays. These files are
+-- definitions alone.
 pub mod Events
 pub mod Judgements
 pub mod Tables
 pub mod Elimination
+pub mod Spans
+pub mod Flat
 -- ---- laws
 pub mod BuildLaws
+pub mod EventsLaws
+pub mod SpansLaws
+pub mod FlatLaws

@@ -1,5 +1,10 @@
 // Bounds between events, their judgement, and the elimination of one event from a set of them.
 
+mod eliminate;
+mod judge;
+mod nodes;
+mod put;
+
 // The events of a bound z - y <= w. Jobs are counted by their place from the first job of this window on, so that the next window's
 // places follow this window's: with three jobs, place 4 is the next window's second job.
 pub enum Event {
@@ -27,4 +32,10 @@ impl Table {
     pub const SIZE: usize = 1369;
     // The mark for no bound on a pair.
     pub const NO_BOUND: i32 = 2147483647;
+}
+
+// A set of bounds as its judgement leaves it: a contradiction, or the table of the bounds that are kept.
+pub struct JudgedSet {
+    pub contradiction: bool,
+    pub table: Table,
 }

@@ -1,0 +1,3 @@
+-- Laws that several proofs of this crate rest on.
+pub mod Gaps
+pub mod Sums

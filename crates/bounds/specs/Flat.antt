@@ -1,0 +1,142 @@
+-- A table as the code has it: one array, in which the cell of z - y <= w stands at y * 37 + z, and a mark stands where there is no bound.
+-- What the code does to it, cell by cell, in the code's order.
+use Prim.Native.Nat.{ℕ, zero, suc, _+_, _*_, _<_}
+use mathlib.Core.Path.{_≡_}
+use mathlib.Core.Bool.{Bool, true, false, cond}
+use mathlib.Core.List.{List, [], _∷_}
+use lib.IntN.{ℤ, pos, negℤ, _+ℤ_}
+use lib.Signed.{leZ, _≤ℤ_}
+use lib.ListN.{getD, set}
+use mir.Syntax.{w32}
+use mir.Val.{SFits}
+use Rattle.whole.specs.Split.{eqZ}
+use Rattle.bounds.specs.declared.Judgement.{Judgement}
+use Rattle.bounds.specs.declared.Judgement.the-variants.{Contradiction, LeftOut, Kept}
+use Rattle.bounds.specs.declared.JudgedSet.{JudgedSet}
+use Rattle.bounds.specs.Tables.{Cell, off, upto, Rows, build, Set, contradiction, bounds}
+use Rattle.bounds.specs.Spans.{judgedAt, Timed}
+
+-- ---- the rows that an array holds
+
+abbrev pub side : ℕ
+side = 37
+
+-- the mark for no bound
+abbrev pub noBound : ℤ
+noBound = pos 2147483647
+
+abbrev pub place : ℕ → ℕ → ℕ
+place y z = y * side + z
+
+abbrev pub weightAt : List ℤ → ℕ → ℕ → ℤ
+weightAt ws y z = getD ws (place y z) (pos 0)
+
+unfoldable pub cellOf : ℤ → Cell
+cellOf w = cond (eqZ w noBound) off (upto w)
+
+abbrev pub cellAt : List ℤ → ℕ → ℕ → Cell
+cellAt ws y z = cellOf (weightAt ws y z)
+
+-- the rows of the first k nodes
+abbrev pub rowsOf : ℕ → List ℤ → Rows
+rowsOf k ws = build k (cellAt ws)
+
+-- the set that an answer of the code means, on k nodes
+abbrev pub setOf : ℕ → JudgedSet → Set
+setOf k r = cond (r .contradiction) contradiction (bounds (rowsOf k (r .table .weights)))
+
+-- ---- one bound put into an array
+
+-- an array, and whether a contradiction was found
+pub record Flat : Type 0 where
+  pub found : Bool
+  pub weights : List ℤ
+
+abbrev pub flat : Bool → List ℤ → Flat
+flat found ws = record { found = found; weights = ws }
+
+abbrev pub stored : Judgement → ℕ → ℤ → List ℤ → Flat
+stored Contradiction i w ws = flat true ws
+stored LeftOut i w ws = flat false (set ws i noBound)
+stored Kept i w ws = flat false (set ws i w)
+
+-- z - y <= w, where that is less than what stands there
+unfoldable pub keptAt : List ℤ → List ℤ → ℕ → ℕ → ℤ → List ℤ → Flat
+keptAt early late y z w ws = cond (leZ (weightAt ws y z) w) (flat false ws) (stored (judgedAt early late y z w) (place y z) w ws)
+
+-- a bound v, where there is one, moved by a and put at z - y
+unfoldable pub putAt : List ℤ → List ℤ → ℕ → ℕ → ℤ → ℤ → List ℤ → Flat
+putAt early late y z v a ws = cond (eqZ v noBound) (flat false ws) (keptAt early late y z (v +ℤ a) ws)
+
+-- what it takes to put a bound: a sum that fits
+abbrev pub Putting : ℤ → ℤ → Type 0
+Putting v a = eqZ v noBound ≡ false → SFits w32 (v +ℤ a)
+
+-- what follows an array in which no contradiction was found
+abbrev pub thenFlat : Flat → (List ℤ → Flat) → Flat
+thenFlat r f = let rest = f (r .weights) in cond (r .found) r rest
+
+-- a step at each of so many nodes from node y on, as long as no contradiction is found
+unfoldable pub eachNode : (ℕ → List ℤ → Flat) → ℕ → ℕ → List ℤ → Flat
+eachNode step y zero ws = flat false ws
+eachNode step y (suc count) ws = thenFlat (step y ws) (eachNode step (y + 1) count)
+
+-- ---- a start s eliminated
+
+-- the bound z - s, where s - y <= w, put at z - y
+abbrev pub joinedAt : List ℤ → List ℤ → ℕ → ℕ → ℤ → ℕ → List ℤ → Flat
+joinedAt early late s y w z ws = putAt early late y z (weightAt ws s z) w ws
+
+abbrev pub joinedCells : List ℤ → List ℤ → ℕ → ℕ → ℤ → List ℤ → Flat
+joinedCells early late s y w = eachNode (joinedAt early late s y w) 0 s
+
+-- the bounds through s of row y, where s - y has a bound
+unfoldable pub joinedRow : List ℤ → List ℤ → ℕ → ℕ → List ℤ → Flat
+joinedRow early late s y ws =
+    let w = weightAt ws y s in
+    cond (eqZ w noBound) (flat false ws) (joinedCells early late s y w ws)
+
+abbrev pub joinedRows : List ℤ → List ℤ → ℕ → List ℤ → Flat
+joinedRows early late s = eachNode (joinedRow early late s) 0 s
+
+-- ---- a finish f eliminated, whose start is s
+
+-- its bounds with node y: f - y moved by less, which is -max, and y - f moved by more, which is min
+unfoldable pub movedAt : List ℤ → List ℤ → ℕ → ℕ → ℤ → ℤ → ℕ → List ℤ → Flat
+movedAt early late s f less more y ws =
+    thenFlat (putAt early late y s (weightAt ws y f) less ws) (λ us. putAt early late s y (weightAt us f y) more us)
+
+abbrev pub movedRows : List ℤ → List ℤ → ℕ → ℕ → ℤ → ℤ → List ℤ → Flat
+movedRows early late s f less more = eachNode (movedAt early late s f less more) 0 f
+
+-- ---- what the sums of a table's weights rest on
+
+-- a weight is the mark, or lies in this range
+pub record Weighed (w : ℤ) : Type 0 where
+  pub least : eqZ w noBound ≡ false → negℤ (pos 259200000) ≤ℤ w
+  pub greatest : eqZ w noBound ≡ false → w ≤ℤ pos 259200000
+
+abbrev pub AllTimed : List ℤ → List ℤ → Type 0
+AllTimed early late = (y : ℕ) → y < 37 → Timed early late y
+
+-- what each function of the elimination of the start s rests on: times in range, and weights in range in row s and in column s
+pub record JoinsCells (early late : List ℤ) (s y : ℕ) (w : ℤ) (ws : List ℤ) : Type 0 where
+  pub times : AllTimed early late
+  pub node : s < 37
+  pub before : y < s
+  pub on : eqZ w noBound ≡ false
+  pub weighed : Weighed w
+  pub row : (z : ℕ) → z < s → Weighed (weightAt ws s z)
+
+pub record JoinsRow (early late : List ℤ) (s y : ℕ) (ws : List ℤ) : Type 0 where
+  pub times : AllTimed early late
+  pub node : s < 37
+  pub before : y < s
+  pub weighed : Weighed (weightAt ws y s)
+  pub row : (z : ℕ) → z < s → Weighed (weightAt ws s z)
+
+pub record JoinsRows (early late : List ℤ) (s : ℕ) (ws : List ℤ) : Type 0 where
+  pub times : AllTimed early late
+  pub node : s < 37
+  pub column : (y : ℕ) → y < s → Weighed (weightAt ws y s)
+  pub row : (z : ℕ) → z < s → Weighed (weightAt ws s z)

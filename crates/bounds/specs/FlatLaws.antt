@@ -1,0 +1,153 @@
+-- Tables in one array. How `putAt` goes, as the code goes: no bound to put, one that is no less than what stands there, or one that is judged.
+use Prim.Native.Nat.{ℕ, zero, suc, _+_, _*_, _-_, _≤_, _<_}
+use mathlib.Core.Path.{_≡_, refl, sym, ap, subst, _∙_}
+use mathlib.Core.Bool.{Bool, true, false, cond}
+use mathlib.Core.List.{List}
+use native.Mathlib.Omega.{arith}
+use lib.IntN.{ℤ, pos, _+ℤ_}
+use lib.Signed.{leZ}
+use lib.ListN.{getD, set}
+use lib.Seq.{getD-set-other}
+use Rattle.whole.specs.Split.{eqZ}
+use Rattle.bounds.specs.declared.Judgement.{Judgement}
+use Rattle.bounds.specs.declared.Judgement.the-variants.{Contradiction, LeftOut, Kept}
+use Rattle.bounds.specs.Spans.{judgedAt}
+use Rattle.bounds.specs.Flat.{noBound, place, weightAt, Flat, flat, stored, keptAt, putAt, thenFlat, eachNode, joinedAt, joinedCells, joinedRow}
+
+module _ (early late : List ℤ) (y z : ℕ) (v a : ℤ) (ws : List ℤ) where
+  pub putAt-none : eqZ v noBound ≡ true → flat false ws ≡ putAt early late y z v a ws
+  unfolding putAt
+  putAt-none e = rw e
+
+  pub putAt-more : eqZ v noBound ≡ false → leZ (weightAt ws y z) (v +ℤ a) ≡ true → flat false ws ≡ putAt early late y z v a ws
+  unfolding putAt keptAt
+  putAt-more e l = rw (e, l)
+
+  pub putAt-judged : (j : Judgement) → eqZ v noBound ≡ false → leZ (weightAt ws y z) (v +ℤ a) ≡ false
+      → judgedAt early late y z (v +ℤ a) ≡ j → stored j (place y z) (v +ℤ a) ws ≡ putAt early late y z v a ws
+  unfolding putAt keptAt
+  putAt-judged j e l h = rw (e, l, h)
+
+-- ---- what is not written stays
+
+stored-same : (j : Judgement) (at : ℕ) (w : ℤ) (ws : List ℤ) (i : ℕ) (d : ℤ) → (i ≡ at → ⊥) → getD (stored j at w ws .weights) i d ≡ getD ws i d
+stored-same Contradiction at w ws i d n = refl
+stored-same LeftOut at w ws i d n = getD-set-other ws at i noBound d n
+stored-same Kept at w ws i d n = getD-set-other ws at i w d n
+
+either : (b : Bool) (r : Flat) (ws : List ℤ) (i : ℕ) (d : ℤ) → getD (r .weights) i d ≡ getD ws i d
+    → getD (cond b (flat false ws) r .weights) i d ≡ getD ws i d
+either true r ws i d h = refl
+either false r ws i d h = h
+
+pub putAt-same : (early late : List ℤ) (y z : ℕ) (v a : ℤ) (ws : List ℤ) (i : ℕ) (d : ℤ) → (i ≡ place y z → ⊥)
+    → getD (putAt early late y z v a ws .weights) i d ≡ getD ws i d
+unfolding putAt keptAt
+putAt-same early late y z v a ws i d n =
+    either (eqZ v noBound) _ ws i d
+    (either (leZ (weightAt ws y z) (v +ℤ a)) _ ws i d
+    (stored-same (judgedAt early late y z (v +ℤ a)) (place y z) (v +ℤ a) ws i d n))
+
+-- ---- what follows
+
+thenFlat-found : (r : Bool) (us : List ℤ) (f : List ℤ → Flat) → r ≡ true → thenFlat (flat r us) f ≡ flat true us
+thenFlat-found true us f e = refl
+thenFlat-found false us f e = absurd (let z : _≡_ {A = ℕ} 0 1 = cc in omega arith)
+
+thenFlat-next : (r : Bool) (us : List ℤ) (f : List ℤ → Flat) → r ≡ false → thenFlat (flat r us) f ≡ f us
+thenFlat-next true us f e = absurd (let z : _≡_ {A = ℕ} 0 1 = cc in omega arith)
+thenFlat-next false us f e = refl
+
+-- ---- one turn of a loop over the nodes below n
+
+module _ (step : ℕ → List ℤ → Flat) (n y : ℕ) (ws : List ℤ) where
+  turn : y < n → eachNode step y (n - y) ws ≡ thenFlat (step y ws) (eachNode step (y + 1) (n - (y + 1)))
+  unfolding eachNode
+  turn h = let left : n - y ≡ suc (n - (y + 1)) = omega arith in ap (λ m. eachNode step y m ws) left
+
+  pub eachNode-stop : (r : Bool) (us : List ℤ) → y < n → flat r us ≡ step y ws → r ≡ true → eachNode step y (n - y) ws ≡ flat true us
+  eachNode-stop r us h e t =
+      let rest = eachNode step (y + 1) (n - (y + 1)) in
+      turn h ∙ ap (λ f. thenFlat f rest) (sym e) ∙ thenFlat-found r us rest t
+
+  pub eachNode-past : (r : Bool) (us : List ℤ) → y < n → flat r us ≡ step y ws → r ≡ false
+      → eachNode step y (n - y) ws ≡ eachNode step (y + 1) (n - (y + 1)) us
+  eachNode-past r us h e t =
+      let rest = eachNode step (y + 1) (n - (y + 1)) in
+      turn h ∙ ap (λ f. thenFlat f rest) (sym e) ∙ thenFlat-next r us rest t
+
+  pub eachNode-end : n ≤ y → eachNode step y (n - y) ws ≡ flat false ws
+  unfolding eachNode
+  eachNode-end h = let left : n - y ≡ 0 = omega arith in ap (λ m. eachNode step y m ws) left
+
+-- ---- what every step keeps, the loop keeps
+
+-- what holds of an array where no contradiction was found, and what holds where one was
+pub record Outcome (P : List ℤ → Type 0) (F : Type 0) (r : Flat) : Type 0 where
+  pub fails : r .found ≡ true → F
+  pub keeps : r .found ≡ false → P (r .weights)
+
+kept-then : (P : List ℤ → Type 0) (r : Flat) (f : List ℤ → Flat) (b : Bool) → r .found ≡ b → P (r .weights) → ((us : List ℤ) → P us → P (f us .weights))
+    → P (cond b r (f (r .weights)) .weights)
+kept-then P r f true e h g = h
+kept-then P r f false e h g = g (r .weights) h
+
+pub thenFlat-keeps : (P : List ℤ → Type 0) (r : Flat) (f : List ℤ → Flat) → P (r .weights) → ((us : List ℤ) → P us → P (f us .weights))
+    → P (thenFlat r f .weights)
+thenFlat-keeps P r f h g = kept-then P r f (r .found) refl h g
+
+outcome-then : (P Q : List ℤ → Type 0) (F : Type 0) (r : Flat) (f : List ℤ → Flat) (b : Bool) → r .found ≡ b → Outcome P F r
+    → ((us : List ℤ) → P us → Outcome Q F (f us)) → Outcome Q F (cond b r (f (r .weights)))
+outcome-then P Q F r f true e o g = record { fails = λ h. o .fails e; keeps = λ h. absurd (let z : _≡_ {A = ℕ} 0 1 = cc in omega arith) }
+outcome-then P Q F r f false e o g = g (r .weights) (o .keeps e)
+
+pub thenFlat-outcome : (P Q : List ℤ → Type 0) (F : Type 0) (r : Flat) (f : List ℤ → Flat) → Outcome P F r
+    → ((us : List ℤ) → P us → Outcome Q F (f us)) → Outcome Q F (thenFlat r f)
+thenFlat-outcome P Q F r f o g = outcome-then P Q F r f (r .found) refl o g
+
+pub eachNode-keeps : (step : ℕ → List ℤ → Flat) (n : ℕ) (P : List ℤ → Type 0)
+    → ((z : ℕ) (ws : List ℤ) → z < n → P ws → P (step z ws .weights))
+    → (z count : ℕ) → z + count ≡ n → (ws : List ℤ) → P ws → P (eachNode step z count ws .weights)
+unfolding eachNode
+eachNode-keeps step n P each z zero e ws h = h
+eachNode-keeps step n P each z (suc count) e ws h =
+    thenFlat-keeps P (step z ws) (eachNode step (z + 1) count) (each z ws (omega arith) h)
+    (λ us k. eachNode-keeps step n P each (z + 1) count (omega arith) us k)
+
+-- a stage for each node: each step leads from one to the next, or fails
+pub eachNode-outcome : (step : ℕ → List ℤ → Flat) (n : ℕ) (P : ℕ → List ℤ → Type 0) (F : Type 0)
+    → ((z : ℕ) (ws : List ℤ) → z < n → P z ws → Outcome (P (z + 1)) F (step z ws))
+    → (z count : ℕ) → z + count ≡ n → (ws : List ℤ) → P z ws → Outcome (P n) F (eachNode step z count ws)
+unfolding eachNode
+eachNode-outcome step n P F each z zero e ws h =
+    record {
+      fails = λ f. absurd (let z : _≡_ {A = ℕ} 0 1 = cc in omega arith);
+      keeps = λ f. let last : z ≡ n = omega arith in subst (λ n. P n ws) last h;
+    }
+eachNode-outcome step n P F each z (suc count) e ws h =
+    thenFlat-outcome (P (z + 1)) (P n) F (step z ws) (eachNode step (z + 1) count) (each z ws (omega arith) h)
+    (λ us k. eachNode-outcome step n P F each (z + 1) count (omega arith) us k)
+
+-- ---- a row of a start that is eliminated
+
+module _ (early late : List ℤ) (s y : ℕ) (ws : List ℤ) where
+  pub joinedRow-none : eqZ (weightAt ws y s) noBound ≡ true → flat false ws ≡ joinedRow early late s y ws
+  unfolding joinedRow
+  joinedRow-none e = rw e
+
+  pub joinedRow-on : eqZ (weightAt ws y s) noBound ≡ false → joinedCells early late s y (weightAt ws y s) ws ≡ joinedRow early late s y ws
+  unfolding joinedRow
+  joinedRow-on e = rw e
+
+  -- nothing is written from the place of (y, s) on
+  pub joinedRow-same : (i : ℕ) (d : ℤ) → place y s ≤ i → getD (joinedRow early late s y ws .weights) i d ≡ getD ws i d
+  unfolding joinedRow
+  joinedRow-same i d h =
+      either (eqZ (weightAt ws y s) noBound) _ ws i d
+      (eachNode-keeps (joinedAt early late s y (weightAt ws y s)) s (λ us. getD us i d ≡ getD ws i d)
+      (λ z us k e. putAt-same early late y z (weightAt us s z) (weightAt ws y s) us i d (λ q. omega arith) ∙ e)
+      0
+      s
+      (omega arith)
+      ws
+      refl)

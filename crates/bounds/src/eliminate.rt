@@ -1,0 +1,67 @@
+// The elimination of one event, in place. The event is the last node of its table; only cells of the nodes before it are written, and what is
+// read of the event itself is not.
+use super::Table;
+use super::put::put;
+ghost use mathlib.Core.Path.{_≡_};
+ghost use Rattle.bounds.specs.Flat.{JoinsCells, JoinsRow, JoinsRows, flat, joinedCells, joinedRow, joinedRows};
+
+// The bounds through the start s in row y, where s - y <= w. Answers whether one is a contradiction.
+fn join_cells<'a>(
+    weights: &mut [i32; Table::SIZE],
+    early: &'a [i32; Table::SIDE],
+    late: &'a [i32; Table::SIDE],
+    s: usize,
+    y: usize,
+    w: i32,
+) -> bool
+    requires { ⌜ JoinsCells (now early) (now late) s y w (now weights) ⌝ }
+    ensures { λ r. ⌜ flat r (now (weights .exit)) ≡ joinedCells (now (early .entry)) (now (late .entry)) s y w (now (weights .entry)) ⌝ }
+{
+    let mut z = 0;
+    while z < s {
+        let v = weights[s * Table::SIDE + z];
+        if put(weights, early, late, y, z, v, w) {
+            return true;
+        }
+        z += 1;
+    }
+    false
+}
+
+// The bounds through the start s in row y. Answers whether one is a contradiction.
+fn join_row<'a>(
+    weights: &mut [i32; Table::SIZE],
+    early: &'a [i32; Table::SIDE],
+    late: &'a [i32; Table::SIDE],
+    s: usize,
+    y: usize,
+) -> bool
+    requires { ⌜ JoinsRow (now early) (now late) s y (now weights) ⌝ }
+    ensures { λ r. ⌜ flat r (now (weights .exit)) ≡ joinedRow (now (early .entry)) (now (late .entry)) s y (now (weights .entry)) ⌝ }
+{
+    let w = weights[y * Table::SIDE + s];
+    if w == Table::NO_BOUND {
+        return false;
+    }
+    join_cells(weights, early, late, s, y, w)
+}
+
+// 'Eliminating a start s: each s - y <= w and z - s <= v give z - y <= w + v.' Answers whether one is a contradiction.
+fn join_rows<'a>(
+    weights: &mut [i32; Table::SIZE],
+    early: &'a [i32; Table::SIDE],
+    late: &'a [i32; Table::SIDE],
+    s: usize,
+) -> bool
+    requires { ⌜ JoinsRows (now early) (now late) s (now weights) ⌝ }
+    ensures { λ r. ⌜ flat r (now (weights .exit)) ≡ joinedRows (now (early .entry)) (now (late .entry)) s (now (weights .entry)) ⌝ }
+{
+    let mut y = 0;
+    while y < s {
+        if join_row(weights, early, late, s, y) {
+            return true;
+        }
+        y += 1;
+    }
+    false
+}
