@@ -2,9 +2,13 @@
 #![deny(unsafe_code)]
 
 pub mod calendar;
+pub mod demand;
 pub mod elimination;
+pub mod game;
+pub mod generate;
 pub mod plan;
 pub mod run;
+pub mod subject;
 pub mod text;
 pub mod vectors;
 

@@ -4,10 +4,14 @@ use std::io::{self, Read, Write};
 use std::path::Path;
 use std::process::ExitCode;
 
+use harness::subject::{Own, Programs, Subject};
+
 const USAGE: &str = "\
 harness calendar            a plan on standard input, its calendar on standard output
 harness dispatch            a session on standard input, its answers on standard output
 harness vectors DIR         compares the texts NAME.in of a folder with their outputs NAME.out
+harness game SEED COUNT [DIR]
+                            compares verdict, K and offers with an exhaustive search over tiny plans
 ";
 
 fn main() -> ExitCode {
@@ -17,6 +21,8 @@ fn main() -> ExitCode {
         ["calendar"] => filter(harness::calendar_output),
         ["dispatch"] => filter(harness::dispatch_output),
         ["vectors", folder] => vectors(Path::new(folder)),
+        ["game", seed, count] => game(seed, count, &Own),
+        ["game", seed, count, folder] => game(seed, count, &Programs { folder: folder.into() }),
         _ => Err(io::Error::other(USAGE)),
     };
     match passed {
@@ -44,4 +50,19 @@ fn vectors(folder: &Path) -> io::Result<bool> {
     }
     println!("vectors: {count} texts, {} differ", wrong.len());
     Ok(count > 0 && wrong.is_empty())
+}
+
+fn number(word: &str) -> io::Result<u64> {
+    word.parse().map_err(|_| io::Error::other(format!("no number: {word}")))
+}
+
+fn game(seed: &str, count: &str, subject: &dyn Subject) -> io::Result<bool> {
+    match harness::demand::check_many(number(seed)?, number(count)?, subject) {
+        Ok(counts) => println!("game: no difference, {counts:?}"),
+        Err(why) => {
+            println!("game: {why}");
+            return Ok(false);
+        }
+    }
+    Ok(true)
 }

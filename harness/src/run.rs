@@ -46,6 +46,23 @@ impl<'p> Run<'p> {
         Run { plan, calendar, window: 1, job: 0, running_since: None, times: [0; SIDE] }
     }
 
+    /// A run in its first window, or in its second after the given one; (start, finish) pairs, each on its own window's clock.
+    pub fn at(plan: &'p Plan, calendar: &'p Calendar, previous: Option<&[(i64, i64)]>, this: &[(i64, i64)]) -> Self {
+        let mut run = Run::new(plan, calendar);
+        let events = 2 * plan.jobs.len();
+        let mut put = |from: usize, times: &[(i64, i64)], begins: i64| {
+            for (job, (start, finish)) in times.iter().enumerate() {
+                run.times[from + 2 * job] = begins + start;
+                run.times[from + 2 * job + 1] = begins + finish;
+            }
+        };
+        put(0, previous.unwrap_or(&[]), 0);
+        put(events, this, if previous.is_some() { plan.window } else { 0 });
+        run.window = if previous.is_some() { 2 } else { 1 };
+        run.job = this.len();
+        run
+    }
+
     pub fn is_over(&self) -> bool {
         self.window > self.plan.last
     }
