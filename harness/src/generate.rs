@@ -95,8 +95,7 @@ pub fn tiny(dice: &mut Dice) -> Plan {
 }
 
 /// A plan around a fixed timetable that keeps most of its bounds, so that it mostly settles.
-pub fn settling(dice: &mut Dice) -> Plan {
-    let jobs = dice.between(1, plan::JOBS_MOST as i64) as usize;
+pub fn settling(dice: &mut Dice, jobs: usize) -> Plan {
     let window = dice.choose(&[3, 10, 30, 100, 1_000, 60_000, 86_400_000]);
     let mut cuts: Vec<i64> = (0..2 * jobs).map(|_| dice.between(0, window)).collect();
     cuts.sort();
@@ -172,7 +171,10 @@ pub fn any_plan(dice: &mut Dice) -> Plan {
     match dice.between(0, 9) {
         0 => tiny(dice),
         1 => extreme_plan(dice),
-        _ => settling(dice),
+        _ => {
+            let jobs = dice.between(1, plan::JOBS_MOST as i64) as usize;
+            settling(dice, jobs)
+        }
     }
 }
 

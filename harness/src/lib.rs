@@ -1,9 +1,12 @@
 //! An independent implementation of document 01, written from the document, and what is compared with it.
 #![deny(unsafe_code)]
 
+pub mod bench;
 pub mod calendar;
+pub mod compare;
 pub mod demand;
 pub mod elimination;
+pub mod export;
 pub mod game;
 pub mod generate;
 pub mod plan;
@@ -29,6 +32,18 @@ pub fn dispatch_output(input: &[u8]) -> Vec<u8> {
         run::answer_steps(&mut Run::new(&plan, &calendar), &mut lines, &mut out);
         out
     }))
+}
+
+/// As the C export: the length of the answers written to `out`, or -12 if they are longer.
+pub fn session(input: &[u8], out: &mut [u8]) -> i64 {
+    let answers = dispatch_output(input);
+    match out.get_mut(..answers.len()) {
+        None => -12,
+        Some(place) => {
+            place.copy_from_slice(&answers);
+            answers.len() as i64
+        }
+    }
 }
 
 /// Reads a plan, alone in its text or with steps behind it, and gives its calendar.

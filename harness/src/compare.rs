@@ -1,0 +1,90 @@
+//! The differential test: an implementation against this one, on random plans, sessions and damaged texts.
+
+use std::collections::BTreeMap;
+use std::sync::atomic::{AtomicU64, Ordering};
+use std::sync::Mutex;
+use std::thread;
+
+use crate::generate::{case, Case};
+use crate::subject::{Own, Subject};
+
+/// After so many differences the test stops.
+const ENOUGH: usize = 5;
+
+/// How often each kind of answer was compared: `settled=`, `offer=` .., and each number of refusal.
+pub type Counts = BTreeMap<String, u64>;
+
+pub struct Compared {
+    pub cases: u64,
+    pub counts: Counts,
+    /// The numbers of cases that differ, with what differs.
+    pub differences: Vec<(u64, String)>,
+}
+
+/// Compares so many cases of a seed, on all processors.
+pub fn compare(subject: &dyn Subject, seed: u64, count: u64) -> Compared {
+    let next = AtomicU64::new(0);
+    let all = Mutex::new(Compared { cases: 0, counts: Counts::new(), differences: Vec::new() });
+    let work = || {
+        let mut counts = Counts::new();
+        let mut cases = 0;
+        loop {
+            let number = next.fetch_add(1, Ordering::Relaxed);
+            if number >= count || all.lock().unwrap().differences.len() >= ENOUGH {
+                break;
+            }
+            if let Some(why) = compare_case(subject, &case(seed, number), &mut counts) {
+                all.lock().unwrap().differences.push((number, why));
+            }
+            cases += 1;
+        }
+        let mut all = all.lock().unwrap();
+        all.cases += cases;
+        for (kind, count) in counts {
+            *all.counts.entry(kind).or_default() += count;
+        }
+    };
+    thread::scope(|scope| {
+        for _ in 0..thread::available_parallelism().map_or(1, usize::from) {
+            scope.spawn(work);
+        }
+    });
+    all.into_inner().unwrap()
+}
+
+/// What differs on this case, if anything does. Where there is no calendar program, a plan is a session without steps.
+fn compare_case(subject: &dyn Subject, case: &Case, counts: &mut Counts) -> Option<String> {
+    let calendar = if case.session { None } else { subject.calendar(&case.text) };
+    let expected = if calendar.is_some() { Own.calendar(&case.text)?.ok()? } else { Own.dispatch(&case.text).ok()? };
+    count_kinds(&expected, counts);
+    match calendar.unwrap_or_else(|| subject.dispatch(&case.text)) {
+        Err(error) => Some(error.to_string()),
+        Ok(output) => (output != expected).then(|| difference(&expected, &output)),
+    }
+}
+
+fn count_kinds(output: &[u8], counts: &mut Counts) {
+    if output.is_empty() {
+        *counts.entry("(empty)".into()).or_default() += 1;
+    }
+    for line in String::from_utf8_lossy(output).lines() {
+        let end = if line.starts_with("refused") { line.find(',') } else { line.find('=') };
+        *counts.entry(line[..end.unwrap_or(line.len())].into()).or_default() += 1;
+    }
+}
+
+/// The first lines that differ.
+fn difference(expected: &[u8], output: &[u8]) -> String {
+    let (expected, output) = (String::from_utf8_lossy(expected), String::from_utf8_lossy(output));
+    let (mut ours, mut theirs) = (expected.split_inclusive('\n'), output.split_inclusive('\n'));
+    for number in 1.. {
+        let (a, b) = (ours.next(), theirs.next());
+        if a != b {
+            return format!("line {number} of the answer is {b:?} where {a:?} is expected");
+        }
+        if a.is_none() {
+            break;
+        }
+    }
+    "bytes that are no text differ".into()
+}
