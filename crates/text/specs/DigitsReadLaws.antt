@@ -19,7 +19,7 @@ use mir.Syntax.{w64}
 use mir.Val.{SFits}
 use Rattle.whole.specs.Rules.{wholes}
 use Rattle.whole.specs.SplitLaws.{split-neg}
-use Rattle.whole.specs.Order.{fits-least, fits-greatest}
+use Rattle.whole.specs.Order.{fits-least, fits-below}
 use Rattle.text.specs.declared.Fault.the-variants.{Form}
 use Rattle.text.specs.declared.Number.the-variants as number
 use Rattle.text.specs.declared.Digits.{Digits}
@@ -115,8 +115,8 @@ module _ (lo hi : ℤ) where
       of : (t : Bool) → leb n tooLarge ≡ t → numberWithin lo hi (pos (capped n)) ≡ numberWithin lo hi (pos n)
       of true e = let same : capped n ≡ n = omega (arith, leb-true n tooLarge e) in rw same
       of false e =
-          numberWithin-above lo hi (pos (capped n)) (omega (wholes, fits-greatest f, leb-false n tooLarge e))
-          ∙ sym (numberWithin-above lo hi (pos n) (omega (wholes, fits-greatest f, leb-false n tooLarge e)))
+          numberWithin-above lo hi (pos (capped n)) (omega (wholes, fits-below f, leb-false n tooLarge e))
+          ∙ sym (numberWithin-above lo hi (pos n) (omega (wholes, fits-below f, leb-false n tooLarge e)))
 
   pub numberWithin-capped-neg : (n : ℕ) → SFits w64 lo → numberWithin lo hi (negℤ (pos (capped n))) ≡ numberWithin lo hi (negℤ (pos n))
   numberWithin-capped-neg n f = of (leb n tooLarge) refl

@@ -7,7 +7,7 @@ use mir.Facts.{toZ-ofZ, toZ-pos}
 use native.Mathlib.Omega.{arith}
 use borrow.Author.Needs.{needs}
 use Rattle.whole.specs.Rules.{wholes}
-use Rattle.whole.specs.Order.{fits-greatest}
+use Rattle.whole.specs.Order.{fits-below}
 use Rattle.text.specs.NumberLaws.{numberWithin-above}
 use Rattle.text.proofs.numbers.positive_in.Statement.{statement}
 use Rattle.text.proofs.numbers.positive_in.Tie as tie
@@ -25,7 +25,7 @@ returns c =
     c .in-range .ensures ∙ rw (toZ-ofZ (f .lo), toZ-ofZ (f .hi), toZ-pos w64 small)
 
 returns-2 : tie.Need-returns-2
-returns-2 c = let a = c .before .args in sym (numberWithin-above (a .lo) (a .hi) (pos (a .n)) (omega (wholes, fits-greatest (c .before .fits .hi))))
+returns-2 c = let a = c .before .args in sym (numberWithin-above (a .lo) (a .hi) (pos (a .n)) (omega (wholes, fits-below (c .before .fits .hi))))
 
 pub positive-in-spec : {M : Type 1} → statement M
 positive-in-spec = tie.close (tie.spec cast-in-range in-range-requires returns returns-2)

@@ -12,7 +12,7 @@ use mir.Facts.{toZ-ofZ}
 use Rattle.whole.specs.Split.{up, dn}
 use Rattle.whole.specs.Rules.{wholes}
 use Rattle.whole.specs.SplitLaws.{split-one, fits-split-iff}
-use Rattle.whole.specs.Order.{fits-least, fits-greatest, pos-up}
+use Rattle.whole.specs.Order.{fits-least, fits-below, pos-up}
 use Rattle.text.specs.NumberLaws.{decimal-above, decimal-below}
 use Rattle.text.specs.LentLaws.{stored-append}
 use Rattle.text.proofs.write.put_number.Statement.{statement}
@@ -34,17 +34,17 @@ put-byte-requires c κs = search needs
 sub-n : tie.Need-sub-n
 sub-n c =
     let s = c .before .before .before .before .before .before in
-    omega (wholes, fits-least (s .fits .z), fits-greatest (s .fits .z))
+    omega (wholes, fits-least (s .fits .z), fits-below (s .fits .z))
 
 cast-put-count : tie.Need-cast-put-count
 cast-put-count c =
     let s = c .before .before .before .before .before .before .before in
-    rw (negated (s .args .z) (s .fits .z) (omega wholes)) (tt, omega (wholes, fits-split-iff (s .args .z) .0 (s .fits .z)))
+    rw (negated (s .args .z) (s .fits .z) (omega wholes)) (tt, omega (wholes, fits-split-iff w64 (s .args .z) .0 (s .fits .z)))
 
 add-put-count : tie.Need-add-put-count
 add-put-count c =
     let s = c .before .before .before .before .before .before .before in
-    rw (negated (s .args .z) (s .fits .z) (omega wholes)) (omega (wholes, fits-split-iff (s .args .z) .0 (s .fits .z)))
+    rw (negated (s .args .z) (s .fits .z) (omega wholes)) (omega (wholes, fits-split-iff w64 (s .args .z) .0 (s .fits .z)))
 
 put-count-requires : tie.Need-put-count-requires
 put-count-requires c κs = search needs
@@ -52,7 +52,7 @@ put-count-requires c κs = search needs
 cast-put-count-2 : tie.Need-cast-put-count-2
 cast-put-count-2 c =
     let s = c .before .before .before in
-    rw (itself (s .args .z) (s .fits .z) (omega wholes)) (tt, omega (wholes, fits-split-iff (s .args .z) .0 (s .fits .z)))
+    rw (itself (s .args .z) (s .fits .z) (omega wholes)) (tt, omega (wholes, fits-split-iff w64 (s .args .z) .0 (s .fits .z)))
 
 put-count-requires-2 : tie.Need-put-count-requires-2
 put-count-requires-2 c κs = search needs
