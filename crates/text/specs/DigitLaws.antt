@@ -15,7 +15,7 @@ use native.Mathlib.Nat.{pow-suc}
 use native.Mathlib.Omega.{arith}
 use lib.Dec.{eqb, leb, ltb}
 use lib.ListN.{length, length-append}
-use borrow.Author.Tests.{lt-ltb, le-ltb, ltb-true, ltb-false, le-leb, leb-true, leb-false, eqb-true, eqb-false, ne-eqb}
+use borrow.Author.Tests.{lt-ltb, le-ltb, ltb-true, ltb-false, le-leb, leb-true, eqb-false, ne-eqb}
 use Rattle.text.specs.Lines.{lenTo}
 use Rattle.text.specs.LineLaws.{lenTo-other}
 use Rattle.text.specs.Numbers.{zeroDigit, nineDigit, isDigit, allDigits, isPositive, digitsValue, digitsBefore, digits}

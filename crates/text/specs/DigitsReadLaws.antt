@@ -4,13 +4,13 @@
 -- that is no digit (`digitsRead-below`, `digitsRead-above`), goes on past a digit (`digitsRead-past`, `digitsRead-cut`), and ends (`digitsRead-end`).
 -- What a number says that was read so, of either sign (`numberIn-empty`, `numberIn-zero`, `numberIn-zero-led`, `numberIn-positive`, `numberIn-negative`).
 
-use Prim.Native.Nat.{ℕ, zero, suc, _+_, _*_, _-_, _≤_, _<_, min}
-use mathlib.Core.Path.{_≡_, refl, sym, ap, _∙_, subst}
-use mathlib.Core.Bool.{Bool, true, false, not, cond, _&&_, false≢true}
+use Prim.Native.Nat.{ℕ, suc, _+_, _*_, _-_, _≤_, _<_}
+use mathlib.Core.Path.{_≡_, refl, sym, ap, _∙_}
+use mathlib.Core.Bool.{Bool, true, false, cond, false≢true}
 use mathlib.Core.List.{List, [], _∷_}
 use native.Mathlib.Numerals.{add-one}
 use native.Mathlib.Omega.{arith}
-use lib.Dec.{eqb, leb}
+use lib.Dec.{leb}
 use lib.IntN.{ℤ, pos, negℤ}
 use lib.ListN.{length, getD, drop, drop-of-length-le}
 use lib.Seq.{drop-cons}
@@ -22,7 +22,6 @@ use Rattle.whole.specs.SplitLaws.{split-neg}
 use Rattle.whole.specs.Order.{fits-least, fits-below}
 use Rattle.text.specs.declared.Fault.the-variants.{Form}
 use Rattle.text.specs.declared.Number.the-variants as number
-use Rattle.text.specs.declared.Digits.{Digits}
 use Rattle.text.specs.declared.Digits.the-variants.{Value, Bad}
 use Rattle.text.specs.Numbers.{minus, zeroDigit, nineDigit, isDigit, allDigits, isPositive, isNumber, digitsValue, numberValue, numberWithin, numberIn}
 use Rattle.text.specs.DigitLaws.{isPositive-nil, digitsValue-grows}

@@ -22,7 +22,6 @@ use mir.Val.{SFits}
 use Rattle.whole.specs.Split.{up, dn}
 use Rattle.whole.specs.Rules.{wholes}
 use Rattle.text.specs.declared.Fault.the-variants.{Form, Range}
-use Rattle.text.specs.declared.Number.{Number}
 use Rattle.text.specs.declared.Number.the-variants.{Value, Bad}
 use Rattle.text.specs.Lines.{lenTo, afterKey, hasKey}
 use Rattle.text.specs.LineLaws.{lenTo-other, afterKey-back, afterKey-split, hasKey-true, hasKey-false}

@@ -1,11 +1,12 @@
 -- `number_after`: what follows the key is the rest of s behind the key's length, by the laws of `hasKey`.
-use mathlib.Core.Path.{_≡_, sym, ap, _∙_}
+use mathlib.Core.Path.{sym, ap, _∙_}
 use native.Mathlib.Omega.{arith}
 use lib.ListN.{length}
 use mir.Facts.{toZ-ofZ}
 use borrow.Author.Needs.{needs}
 use borrow.Author.Tests.{not-true, not-false}
 use Rattle.text.specs.LineLaws.{hasKey-fits, drop-rest}
+use Rattle.text.specs.Numbers.{numberIn}
 use Rattle.text.specs.NumberLaws.{numberAfter-key, numberAfter-other}
 use Rattle.text.proofs.numbers.number_after.Statement.{statement}
 use Rattle.text.proofs.numbers.number_after.Tie as tie
@@ -21,7 +22,7 @@ returns c =
 sub-read-number : tie.Need-sub-read-number
 sub-read-number c =
     let a = c .before .before .before .before .args in
-    hasKey-fits (a .key .now) (a .s .now) (sym (c .before .has-key .ensures) ∙ not-false _ (c .if1 .left))
+    omega (arith, hasKey-fits (a .key .now) (a .s .now) (sym (c .before .has-key .ensures) ∙ not-false _ (c .if1 .left)))
 
 part-read-number-start : tie.Need-part-read-number-start
 part-read-number-start c = sub-read-number c
@@ -36,8 +37,9 @@ returns-2 : tie.Need-returns-2
 returns-2 c =
     let s = c .before .before .before .before .before .before in
     let a = s .args in
-    c .read-number .ensures ∙ rw (toZ-ofZ (s .fits .lo), toZ-ofZ (s .fits .hi), drop-rest (length (a .key .now)) (a .s .now))
-    (sym (numberAfter-key (a .key .now) (a .lo) (a .hi) (a .s .now) (sym (c .before .before .before .has-key .ensures) ∙ not-false _ (c .before .before .if1 .left))))
+    c .read-number .ensures ∙ rw (toZ-ofZ (s .fits .lo), toZ-ofZ (s .fits .hi))
+    (ap (numberIn (a .lo) (a .hi)) (drop-rest (length (a .key .now)) (a .s .now))
+    ∙ sym (numberAfter-key (a .key .now) (a .lo) (a .hi) (a .s .now) (sym (c .before .before .before .has-key .ensures) ∙ not-false _ (c .before .before .if1 .left))))
 
 pub number-after-spec : {M : Type 1} → statement M
 number-after-spec =

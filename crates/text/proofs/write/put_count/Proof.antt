@@ -7,7 +7,7 @@ use native.Mathlib.Omega.{arith}
 use borrow.Author.Needs.{needs}
 use lib.ListN.{length}
 use Rattle.text.specs.Numbers.{digits}
-use Rattle.text.specs.DigitLaws.{digits-length-one, digits-length-more, digits-some, digits-short}
+use Rattle.text.specs.DigitLaws.{digits-length-more, digits-some, digits-short}
 use Rattle.text.specs.Lent.{put}
 use Rattle.text.specs.LentLaws.{put-digits-more, put-digits-one}
 use Rattle.text.proofs.write.put_count.Statement.{statement}
