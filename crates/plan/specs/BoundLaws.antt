@@ -1,7 +1,7 @@
 -- The laws of a bound line as the code takes it apart. A name up to its comma (`nameTo-bare`, `nameTo-read`), at a place in the line (`nameTo-fits`); the
 -- two names and the number are the line's parts (`namesIn-parts`); the judgement, test by test (`judgedBound-range`, `-pair`, `-value`).
-use mathlib.Core.Path.{_≡_, refl, sym, _∙_, ap, subst}
-use mathlib.Core.Bool.{Bool, true, false, not, cond, _&&_}
+use mathlib.Core.Path.{_≡_, refl, sym, _∙_, ap}
+use mathlib.Core.Bool.{Bool, true, false, cond, _&&_}
 use mathlib.Core.List.{List}
 use mathlib.Core.Option.{Option, none, some}
 use Prim.Native.Nat.{ℕ, _+_, _≤_, _<_}

@@ -1,11 +1,11 @@
 -- The laws of lists that the plan's arrays need: what is told of each element (`All`) is told at each place (`All-at`), and of one more (`All-more`); an
--- array that a list fills has its size, the list's elements at the first places (`filled-at`), and its beginnings (`filled-take`).
-use mathlib.Core.Path.{_≡_}
+-- array that a list fills has its size, the list's elements at the first places (`filled-at`), and its beginnings (`filled-take`, `filled-all`).
+use mathlib.Core.Path.{_≡_, _∙_}
 use mathlib.Core.List.{List, [], _∷_, _++_}
 use Prim.Native.Nat.{ℕ, zero, suc, _-_, _≤_, _<_}
 use native.Mathlib.Omega.{arith}
 use lib.ListN.{length, take, getD, replicate, length-append, length-replicate, List·getD-append}
-use lib.Seq.{take-append-le}
+use lib.Seq.{take-append-le, take-all}
 use Rattle.plan.specs.PlanRead.{filled}
 
 -- what is told of each element
@@ -31,3 +31,6 @@ module _ {A : Type 0} (size : ℕ) (d : A) (xs : List A) (fits : length xs ≤ s
 
   pub filled-take : (i : ℕ) → i ≤ length xs → take i (filled size d xs) ≡ take i xs
   filled-take i l = take-append-le i xs (replicate (size - length xs) d) l
+
+  pub filled-all : (n : ℕ) → length xs ≡ n → take n (filled size d xs) ≡ xs
+  filled-all n e = filled-take n (omega arith) ∙ take-all n xs (omega arith)

@@ -1,6 +1,8 @@
--- A plan that was read is accepted: `jobLines-then`, `jobsAfter-then` and `boundsAfter-then` tell it of the groups of lines, `planHead-accepted` and
--- `planAlone-accepted` of the plan. A plan alone has nothing after it (`nothingAfter-read`).
-use mathlib.Core.Path.{_≡_, refl, ap, subst}
+-- What an accepted text tells of the plan and of itself: the plan is accepted (`planHead-accepted`, `planAlone-accepted`), the text is the plan written out
+-- (`planHead-written`, `planAlone-written`), the places beyond the plan's jobs and bounds hold zeros (`-trimmed`), and the text is short enough (`-fits`). So a
+-- plan that was read and is written out is read again as the same plan (`planAlone-again`), and no two texts are the same plan (`planAlone-unique`).
+-- `jobLines-then`, `jobsAfter-then`, `boundParts-read`, `boundIn-read`, `boundsAfter-then` and `planLines-read` tell it of the lines and their groups.
+use mathlib.Core.Path.{_≡_, refl, sym, _∙_, ap, subst}
 use mathlib.Core.Bool.{Bool, true, false, not, cond, _&&_}
 use mathlib.Core.List.{List, [], _∷_, _++_, append-assoc, append-nil}
 use mathlib.Core.Option.{Option, none, some}
@@ -8,34 +10,41 @@ use Prim.Native.Nat.{ℕ, zero, suc, _+_, _≤_, _<_}
 use native.Mathlib.Omega.{arith}
 use borrow.Author.Tests.{leb-true}
 use lib.Dec.{leb}
-use lib.IntN.{ℤ}
+use lib.IntN.{ℤ, pos}
 use lib.ListN.{length, take, getD}
 use lib.Signed.{leZ}
 use Rattle.whole.specs.Rules.{whole}
 use Rattle.text.specs.Bytes.{bytes}
-use Rattle.text.specs.Lines.{LF, before, afterKey}
-use Rattle.text.specs.Numbers.{numberValue}
+use Rattle.text.specs.Lines.{LF, comma, before, has, after, afterKey}
+use Rattle.text.specs.LineLaws.{has-split, afterKey-split}
+use Rattle.text.specs.NumberLaws.{number-back}
+use Rattle.text.specs.Numbers.{isNumber, numberValue, decimal}
 use Rattle.text.specs.declared.Fault.the-variants as fault
 use Rattle.plan.specs.declared.Job.{Job}
+use Rattle.plan.specs.declared.EventName.{EventName}
 use Rattle.plan.specs.declared.Bound.{Bound}
 use Rattle.plan.specs.declared.BoundLine.the-variants as boundLine
 use Rattle.plan.specs.declared.Plan.{Plan}
 use Rattle.plan.specs.Limits.{longestText, mostJobs, mostBounds, leastC, greatestC}
 use Rattle.plan.specs.Refusals.{tooLong}
 use Rattle.plan.specs.Reading.{value, Reading, read, refused, Reader, next}
-use Rattle.plan.specs.PlanRead.{jobLines, jobsAfter, BoundParts, boundParts, isJob, isWrongPair, boundOf, linedBound, boundIn, boundsAfter, noJob, noBound, filled, planLines, planHead, nothingAfter, planAlone}
-use Rattle.plan.specs.ListLaws.{All, All-at, filled-length, filled-at, filled-take}
+use Rattle.plan.specs.PlanRead.{jobLines, jobsAfter, BoundParts, partsOf, boundParts, isJob, isWrongPair, boundOf, linedBound, boundIn, boundsAfter, noJob, noBound, filled, planLines, planHead, nothingAfter, planAlone}
+use Rattle.plan.specs.EventNames.{nameBytes, eventName}
+use Rattle.plan.specs.EventNameLaws.{eventName-written}
+use Rattle.plan.specs.PlanWritten.{keyed, boundBytes, jobsText, boundsText, trimmed, planText}
+use Rattle.plan.specs.ListLaws.{All, All-at, filled-length, filled-at, filled-take, filled-all}
 use Rattle.plan.specs.Accepted.{JobAccepted, BoundAccepted, Accepted}
-use Rattle.plan.specs.ReadingLaws.{next-then, next-of, line-read, numberLine-then, countLine-then}
+use Rattle.plan.specs.ReadingLaws.{next-then, next-of, line-read, line-written, numberLine-then, countLine-then}
 
 -- ---- jobs
 
 pub record JobRead (s : List ℕ) (j : Job) (t : List ℕ) : Type 0 where
   pub accepted : JobAccepted j
+  pub written : s ≡ jobsText (j ∷ []) t
 
 pub jobLines-then : {B G : Type 0} (s : List ℕ) (n : ℕ) (f : Job → Reader B) {b : B} {t : List ℕ} {k : ℕ}
     → next (jobLines s n) f ≡ read b t k → ((j : Job) (r : List ℕ) → JobRead s j r → f j r (suc (suc (suc (suc n)))) ≡ read b t k → G) → G
-unfolding jobLines
+unfolding jobLines jobsText
 jobLines-then s n f {b} {t} {k} e go =
     next-then (jobLines s n) f e
     (λ j r i d h.
@@ -60,6 +69,9 @@ jobLines-then s n f {b} {t} {k} e go =
         deadline-least = q4 .least;
         deadline-most = q4 .most;
       };
+      written =
+          q1 .written
+          ∙ ap (keyed (bytes "min=") z1) (q2 .written ∙ ap (keyed (bytes "max=") z2) (q3 .written ∙ ap (keyed (bytes "release=") z3) (q4 .written)));
     })
     (cc))))))
 
@@ -67,22 +79,59 @@ jobLines-then s n f {b} {t} {k} e go =
 pub record JobsRead (left : ℕ) (s : List ℕ) (js : List Job) (t : List ℕ) : Type 0 where
   pub count : length js ≡ left
   pub accepted : All JobAccepted js
+  pub written : s ≡ jobsText js t
 
 pub jobsAfter-then : {B G : Type 0} (done : List Job) (left : ℕ) (s : List ℕ) (n : ℕ) (f : List Job → Reader B) {b : B} {t : List ℕ} {k : ℕ}
     → next (jobsAfter done left s n) f ≡ read b t k → ((js : List Job) (r : List ℕ) (i : ℕ) → JobsRead left s js r → f (done ++ js) r i ≡ read b t k → G) → G
-unfolding jobsAfter next
-jobsAfter-then done zero s n f e go = go [] s n (record { count = refl; accepted = tt }) (rw append-nil e)
+unfolding jobsAfter next jobsText
+jobsAfter-then done zero s n f e go = go [] s n (record { count = refl; accepted = tt; written = refl }) (rw append-nil e)
 jobsAfter-then {B} {G} done (suc left) s n f {b} {t} {k} e go =
     next-then (jobsAfter done (suc left) s n) f e
     (λ js r i d h.
     jobLines-then s n _ d
     (λ j u q g.
     jobsAfter-then (done ++ (j ∷ [])) left u (suc (suc (suc (suc n)))) f (next-of f g h)
-    (λ more v m p y. go (j ∷ more) v m (record { count = ap suc (p .count); accepted = (q .accepted, p .accepted) }) (rw append-assoc at y))))
+    (λ more v m p y. go (j ∷ more) v m (record { count = ap suc (p .count); accepted = (q .accepted, p .accepted); written = q .written ∙ ap (jobsText (j ∷ [])) (p .written) }) (rw append-assoc at y))))
 
 -- ---- bounds
 
+pub record PartsRead (s : List ℕ) (q : BoundParts) : Type 0 where
+  pub form : isNumber (q .c) ≡ true
+  pub written : s ≡ nameBytes (q .a) ++ (comma ∷ (nameBytes (q .b) ++ (comma ∷ q .c)))
+
+pub boundParts-read : (s : List ℕ) {q : BoundParts} → boundParts (some s) ≡ some q → PartsRead s q
+unfolding boundParts
+boundParts-read s {q} e = by-commas (has comma s) (has comma (after comma s)) refl refl e
+  where
+    t : List ℕ
+    t = after comma s
+
+    by-form : (a b : EventName) → has comma s ≡ true → has comma t ≡ true → eventName (before comma s) ≡ some a → eventName (before comma t) ≡ some b
+        → (n : Bool) → isNumber (after comma t) ≡ n → cond n (some (record { a = a; b = b; c = after comma t })) none ≡ some q → PartsRead s q
+    by-form a b p1 p2 p3 p4 true h d =
+        let v : _≡_ {A = BoundParts} (record { a = a; b = b; c = after comma t }) q = cc in
+        subst (PartsRead s) v
+        (record {
+          form = h;
+          written =
+              has-split comma s p1
+              ∙ ap (λ (x : List ℕ). x ++ (comma ∷ t)) (eventName-written (before comma s) a p3)
+              ∙ ap (λ (x : List ℕ). nameBytes a ++ (comma ∷ x)) (has-split comma t p2 ∙ ap (λ (x : List ℕ). x ++ (comma ∷ after comma t)) (eventName-written (before comma t) b p4));
+        })
+    by-form a b p1 p2 p3 p4 false h d = absurd (let z : _≡_ {A = ℕ} 0 1 = cc in omega arith)
+
+    by-names : has comma s ≡ true → has comma t ≡ true → (a b : Option EventName) → eventName (before comma s) ≡ a → eventName (before comma t) ≡ b → partsOf a b (after comma t) ≡ some q → PartsRead s q
+    by-names p1 p2 none b p3 p4 d = absurd (let z : _≡_ {A = ℕ} 0 1 = cc in omega arith)
+    by-names p1 p2 (some a) none p3 p4 d = absurd (let z : _≡_ {A = ℕ} 0 1 = cc in omega arith)
+    by-names p1 p2 (some a) (some b) p3 p4 d = by-form a b p1 p2 p3 p4 (isNumber (after comma t)) refl d
+
+    by-commas : (x y : Bool) → has comma s ≡ x → has comma t ≡ y → cond (x && y) (partsOf (eventName (before comma s)) (eventName (before comma t)) (after comma t)) none ≡ some q → PartsRead s q
+    by-commas true true p1 p2 d = by-names p1 p2 (eventName (before comma s)) (eventName (before comma t)) refl refl d
+    by-commas true false p1 p2 d = absurd (let z : _≡_ {A = ℕ} 0 1 = cc in omega arith)
+    by-commas false y p1 p2 d = absurd (let z : _≡_ {A = ℕ} 0 1 = cc in omega arith)
+
 pub record BoundRead (jobs : ℕ) (given : List Bound) (l : List ℕ) (d : Bound) : Type 0 where
+  pub written : l ≡ boundBytes d []
   pub accepted : BoundAccepted jobs d
   pub pair : isWrongPair (d .a) (d .b) given ≡ false
 
@@ -95,34 +144,43 @@ isJob-range jobs i e = by-tests (leb 1 i) (leb i jobs) refl refl e
     by-tests false b p q e = absurd (let z : _≡_ {A = ℕ} 0 1 = cc in omega arith)
 
 pub boundIn-read : (jobs : ℕ) (given : List Bound) (l : List ℕ) {d : Bound} → linedBound (boundIn jobs given l) ≡ value d → BoundRead jobs given l d
-unfolding linedBound boundOf
+unfolding linedBound boundOf boundParts
 boundIn-read jobs given l {d} e = by-parts (boundParts (afterKey (bytes "bound=") l)) refl e
   where
-    by-pair : (q : BoundParts) → isJob jobs (q .a .job) ≡ true → isJob jobs (q .b .job) ≡ true → leZ leastC (numberValue (q .c)) ≡ true → leZ (numberValue (q .c)) greatestC ≡ true
+    by-key : (o : Option (List ℕ)) → afterKey (bytes "bound=") l ≡ o → (q : BoundParts) → boundParts o ≡ some q → l ≡ boundBytes (record { a = q .a; b = q .b; c = numberValue (q .c) }) []
+    by-key none p q h = absurd (let z : _≡_ {A = ℕ} 0 1 = cc in omega arith)
+    by-key (some t) p q h =
+        let r = boundParts-read t h in
+        afterKey-split (bytes "bound=") l t p
+        ∙ ap (λ (x : List ℕ). bytes "bound=" ++ x) (r .written)
+        ∙ ap (λ (x : List ℕ). bytes "bound=" ++ (nameBytes (q .a) ++ (comma ∷ (nameBytes (q .b) ++ (comma ∷ x))))) (sym (number-back (q .c) (r .form)) ∙ sym (append-nil (decimal (numberValue (q .c)))))
+
+    by-pair : (q : BoundParts) → boundParts (afterKey (bytes "bound=") l) ≡ some q → isJob jobs (q .a .job) ≡ true → isJob jobs (q .b .job) ≡ true → leZ leastC (numberValue (q .c)) ≡ true → leZ (numberValue (q .c)) greatestC ≡ true
         → (t : Bool) → isWrongPair (q .a) (q .b) given ≡ t
         → linedBound (cond t (boundLine.Bad fault.Pair) (boundLine.Value (record { a = q .a; b = q .b; c = numberValue (q .c) }))) ≡ value d → BoundRead jobs given l d
-    by-pair q ja jb cl cm true w e = absurd (let z : _≡_ {A = ℕ} 0 1 = cc in omega arith)
-    by-pair q ja jb cl cm false w e =
+    by-pair q p ja jb cl cm true w e = absurd (let z : _≡_ {A = ℕ} 0 1 = cc in omega arith)
+    by-pair q p ja jb cl cm false w e =
         let v : _≡_ {A = Bound} (record { a = q .a; b = q .b; c = numberValue (q .c) }) d = cc in
         let ra = isJob-range jobs (q .a .job) ja in
         let rb = isJob-range jobs (q .b .job) jb in
         subst (λ x. BoundRead jobs given l x) v
         (record {
+          written = by-key (afterKey (bytes "bound=") l) refl q p;
           accepted = record { a-least = ra .0; a-most = ra .1; b-least = rb .0; b-most = rb .1; c-least = omega whole; c-most = omega whole };
           pair = w;
         })
 
-    by-range : (q : BoundParts) (ja jb cl cm : Bool) → isJob jobs (q .a .job) ≡ ja → isJob jobs (q .b .job) ≡ jb → leZ leastC (numberValue (q .c)) ≡ cl → leZ (numberValue (q .c)) greatestC ≡ cm
+    by-range : (q : BoundParts) → boundParts (afterKey (bytes "bound=") l) ≡ some q → (ja jb cl cm : Bool) → isJob jobs (q .a .job) ≡ ja → isJob jobs (q .b .job) ≡ jb → leZ leastC (numberValue (q .c)) ≡ cl → leZ (numberValue (q .c)) greatestC ≡ cm
         → linedBound (cond (not (ja && jb && (cl && cm))) (boundLine.Bad fault.Range) (cond (isWrongPair (q .a) (q .b) given) (boundLine.Bad fault.Pair) (boundLine.Value (record { a = q .a; b = q .b; c = numberValue (q .c) })))) ≡ value d → BoundRead jobs given l d
-    by-range q true true true true p1 p2 p3 p4 e = by-pair q p1 p2 p3 p4 (isWrongPair (q .a) (q .b) given) refl e
-    by-range q true true true false p1 p2 p3 p4 e = absurd (let z : _≡_ {A = ℕ} 0 1 = cc in omega arith)
-    by-range q true true false cm p1 p2 p3 p4 e = absurd (let z : _≡_ {A = ℕ} 0 1 = cc in omega arith)
-    by-range q true false cl cm p1 p2 p3 p4 e = absurd (let z : _≡_ {A = ℕ} 0 1 = cc in omega arith)
-    by-range q false jb cl cm p1 p2 p3 p4 e = absurd (let z : _≡_ {A = ℕ} 0 1 = cc in omega arith)
+    by-range q p true true true true p1 p2 p3 p4 e = by-pair q p p1 p2 p3 p4 (isWrongPair (q .a) (q .b) given) refl e
+    by-range q p true true true false p1 p2 p3 p4 e = absurd (let z : _≡_ {A = ℕ} 0 1 = cc in omega arith)
+    by-range q p true true false cm p1 p2 p3 p4 e = absurd (let z : _≡_ {A = ℕ} 0 1 = cc in omega arith)
+    by-range q p true false cl cm p1 p2 p3 p4 e = absurd (let z : _≡_ {A = ℕ} 0 1 = cc in omega arith)
+    by-range q p false jb cl cm p1 p2 p3 p4 e = absurd (let z : _≡_ {A = ℕ} 0 1 = cc in omega arith)
 
     by-parts : (o : Option BoundParts) → boundParts (afterKey (bytes "bound=") l) ≡ o → linedBound (boundOf jobs (λ a b. isWrongPair a b given) o) ≡ value d → BoundRead jobs given l d
     by-parts none p e = absurd (let z : _≡_ {A = ℕ} 0 1 = cc in omega arith)
-    by-parts (some q) p e = by-range q (isJob jobs (q .a .job)) (isJob jobs (q .b .job)) (leZ leastC (numberValue (q .c))) (leZ (numberValue (q .c)) greatestC) refl refl refl refl e
+    by-parts (some q) p e = by-range q p (isJob jobs (q .a .job)) (isJob jobs (q .b .job)) (leZ leastC (numberValue (q .c))) (leZ (numberValue (q .c)) greatestC) refl refl refl refl e
 
 -- each bound in its range, and its pair right after the bounds given before it
 abbrev pub AllBounds : ℕ → List Bound → List Bound → Type 0
@@ -137,14 +195,18 @@ AllBounds-at jobs given (d ∷ ds) (suc i) h l =
     let q = AllBounds-at jobs (given ++ (d ∷ [])) ds i (h .2) (omega arith) in
     (q .0, rw append-assoc at (q .1))
 
+boundBytes-append : (d : Bound) (s t : List ℕ) → boundBytes d s ++ t ≡ boundBytes d (s ++ t)
+boundBytes-append d s t = simp append-assoc
+
 pub record BoundsRead (jobs : ℕ) (given : List Bound) (left : ℕ) (s : List ℕ) (ds : List Bound) (t : List ℕ) : Type 0 where
   pub count : length ds ≡ left
   pub accepted : AllBounds jobs given ds
+  pub written : s ≡ boundsText ds ++ t
 
 pub boundsAfter-then : {B G : Type 0} (jobs : ℕ) (given : List Bound) (left : ℕ) (s : List ℕ) (n : ℕ) (f : List Bound → Reader B) {b : B} {t : List ℕ} {k : ℕ}
     → next (boundsAfter jobs given left s n) f ≡ read b t k → ((ds : List Bound) (r : List ℕ) (i : ℕ) → BoundsRead jobs given left s ds r → f (given ++ ds) r i ≡ read b t k → G) → G
-unfolding boundsAfter next
-boundsAfter-then jobs given zero s n f e go = go [] s n (record { count = refl; accepted = tt }) (rw append-nil e)
+unfolding boundsAfter next boundsText
+boundsAfter-then jobs given zero s n f e go = go [] s n (record { count = refl; accepted = tt; written = refl }) (rw append-nil e)
 boundsAfter-then {B} {G} jobs given (suc left) s n f {b} {t} {k} e go =
     next-then (boundsAfter jobs given (suc left) s n) f e
     (λ js r i y h.
@@ -153,7 +215,16 @@ boundsAfter-then {B} {G} jobs given (suc left) s n f {b} {t} {k} e go =
     let q = line-read (λ l. linedBound (boundIn jobs given l)) s n w in
     let p = boundIn-read jobs given (before LF s) (q .held) in
     boundsAfter-then jobs (given ++ (d ∷ [])) left u m f (next-of f g h)
-    (λ more v x c o. go (d ∷ more) v x (record { count = ap suc (c .count); accepted = (p .accepted, p .pair, c .accepted) }) (rw append-assoc at o))))
+    (λ more v x c o. go (d ∷ more) v x (record {
+      count = ap suc (c .count);
+      accepted = (p .accepted, p .pair, c .accepted);
+      written =
+          line-written q
+          ∙ ap (λ (l : List ℕ). l ++ (LF ∷ u)) (p .written)
+          ∙ boundBytes-append d [] (LF ∷ u)
+          ∙ ap (λ (x : List ℕ). boundBytes d (LF ∷ x)) (c .written)
+          ∙ sym (boundBytes-append d (LF ∷ boundsText more) v);
+    }) (rw append-assoc at o))))
 
 -- ---- the plan
 
@@ -169,9 +240,33 @@ planOf window rounds last jobs js bounds ds =
       bound = filled mostBounds noBound ds;
     }
 
-pub planLines-accepted : (s : List ℕ) (n : ℕ) {p : Plan} {t : List ℕ} {k : ℕ} → planLines s n ≡ read p t k → Accepted p
-unfolding planLines
-planLines-accepted s n {p} {t} {k} e =
+-- what a plan's lines tell: the plan is accepted, its text is what was read, and the places beyond its jobs and bounds hold zeros
+pub record PlanRead (s : List ℕ) (p : Plan) (t : List ℕ) : Type 0 where
+  pub accepted : Accepted p
+  pub written : planText p ++ t ≡ s
+  pub whole : trimmed p ≡ p
+
+jobsText-append : (js : List Job) (s t : List ℕ) → jobsText js s ++ t ≡ jobsText js (s ++ t)
+unfolding jobsText
+jobsText-append [] s t = refl
+jobsText-append (j ∷ js) s t = simp (append-assoc, jobsText-append js s t)
+
+-- the lines of a plan, with what follows the count of its bounds
+abbrev linesOf : ℤ → ℕ → ℕ → ℕ → List Job → ℕ → List ℕ → List ℕ
+linesOf window rounds last jobs js bounds s =
+    keyed (bytes "window=") window
+    (keyed (bytes "rounds=") (pos rounds)
+    (keyed (bytes "last=") (pos last)
+    (keyed (bytes "jobs=") (pos jobs)
+    (jobsText js
+    (keyed (bytes "bounds=") (pos bounds) s)))))
+
+linesOf-append : (window : ℤ) (rounds last jobs : ℕ) (js : List Job) (bounds : ℕ) (s t : List ℕ) → linesOf window rounds last jobs js bounds s ++ t ≡ linesOf window rounds last jobs js bounds (s ++ t)
+linesOf-append window rounds last jobs js bounds s t = simp (append-assoc, jobsText-append)
+
+pub planLines-read : (s : List ℕ) (n : ℕ) {p : Plan} {t : List ℕ} {k : ℕ} → planLines s n ≡ read p t k → PlanRead s p t
+unfolding planLines planText trimmed
+planLines-read s n {p} {t} {k} e =
     numberLine-then _ _ _ _ _ _ e
     (λ window r1 q1 d1.
     countLine-then _ _ _ _ _ _ d1
@@ -187,37 +282,58 @@ planLines-accepted s n {p} {t} {k} e =
     boundsAfter-then _ _ _ _ _ _ d6
     (λ ds r7 i7 q7 d7.
     let m : _≡_ {A = Plan} (planOf window rounds last jobs js bounds ds) p = cc in
-    subst Accepted m
+    let all : length js ≤ mostJobs = omega (arith, q4 .most, q5 .count) in
+    let every : length ds ≤ mostBounds = omega (arith, q6 .most, q7 .count) in
+    let jobs-are : take jobs (filled mostJobs noJob js) ≡ js = filled-all mostJobs noJob js all jobs (q5 .count) in
+    let bounds-are : take bounds (filled mostBounds noBound ds) ≡ ds = filled-all mostBounds noBound ds every bounds (q7 .count) in
+    subst (λ x. PlanRead s x t) m
     (record {
-      window-least = q1 .least;
-      window-most = q1 .most;
-      rounds-least = q2 .least;
-      rounds-most = q2 .most;
-      last-least = q3 .least;
-      last-most = q3 .most;
-      jobs-least = q4 .least;
-      jobs-most = q4 .most;
-      bounds-most = q6 .most;
-      job-places = filled-length mostJobs noJob js (omega (arith, q4 .most, q5 .count));
-      bound-places = filled-length mostBounds noBound ds (omega (arith, q6 .most, q7 .count));
-      job-at = λ i l.
-          rw (filled-at mostJobs noJob js (omega (arith, q4 .most, q5 .count)) i (omega (arith, q5 .count)))
-          (All-at JobAccepted js noJob i (q5 .accepted) (omega (arith, q5 .count)));
-      bound-at = λ i l.
-          rw (filled-at mostBounds noBound ds (omega (arith, q6 .most, q7 .count)) i (omega (arith, q7 .count)))
-          (AllBounds-at jobs [] ds i (q7 .accepted) (omega (arith, q7 .count)) .0);
-      pair-at = λ i l.
-          rw (filled-at mostBounds noBound ds (omega (arith, q6 .most, q7 .count)) i (omega (arith, q7 .count)), filled-take mostBounds noBound ds (omega (arith, q6 .most, q7 .count)) i (omega (arith, q7 .count)))
-          (AllBounds-at jobs [] ds i (q7 .accepted) (omega (arith, q7 .count)) .1);
+      accepted = record {
+        window-least = q1 .least;
+        window-most = q1 .most;
+        rounds-least = q2 .least;
+        rounds-most = q2 .most;
+        last-least = q3 .least;
+        last-most = q3 .most;
+        jobs-least = q4 .least;
+        jobs-most = q4 .most;
+        bounds-most = q6 .most;
+        job-places = filled-length mostJobs noJob js all;
+        bound-places = filled-length mostBounds noBound ds every;
+        job-at = λ i l.
+            rw (filled-at mostJobs noJob js all i (omega (arith, q5 .count)))
+            (All-at JobAccepted js noJob i (q5 .accepted) (omega (arith, q5 .count)));
+        bound-at = λ i l.
+            rw (filled-at mostBounds noBound ds every i (omega (arith, q7 .count)))
+            (AllBounds-at jobs [] ds i (q7 .accepted) (omega (arith, q7 .count)) .0);
+        pair-at = λ i l.
+            rw (filled-at mostBounds noBound ds every i (omega (arith, q7 .count)), filled-take mostBounds noBound ds every i (omega (arith, q7 .count)))
+            (AllBounds-at jobs [] ds i (q7 .accepted) (omega (arith, q7 .count)) .1);
+      };
+      written =
+          rw (jobs-are, bounds-are)
+          (linesOf-append window rounds last jobs js bounds (boundsText ds) t
+          ∙ sym
+          (q1 .written
+          ∙ ap (keyed (bytes "window=") window)
+          (q2 .written
+          ∙ ap (keyed (bytes "rounds=") (pos rounds))
+          (q3 .written
+          ∙ ap (keyed (bytes "last=") (pos last))
+          (q4 .written
+          ∙ ap (keyed (bytes "jobs=") (pos jobs))
+          (q5 .written ∙ ap (jobsText js) (q6 .written ∙ ap (keyed (bytes "bounds=") (pos bounds)) (q7 .written ∙ ap (λ (x : List ℕ). boundsText ds ++ x) (cc)))))))));
+      whole = rw (jobs-are, bounds-are);
     }))))))))
 
-pub planHead-accepted : (s : List ℕ) {p : Plan} {t : List ℕ} {k : ℕ} → planHead s ≡ read p t k → Accepted p
+-- 'At most 65,536 bytes'
+pub planHead-read : (s : List ℕ) {p : Plan} {t : List ℕ} {k : ℕ} → planHead s ≡ read p t k → PlanRead s p t × (length s ≤ longestText)
 unfolding planHead
-planHead-accepted s {p} {t} {k} e = by-length (leb (length s) longestText) e
+planHead-read s {p} {t} {k} e = by-length (leb (length s) longestText) refl e
   where
-    by-length : (b : Bool) → cond b (planLines s 1) (refused tooLong []) ≡ read p t k → Accepted p
-    by-length true d = planLines-accepted s 1 d
-    by-length false d = absurd (let z : _≡_ {A = ℕ} 0 1 = cc in omega arith)
+    by-length : (b : Bool) → leb (length s) longestText ≡ b → cond b (planLines s 1) (refused tooLong []) ≡ read p t k → PlanRead s p t × (length s ≤ longestText)
+    by-length true h d = (planLines-read s 1 d, leb-true (length s) longestText h)
+    by-length false h d = absurd (let z : _≡_ {A = ℕ} 0 1 = cc in omega arith)
 
 -- 'nothing after the last'
 pub nothingAfter-read : (m : Reading Plan) {p : Plan} {t : List ℕ} {k : ℕ} → nothingAfter m ≡ read p t k → (m ≡ read p t k) × (t ≡ [])
@@ -226,5 +342,44 @@ nothingAfter-read (read q [] n) e = (e, cc)
 nothingAfter-read (read q (a ∷ s) n) e = absurd (let z : _≡_ {A = ℕ} 0 1 = cc in omega arith)
 nothingAfter-read (refused r s) e = absurd (let z : _≡_ {A = ℕ} 0 1 = cc in omega arith)
 
-pub planAlone-accepted : (s : List ℕ) {p : Plan} {t : List ℕ} {k : ℕ} → planAlone s ≡ read p t k → Accepted p
-planAlone-accepted s e = planHead-accepted s (nothingAfter-read (planHead s) e .0)
+-- ---- what an accepted text tells
+
+module _ (s : List ℕ) {p : Plan} {t : List ℕ} {k : ℕ} (e : planHead s ≡ read p t k) where
+  pub planHead-accepted : Accepted p
+  planHead-accepted = planHead-read s e .0 .accepted
+
+  pub planHead-written : planText p ++ t ≡ s
+  planHead-written = planHead-read s e .0 .written
+
+  pub planHead-trimmed : trimmed p ≡ p
+  planHead-trimmed = planHead-read s e .0 .whole
+
+  pub planHead-fits : length s ≤ longestText
+  planHead-fits = planHead-read s e .1
+
+module _ (s : List ℕ) {p : Plan} {t : List ℕ} {k : ℕ} (e : planAlone s ≡ read p t k) where
+  head : planHead s ≡ read p t k
+  head = nothingAfter-read (planHead s) e .0
+
+  pub planAlone-end : t ≡ []
+  planAlone-end = nothingAfter-read (planHead s) e .1
+
+  pub planAlone-accepted : Accepted p
+  planAlone-accepted = planHead-accepted s head
+
+  pub planAlone-written : planText p ≡ s
+  planAlone-written = sym (append-nil (planText p)) ∙ ap (λ (x : List ℕ). planText p ++ x) (sym planAlone-end) ∙ planHead-written s head
+
+  pub planAlone-trimmed : trimmed p ≡ p
+  planAlone-trimmed = planHead-trimmed s head
+
+  pub planAlone-fits : length s ≤ longestText
+  planAlone-fits = planHead-fits s head
+
+  -- written out and read again it is the same plan
+  pub planAlone-again : planAlone (planText p) ≡ read p [] k
+  planAlone-again = ap planAlone planAlone-written ∙ e ∙ ap (λ (x : List ℕ). read p x k) planAlone-end
+
+-- two texts are never the same accepted plan
+pub planAlone-unique : (s s′ : List ℕ) {p : Plan} {t t′ : List ℕ} {k k′ : ℕ} → planAlone s ≡ read p t k → planAlone s′ ≡ read p t′ k′ → s ≡ s′
+planAlone-unique s s′ e e′ = sym (planAlone-written s e) ∙ planAlone-written s′ e′

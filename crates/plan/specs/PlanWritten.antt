@@ -11,9 +11,10 @@ use Rattle.plan.specs.declared.Job.{Job}
 use Rattle.plan.specs.declared.Bound.{Bound}
 use Rattle.plan.specs.declared.Plan.{Plan}
 use Rattle.plan.specs.declared.Refusal.{Refusal}
+use Rattle.plan.specs.Limits.{mostJobs, mostBounds}
 use Rattle.plan.specs.Reading.{Reading, read, refused}
 use Rattle.plan.specs.EventNames.{nameBytes}
-use Rattle.plan.specs.PlanRead.{planAlone}
+use Rattle.plan.specs.PlanRead.{noJob, noBound, filled, planAlone}
 
 -- a line that is a key and a number, with the text that follows it
 abbrev pub keyed : List ℕ → ℤ → List ℕ → List ℕ
@@ -28,10 +29,13 @@ jobsText (j ∷ js) s =
     (keyed (bytes "deadline=") (j .deadline)
     (jobsText js s))))
 
+-- a bound's line, with what follows its number
+abbrev pub boundBytes : Bound → List ℕ → List ℕ
+boundBytes d s = bytes "bound=" ++ (nameBytes (d .a) ++ (comma ∷ (nameBytes (d .b) ++ (comma ∷ (decimal (d .c) ++ s)))))
+
 unfoldable pub boundsText : List Bound → List ℕ
 boundsText [] = []
-boundsText (d ∷ ds) =
-    bytes "bound=" ++ (nameBytes (d .a) ++ (comma ∷ (nameBytes (d .b) ++ (comma ∷ (decimal (d .c) ++ (LF ∷ boundsText ds))))))
+boundsText (d ∷ ds) = boundBytes d (LF ∷ boundsText ds)
 
 -- the jobs and the bounds of a plan, without the places beyond them
 abbrev pub jobsOf : Plan → List Job
@@ -39,6 +43,19 @@ jobsOf p = take (p .jobs) (p .job)
 
 abbrev pub boundsOf : Plan → List Bound
 boundsOf p = take (p .bounds) (p .bound)
+
+-- the same plan with the reader's zeros in the places beyond them
+unfoldable pub trimmed : Plan → Plan
+trimmed p =
+    record {
+      window = p .window;
+      rounds = p .rounds;
+      last = p .last;
+      jobs = p .jobs;
+      job = filled mostJobs noJob (jobsOf p);
+      bounds = p .bounds;
+      bound = filled mostBounds noBound (boundsOf p);
+    }
 
 -- the plan's lines, in the document's order
 unfoldable pub planText : Plan → List ℕ

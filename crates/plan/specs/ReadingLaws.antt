@@ -1,20 +1,23 @@
 -- What a reading that ended well tells, and what follows it: the reading before it ended well (`next-then`), a line had its LF and its value
 -- (`line-then`), a number is in its range (`numberLine-then`), and so is a count (`countLine-then`). Each hands what it tells to what is shown from the rest.
-use mathlib.Core.Path.{_≡_, refl, _∙_, ap, subst}
-use mathlib.Core.Bool.{Bool, true, false, cond, _&&_}
-use mathlib.Core.List.{List}
-use mathlib.Core.Option.{Option, none, some}
+use mathlib.Core.Path.{_≡_, refl, sym, _∙_, ap}
+use mathlib.Core.Bool.{Bool, true, false, cond}
+use mathlib.Core.List.{List, _∷_, _++_, append-assoc}
 use Prim.Native.Nat.{ℕ, suc, _≤_}
 use native.Mathlib.Omega.{arith}
 use lib.IntN.{ℤ, pos, negsuc, natAbs}
-use lib.Signed.{_≤ℤ_, leZ}
+use lib.Signed.{_≤ℤ_}
 use Rattle.whole.specs.Rules.{whole}
-use Rattle.text.specs.Lines.{LF, before, has, after, afterKey}
-use Rattle.text.specs.Numbers.{numberAfter, numberOf, numberIn, numberWithin, numberValue, isNumber}
+use Rattle.text.specs.LineLaws.{has-split}
+use Rattle.text.specs.NumberLaws.{numberAfter-value}
+use Rattle.text.specs.Lines.{LF, before, has, after}
+use Rattle.text.specs.Numbers.{decimal, numberAfter}
 use Rattle.text.specs.declared.Fault.the-variants as fault
+use Rattle.text.specs.declared.Number.{Number}
 use Rattle.text.specs.declared.Number.the-variants as number
 use Rattle.plan.specs.Reading.{Lined, value, bad, Reading, read, refused, Reader, next, lined, line, linedNumber, numberLine}
 use Rattle.plan.specs.PlanRead.{countLine}
+use Rattle.plan.specs.PlanWritten.{keyed}
 
 -- ---- one reading after another
 
@@ -50,31 +53,32 @@ line-read {A} f s n {a} {t} {k} e = by-end (has LF s) refl e
 
 -- ---- a line that is a key and a number
 
+-- what a number's line tells: its range, and that the text is the number written before the rest
 pub record NumberRead (key : List ℕ) (lo hi : ℤ) (s : List ℕ) (z : ℤ) (t : List ℕ) : Type 0 where
   pub least : lo ≤ℤ z
   pub most : z ≤ℤ hi
+  pub written : s ≡ keyed key z t
+
+-- a line that was read is its content, its LF, and the rest
+pub line-written : {A : Type 0} {f : List ℕ → Lined A} {s : List ℕ} {n : ℕ} {a : A} {t : List ℕ} {k : ℕ} → LineRead f s n a t k → s ≡ before LF s ++ (LF ∷ t)
+line-written {s = s} {t = t} l = has-split LF s (l .ended) ∙ ap (λ (r : List ℕ). before LF s ++ (LF ∷ r)) (sym (l .rest))
 
 pub numberLine-read : (key : List ℕ) (lo hi : ℤ) (s : List ℕ) (n : ℕ) {z : ℤ} {t : List ℕ} {k : ℕ} → numberLine key lo hi s n ≡ read z t k → NumberRead key lo hi s z t × (k ≡ suc n)
-unfolding linedNumber numberOf numberIn
-numberLine-read key lo hi s n {z} {t} {k} e = (by-key (afterKey key (before LF s)) refl (l .held), l .number)
+unfolding linedNumber
+numberLine-read key lo hi s n {z} {t} {k} e = (by-number (numberAfter key lo hi (before LF s)) refl (l .held), l .number)
   where
     l : LineRead (λ l. linedNumber (numberAfter key lo hi l)) s n z t k
     l = line-read (λ l. linedNumber (numberAfter key lo hi l)) s n e
 
-    by-range : (ds : List ℕ) (a b : Bool) → leZ lo (numberValue ds) ≡ a → leZ (numberValue ds) hi ≡ b → linedNumber (cond (a && b) (number.Value (numberValue ds)) (number.Bad fault.Range)) ≡ value z → NumberRead key lo hi s z t
-    by-range ds true true p q d =
-        let v : numberValue ds ≡ z = cc in
-        record { least = subst (λ x. lo ≤ℤ x) v (omega whole); most = subst (λ x. x ≤ℤ hi) v (omega whole) }
-    by-range ds true false p q d = absurd (let z : _≡_ {A = ℕ} 0 1 = cc in omega arith)
-    by-range ds false b p q d = absurd (let z : _≡_ {A = ℕ} 0 1 = cc in omega arith)
-
-    by-form : (ds : List ℕ) (b : Bool) → isNumber ds ≡ b → linedNumber (cond b (numberWithin lo hi (numberValue ds)) (number.Bad fault.Form)) ≡ value z → NumberRead key lo hi s z t
-    by-form ds true p d = by-range ds (leZ lo (numberValue ds)) (leZ (numberValue ds) hi) refl refl d
-    by-form ds false p d = absurd (let z : _≡_ {A = ℕ} 0 1 = cc in omega arith)
-
-    by-key : (o : Option (List ℕ)) → afterKey key (before LF s) ≡ o → linedNumber (numberOf lo hi o) ≡ value z → NumberRead key lo hi s z t
-    by-key none p d = absurd (let z : _≡_ {A = ℕ} 0 1 = cc in omega arith)
-    by-key (some ds) p d = by-form ds (isNumber ds) refl d
+    by-number : (m : Number) → numberAfter key lo hi (before LF s) ≡ m → linedNumber m ≡ value z → NumberRead key lo hi s z t
+    by-number (number.Value y) p d =
+        let q = numberAfter-value key lo hi z (before LF s) (cc) in
+        record {
+          least = q .0 .least;
+          most = q .0 .greatest;
+          written = line-written l ∙ ap (λ (r : List ℕ). r ++ (LF ∷ t)) (q .1) ∙ append-assoc key (decimal z) (LF ∷ t);
+        }
+    by-number (number.Bad f) p d = absurd (let z : _≡_ {A = ℕ} 0 1 = cc in omega arith)
 
 pub numberLine-then : {B G : Type 0} (key : List ℕ) (lo hi : ℤ) (s : List ℕ) (n : ℕ) (f : ℤ → Reader B) {b : B} {t : List ℕ} {k : ℕ}
     → next (numberLine key lo hi s n) f ≡ read b t k → ((z : ℤ) (r : List ℕ) → NumberRead key lo hi s z r → f z r (suc n) ≡ read b t k → G) → G
@@ -87,9 +91,10 @@ numberLine-then key lo hi s n f e go =
 pub record CountRead (key : List ℕ) (lo hi : ℕ) (s : List ℕ) (z : ℕ) (t : List ℕ) : Type 0 where
   pub least : lo ≤ z
   pub most : z ≤ hi
+  pub written : s ≡ keyed key (pos z) t
 
 counted : (key : List ℕ) (lo hi : ℕ) (s : List ℕ) (z : ℤ) (t : List ℕ) → NumberRead key (pos lo) (pos hi) s z t → CountRead key lo hi s (natAbs z) t
-counted key lo hi s (pos m) t q = record { least = omega (whole, q .least); most = omega (whole, q .most) }
+counted key lo hi s (pos m) t q = record { least = omega (whole, q .least); most = omega (whole, q .most); written = q .written }
 counted key lo hi s (negsuc m) t q = absurd (omega (whole, q .least))
 
 pub countLine-then : {B G : Type 0} (key : List ℕ) (lo hi : ℕ) (s : List ℕ) (n : ℕ) (f : ℕ → Reader B) {b : B} {t : List ℕ} {k : ℕ}
