@@ -47,10 +47,10 @@ all-nil P b m = absurd (List·Memᴰ·not-nil m)
 all-cons : (P : Between → Type 0) (a : Between) (bs : List Between) → P a → All P bs → All P (a ∷ bs)
 all-cons P a bs h f b m = ⊎-elim (λ (e : b ≡ a). subst P (sym e) h) (λ n. f b n) (List·Memᴰ·cases-cons m)
 
-all-first : (P : Between → Type 0) (a : Between) (bs : List Between) → All P (a ∷ bs) → P a
+pub all-first : (P : Between → Type 0) (a : Between) (bs : List Between) → All P (a ∷ bs) → P a
 all-first P a bs f = f a (List·Memᴰ·head refl)
 
-all-others : (P : Between → Type 0) (a : Between) (bs : List Between) → All P (a ∷ bs) → All P bs
+pub all-others : (P : Between → Type 0) (a : Between) (bs : List Between) → All P (a ∷ bs) → All P bs
 all-others P a bs f b m = f b (List·Memᴰ·tail m)
 
 all-join : (P : Between → Type 0) (xs bs : List Between) → All P xs → All P bs → All P (xs ++ bs)

@@ -97,12 +97,12 @@ module _ (p : Plan) where
   pub moved-later : (y : ℕ) → 0 < y → moved p y ≡ p .window
   moved-later y h = rw (ne-eqb y 0 (omega arith))
 
-  event-next-start : (k : ℕ) → eventOf (nextNode p (startNode k)) ≡ Start (p .jobs + k)
+  pub event-next-start : (k : ℕ) → eventOf (nextNode p (startNode k)) ≡ Start (p .jobs + k)
   event-next-start k =
       let e : startNode k + ownNodes p ≡ startNode (p .jobs + k) = omega arith in
       ap eventOf (next-later (startNode k) (omega arith) ∙ e) ∙ eventOf-start (p .jobs + k)
 
-  event-next-finish : (k : ℕ) → eventOf (nextNode p (finishNode k)) ≡ Finish (p .jobs + k)
+  pub event-next-finish : (k : ℕ) → eventOf (nextNode p (finishNode k)) ≡ Finish (p .jobs + k)
   event-next-finish k =
       let e : finishNode k + ownNodes p ≡ finishNode (p .jobs + k) = omega arith in
       ap eventOf (next-later (finishNode k) (omega arith) ∙ e) ∙ eventOf-finish (p .jobs + k)
@@ -172,12 +172,12 @@ module _ (p : Plan) (u : History) (two : p .jobs + p .jobs ≤ length u) where
 -- ---- ranges of the next window
 
 module _ (p : Plan) where
-  job-next : (k : ℕ) → k < p .jobs → jobAt p (p .jobs + k) ≡ jobAt p k
+  pub job-next : (k : ℕ) → k < p .jobs → jobAt p (p .jobs + k) ≡ jobAt p k
   job-next k h =
       let e : 1 * p .jobs + k ≡ p .jobs + k = omega arith in
       jobAt-turn p (p .jobs + k) (omega arith) ∙ ap (turn p) (sym e) ∙ turn-seen p 1 k ∙ sym (jobAt-turn p k (omega arith))
 
-  next-shift : (k : ℕ) → shift p (p .jobs + k) ≡ p .window
+  pub next-shift : (k : ℕ) → shift p (p .jobs + k) ≡ p .window
   unfolding shift
   next-shift k = rw (le-ltb (p .jobs + k) (p .jobs) (omega arith))
 

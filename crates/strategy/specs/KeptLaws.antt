@@ -89,7 +89,7 @@ module _ (p : Plan) where
         punctual = λ i h s. let l : i < length u = omega arith in rw (List·getD-append u m noRan i l) (k .punctual i h l);
       }
 
-  held-none : Held p []
+  pub held-none : Held p []
   held-none = record { kept = keptIn-none; punctual = λ i h s. absurd (omega arith) }
 
 -- ---- all windows

@@ -17,3 +17,6 @@ pub mod SeenLaws
 pub mod KeptLaws
 pub mod JoinedLaws
 pub mod RoundLaws
+pub mod BeginLaws
+pub mod AloneLaws
+pub mod FirstLaws

@@ -112,17 +112,16 @@ module _ (p : Plan) (sound : Sound p) where
 
   -- ---- from one round to the next
 
-  Answers : ℕ → Rows → Type 0
+  abbrev pub Answers : ℕ → Rows → Type 0
   Answers m c = (j : ℕ) (h : History) → length h ≡ suc j * p .jobs → Timely p h → Punctual p h → Strategy p h (m * p .jobs)
       → Keeps (nodes (p .jobs)) (at c) (seenFrom p j h)
 
-  more-windows : (m : ℕ) → suc m * p .jobs ≡ p .jobs + m * p .jobs
+  pub more-windows : (m : ℕ) → suc m * p .jobs ≡ p .jobs + m * p .jobs
   more-windows m = omega arith
 
   -- a strategy for one window more makes a game of two windows
-  strategy-both : (m : ℕ) (c0 c : Rows) → C0 p ≡ bounds c0 → Answers m c → (j : ℕ) (h : History) → length h ≡ suc j * p .jobs
+  pub strategy-both : (m : ℕ) (c0 c : Rows) → C0 p ≡ bounds c0 → Answers m c → (j : ℕ) (h : History) → length h ≡ suc j * p .jobs
       → Timely p h → Punctual p h → Strategy p h (suc m * p .jobs) → Forced p (Both p c0 c) (p .jobs) (seenFrom p j h)
-  unfolding Answers
   strategy-both m c0 c e0 answers j h n old c-h s =
       forced-seen p j (Both p c0 c) (p .jobs) h (omega arith)
       (forced-map p _ _ (p .jobs) h
@@ -142,7 +141,7 @@ module _ (p : Plan) (sound : Sound p) where
 
   pub strategy-keeps : (m : ℕ) (c : Rows) → C p m ≡ bounds c → (j : ℕ) (h : History) → length h ≡ suc j * p .jobs
       → Timely p h → Punctual p h → Strategy p h (m * p .jobs) → Keeps (nodes (p .jobs)) (at c) (seenFrom p j h)
-  unfolding C Forced Answers
+  unfolding C Forced
   strategy-keeps zero c e j h n old c-h s =
       let len = length-seen p j h in
       let k : Kept p h = strategy-kept (0 * p .jobs) h s in

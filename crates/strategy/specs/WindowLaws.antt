@@ -45,7 +45,7 @@ pub record Held (p : Plan) (u : History) : Type 0 where
 -- ---- the places of named events
 
 module _ (p : Plan) where
-  place-this : (l : Letter) (i : ℕ) → isNext l ≡ false → 0 < i → i ≤ p .jobs → placeOf p l i < p .jobs
+  pub place-this : (l : Letter) (i : ℕ) → isNext l ≡ false → 0 < i → i ≤ p .jobs → placeOf p l i < p .jobs
   place-this This i e lo hi = omega arith
   place-this Next i e lo hi = absurd (let z : _≡_ {A = ℕ} 0 1 = cc in omega arith)
 
@@ -70,7 +70,7 @@ module _ (p : Plan) where
   neither true b h = absurd (let z : _≡_ {A = ℕ} 0 1 = cc in omega arith)
   neither false b h = (refl, h)
 
-  either : (a b : Bool) → a || b ≡ true → (a ≡ true) ⊎ (b ≡ true)
+  pub either : (a b : Bool) → a || b ≡ true → (a ≡ true) ⊎ (b ≡ true)
   either true b h = inl refl
   either false b h = inr h
 

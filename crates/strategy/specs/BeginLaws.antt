@@ -1,0 +1,135 @@
+-- From the beginning: a contradiction in round m + 1 leaves no strategy for m + 2 windows, one window alone that fails with C(m) none for m + 1, and
+-- where it does not fail there is one. A contradiction in C(0) leaves none for one window. Fewer windows follow from more.
+use Prim.Native.Nat.{ℕ, zero, suc, _+_, _*_, _-_, _≤_, _<_}
+use mathlib.Core.Path.{_≡_, refl, sym, ap, subst, _∙_}
+use mathlib.Core.Logic.{_⊎_, inl, inr, ⊎-elim}
+use mathlib.Core.Bool.{Bool, true, false}
+use mathlib.Core.List.{List, [], _∷_, _++_}
+use native.Mathlib.Nat.{zero-mul, zero-add}
+use native.Mathlib.Omega.{arith}
+use lib.ListN.{length}
+use Rattle.plan.specs.declared.Plan.{Plan}
+use Rattle.bounds.specs.Events.{eventOf, nodes}
+use Rattle.bounds.specs.Tables.{Cell, off, upto, Rows, at, Set, contradiction, bounds}
+use Rattle.bounds.specs.Elimination.{thenSet, eliminated}
+use Rattle.rounds.specs.Rounds.{C0, joined, round}
+use Rattle.rounds.specs.Given.{ownBounds}
+use Rattle.strategy.specs.Histories.{Ran, History, seenFrom}
+use Rattle.strategy.specs.Strategies.{Kept, Forced, Strategy, StrategyFor}
+use Rattle.strategy.specs.Keeping.{Holds, gap, Keeps, Timely, Extreme, Anchored}
+use Rattle.strategy.specs.Soundness.{Sound}
+use Rattle.strategy.specs.HistoryLaws.{Follows, forced-map, forced-split, forced-join, Fails, fails-before, fails-map}
+use Rattle.strategy.specs.PlaceLaws.{Tidy, thenSet-none, elim-tidy, elim-back, elim-none}
+use Rattle.strategy.specs.GivenLaws.{All, BetweenKept}
+use Rattle.strategy.specs.WindowLaws.{Held, held-own}
+use Rattle.strategy.specs.SeenLaws.{seen-all}
+use Rattle.strategy.specs.KeptLaws.{Always, held-none, held-one, Punctual, held-of, punctual-of, kept-of, forced-punctual}
+use Rattle.strategy.specs.JoinedLaws.{C0-none, Both, joined-tidy, joined-keeps, joined-none}
+use Rattle.strategy.specs.RoundLaws.{C, strategy-kept, C-tidy, C-held, strategy-both, strategy-keeps, keeps-strategy, more-windows}
+
+module _ (p : Plan) (sound : Sound p) where
+  nothing-punctual : Punctual p []
+  nothing-punctual k h = absurd (omega arith)
+
+  nothing-timely : Timely p []
+  nothing-timely k h = absurd (omega arith)
+
+  nothing-extreme : (long : Bool) → Extreme p long []
+  nothing-extreme long k h = absurd (omega arith)
+
+  pub nothing-kept : Kept p []
+  nothing-kept = kept-of p [] (held-one p [] (omega arith) (subst (Held p) (sym (seen-all p [])) (held-none p)))
+
+  -- no strategy where every first window of some kind fails
+  fails-first : (Q : History → Type 0) → Fails p (p .jobs) Q → Forced p Q (p .jobs) [] → ⊥
+  fails-first Q f q =
+      let g = fails-before p sound Q 0 (p .jobs) (subst (λ k. Fails p k Q) (sym (zero-add (p .jobs))) f) in
+      g .1 [] refl (nothing-extreme (g .0)) q
+
+  -- a strategy from the beginning, as a game of the first window
+  first-window : (m : ℕ) → StrategyFor p (suc m) → Forced p (λ h. Strategy p h (m * p .jobs) × Punctual p h) (p .jobs) []
+  first-window m s =
+      forced-punctual p sound (λ h. Strategy p h (m * p .jobs)) (λ h q. strategy-kept p sound (m * p .jobs) h q) (p .jobs) [] nothing-punctual
+      (forced-split p (Kept p) (p .jobs) (m * p .jobs) [] (subst (λ g. Strategy p [] g) (more-windows p sound m) s))
+
+  -- ---- contradictions
+
+  round-none : (m : ℕ) (c0 c : Rows) → C0 p ≡ bounds c0 → C p m ≡ bounds c → round p c0 c ≡ contradiction
+      → Fails p (p .jobs) (λ h. Strategy p h (suc m * p .jobs) × Punctual p h)
+  unfolding round
+  round-none m c0 c e0 e none =
+      ⊎-elim
+      (λ (j : joined p c0 c ≡ contradiction).
+      fails-map p sound _ _ (p .jobs) two-windows
+      (fails-before p sound (Both p c0 c) (p .jobs) (p .jobs) (joined-none p sound c0 c e0 anchored j)))
+      (λ (r : (t : Rows) × (joined p c0 c ≡ bounds t) × (eliminated p (p .jobs) (p .jobs) t ≡ contradiction)).
+      fails-map p sound _ _ (p .jobs)
+      (λ h n old q.
+      forced-map p _ _ (p .jobs) h
+      (λ u f b. let size = f .size in joined-keeps p sound c0 c e0 anchored (r .0) (r .1) u (omega arith) b)
+      (two-windows h n old q))
+      (elim-none p sound (p .jobs) (p .jobs) (r .0) (omega arith) (joined-tidy p sound c0 c e0 anchored (r .0) (r .1)) (r .2)))
+      (thenSet-none (joined p c0 c) (eliminated p (p .jobs) (p .jobs)) none)
+    where
+      anchored : Anchored p (nodes (p .jobs)) (at c)
+      anchored = C-tidy p sound m c e .anchored
+
+      two-windows : (h : History) → length h ≡ p .jobs → Timely p h → Strategy p h (suc m * p .jobs) × Punctual p h
+          → Forced p (Both p c0 c) (p .jobs) h
+      two-windows h n old q =
+          subst (Forced p (Both p c0 c) (p .jobs)) (seen-all p h)
+          (strategy-both p sound m c0 c e0 (strategy-keeps p sound m c e) 0 h (omega arith) old (q .1) (q .0))
+
+  pub begin-none : (m : ℕ) (c0 c : Rows) → C0 p ≡ bounds c0 → C p m ≡ bounds c → round p c0 c ≡ contradiction → StrategyFor p (suc (suc m)) → ⊥
+  begin-none m c0 c e0 e none s = fails-first _ (round-none m c0 c e0 e none) (first-window (suc m) s)
+
+  pub begin-own : C0 p ≡ contradiction → StrategyFor p 1 → ⊥
+  begin-own none s =
+      fails-first _
+      (fails-map p sound _ (λ h. Strategy p h (0 * p .jobs) × Punctual p h) (p .jobs)
+      (λ h n old q.
+      subst (λ h. All (BetweenKept h) (ownBounds p)) (seen-all p h)
+      (held-own p sound (seenFrom p 0 h) (held-of p h (strategy-kept p sound (0 * p .jobs) h (q .0)) (q .1) 0)
+      (subst (Timely p) (sym (seen-all p h)) old) (subst (λ h. p .jobs ≤ length h) (sym (seen-all p h)) (omega arith))))
+      (C0-none p sound none))
+      (first-window 0 s)
+
+  -- ---- one window alone
+
+  module _ (m : ℕ) (c : Rows) (e : C p m ≡ bounds c) where
+    alone-tidy : Tidy p (nodes (0 + p .jobs)) c
+    alone-tidy = subst (λ k. Tidy p (nodes k) c) (sym (zero-add (p .jobs))) (C-tidy p sound m c e)
+
+    pub begin-alone : eliminated p 0 (p .jobs) c ≡ contradiction → StrategyFor p (suc m) → ⊥
+    begin-alone none s =
+        let f = elim-none p sound 0 (p .jobs) c (omega arith) alone-tidy none in
+        f .1 [] refl (nothing-extreme (f .0))
+        (forced-map p _ _ (p .jobs) []
+        (λ h g q.
+        let size : length h ≡ 0 + p .jobs = g .size in
+        λ y z a b.
+        subst (λ u. Holds (at c y z) (gap u y z)) (seen-all p h)
+        (strategy-keeps p sound m c e 0 h (omega arith) (g .timely nothing-timely) (q .1) (q .0) y z (omega arith) (omega arith)))
+        (first-window m s))
+
+    pub begin-strategy : (c0 t : Rows) → C0 p ≡ bounds c0 → eliminated p 0 (p .jobs) c ≡ bounds t → StrategyFor p (suc m)
+    begin-strategy c0 t e0 left =
+        let tidy = elim-tidy p sound 0 (p .jobs) c t (omega arith) alone-tidy left in
+        subst (λ g. Strategy p [] g) (sym (more-windows p sound m))
+        (forced-join p (Kept p) (p .jobs) (m * p .jobs) []
+        (forced-map p _ _ (p .jobs) []
+        (λ h g q.
+        let size : length h ≡ 0 + p .jobs = g .size in
+        let old = g .timely nothing-timely in
+        let kept : Keeps (nodes (p .jobs)) (at c) h = λ y z a b. q y z (omega arith) (omega arith) in
+        let held = C-held p sound m c e c0 e0 h (omega arith) old kept in
+        let all = held-one p h (omega arith) (subst (Held p) (sym (seen-all p h)) held) in
+        keeps-strategy p sound m c e 0 h (omega arith) old (punctual-of p h all) (kept-of p h all)
+        (subst (Keeps (nodes (p .jobs)) (at c)) (sym (seen-all p h)) kept))
+        (elim-back p sound 0 (p .jobs) c t (omega arith) alone-tidy left [] refl nothing-timely (nothing tidy))))
+      where
+        nothing : Tidy p (nodes 0) t → Keeps (nodes 0) (at t) []
+        nothing tidy y z a b =
+            let y0 : y ≡ 0 = omega arith in
+            let z0 : z ≡ 0 = omega arith in
+            rw (y0, z0, tidy .diagonal 0 (omega arith)) tt
