@@ -6,3 +6,5 @@ pub mod TextVerdict
 pub mod Bits
 pub mod Calendars
 pub mod CalendarText
+-- ---- laws
+pub mod SameLaws

@@ -20,3 +20,5 @@ pub mod RoundLaws
 pub mod BeginLaws
 pub mod AloneLaws
 pub mod FirstLaws
+pub mod VerdictLaws
+pub mod Theorems
