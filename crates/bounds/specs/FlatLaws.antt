@@ -6,7 +6,7 @@ use mathlib.Core.List.{List}
 use native.Mathlib.Omega.{arith}
 use lib.IntN.{ℤ, pos, _+ℤ_}
 use lib.Signed.{leZ}
-use lib.ListN.{getD, set}
+use lib.ListN.{length, getD, set, length-set}
 use lib.Seq.{getD-set-other}
 use Rattle.whole.specs.Split.{eqZ}
 use Rattle.bounds.specs.declared.Judgement.{Judgement}
@@ -47,6 +47,22 @@ putAt-same early late y z v a ws i d n =
     either (eqZ v noBound) _ ws i d
     (either (leZ (weightAt ws y z) (v +ℤ a)) _ ws i d
     (stored-same (judgedAt early late y z (v +ℤ a)) (place y z) (v +ℤ a) ws i d n))
+
+stored-length : (j : Judgement) (at : ℕ) (w : ℤ) (ws : List ℤ) → length (stored j at w ws .weights) ≡ length ws
+stored-length Contradiction at w ws = refl
+stored-length LeftOut at w ws = length-set ws at noBound
+stored-length Kept at w ws = length-set ws at w
+
+either-length : (b : Bool) (r : Flat) (ws : List ℤ) → length (r .weights) ≡ length ws → length (cond b (flat false ws) r .weights) ≡ length ws
+either-length true r ws h = refl
+either-length false r ws h = h
+
+pub putAt-length : (early late : List ℤ) (y z : ℕ) (v a : ℤ) (ws : List ℤ) → length (putAt early late y z v a ws .weights) ≡ length ws
+unfolding putAt keptAt
+putAt-length early late y z v a ws =
+    either-length (eqZ v noBound) _ ws
+    (either-length (leZ (weightAt ws y z) (v +ℤ a)) _ ws
+    (stored-length (judgedAt early late y z (v +ℤ a)) (place y z) (v +ℤ a) ws))
 
 -- ---- what follows
 

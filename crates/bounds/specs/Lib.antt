@@ -7,8 +7,12 @@ pub mod Tables
 pub mod Elimination
 pub mod Spans
 pub mod Flat
+pub mod Fit
 -- ---- laws
 pub mod BuildLaws
 pub mod EventsLaws
+pub mod TablesLaws
 pub mod SpansLaws
 pub mod FlatLaws
+pub mod PutLaws
+pub mod StartLaws

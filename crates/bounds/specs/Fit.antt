@@ -1,0 +1,24 @@
+-- The tables on which the code works: every bound in them was judged and is kept, and each event has its two bounds with the origin, which
+-- only fall. So every weight lies in range.
+use Prim.Native.Nat.{ℕ, _<_}
+use mathlib.Core.Path.{_≡_}
+use lib.IntN.{ℤ, negℤ}
+use lib.Signed.{_≤ℤ_}
+use Rattle.plan.specs.declared.Plan.{Plan}
+use Rattle.bounds.specs.declared.Judgement.{Judgement}
+use Rattle.bounds.specs.declared.Judgement.the-variants.{Kept}
+use Rattle.bounds.specs.Events.{earliest, latest, eventOf}
+use Rattle.bounds.specs.Judgements.{judged}
+use Rattle.bounds.specs.Tables.{Cell, off, upto, Rows, at}
+
+-- a cell that holds a bound of at most w
+pub record AtMost (c : Cell) (w : ℤ) : Type 0 where
+  pub weight : ℤ
+  pub held : c ≡ upto weight
+  pub most : weight ≤ℤ w
+
+-- a table on k nodes
+pub record Fit (p : Plan) (k : ℕ) (t : Rows) : Type 0 where
+  pub kept : (y z : ℕ) (w : ℤ) → y < k → z < k → at t y z ≡ upto w → judged p (eventOf y) (eventOf z) w ≡ Kept
+  pub above : (y : ℕ) → 0 < y → y < k → AtMost (at t 0 y) (latest p (eventOf y))
+  pub below : (y : ℕ) → 0 < y → y < k → AtMost (at t y 0) (negℤ (earliest p (eventOf y)))
