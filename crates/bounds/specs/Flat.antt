@@ -116,6 +116,11 @@ pub record Weighed (w : ℤ) : Type 0 where
   pub least : eqZ w noBound ≡ false → negℤ (pos 259200000) ≤ℤ w
   pub greatest : eqZ w noBound ≡ false → w ≤ℤ pos 259200000
 
+-- by how much a finish's bounds move, which is a running time
+pub record Moving (a : ℤ) : Type 0 where
+  pub least : negℤ (pos 86400000) ≤ℤ a
+  pub greatest : a ≤ℤ pos 86400000
+
 abbrev pub AllTimed : List ℤ → List ℤ → Type 0
 AllTimed early late = (y : ℕ) → y < 37 → Timed early late y
 

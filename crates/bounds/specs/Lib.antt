@@ -16,3 +16,4 @@ pub mod SpansLaws
 pub mod FlatLaws
 pub mod PutLaws
 pub mod StartLaws
+pub mod FinishLaws

@@ -31,6 +31,13 @@ pub cellOf-on : (w : ℤ) → eqZ w noBound ≡ false → cellOf w ≡ upto w
 unfolding cellOf
 cellOf-on w e = rw e
 
+pub mark-of-off : (w : ℤ) → cellOf w ≡ off → eqZ w noBound ≡ true
+mark-of-off w h = by (eqZ w noBound) refl
+  where
+    by : (b : Bool) → eqZ w noBound ≡ b → b ≡ true
+    by true e = refl
+    by false e = absurd (let on = cellOf-on w e in let z : _≡_ {A = ℕ} 0 1 = cc in omega arith)
+
 below-on : (w : ℤ) → w <ℤ noBound → eqZ w noBound ≡ false
 below-on w h = no (eqZ w noBound) refl
   where

@@ -32,7 +32,7 @@ use Rattle.bounds.specs.PutLaws.{cellOf-mark, cellOf-on, putAt-left}
 pub place-one : (y z u x : ℕ) → z < 37 → x < 37 → place y z ≡ place u x → (y ≡ u) × (z ≡ x)
 place-one y z u x a b e = (omega arith, omega arith)
 
-less-or-same : (a n : ℕ) → a < n + 1 → (a < n) ⊎ (a ≡ n)
+pub less-or-same : (a n : ℕ) → a < n + 1 → (a < n) ⊎ (a ≡ n)
 less-or-same a n h = by (ltb a n) refl
   where
     by : (b : Bool) → ltb a n ≡ b → (a < n) ⊎ (a ≡ n)

@@ -45,6 +45,14 @@ unfolding least
 least-off off = refl
 least-off (upto w) = refl
 
+pub off-least : (d : Cell) → least off d ≡ d
+unfolding least
+off-least d = refl
+
+pub plus-off : (a : ℤ) → plus off a ≡ off
+unfolding plus
+plus-off a = refl
+
 pub join-off : (d : Cell) → join off d ≡ off
 unfolding join
 join-off d = refl
