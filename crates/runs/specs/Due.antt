@@ -1,6 +1,7 @@
 -- What a step reads of its plan and its calendar: the plan's window, last and jobs, and for the one job that is due its limits and its terms. A step asks
 -- nothing else of them, so it is worked out from these alone (`DueLaws`), and neither plan nor calendar is copied from step to step.
 use Prim.Native.Nat.{ℕ, _-_, _≤_}
+use mathlib.Core.Path.{_≡_}
 use mathlib.Core.List.{List, []}
 use lib.IntN.{ℤ, pos}
 use lib.ListN.{getD, replicate}
@@ -62,9 +63,11 @@ pub record FinishInside (d : Due) (j i : ℕ) (t : RunTime) : Type 0 where
   pub min : Near (d .job .min)
   pub max : Near (d .job .max)
 
-abbrev pub PhaseInside : Due → List ℤ → List ℤ → Run → Phase → Type 0
-PhaseInside d cs ds r (Waiting j i) = j ≤ d .last → OfferInside d cs ds r j i
-PhaseInside d cs ds r (Running j i t) = FinishInside d j i t
+-- of a finish, whatever the phase
+pub record FinishReady (d : Due) (r : Run) : Type 0 where
+  pub running : (j i : ℕ) (t : RunTime) → r .phase ≡ Running j i t → FinishInside d j i t
 
-abbrev pub StepInside : Due → List ℤ → List ℤ → Run → Type 0
-StepInside d cs ds r = PhaseInside d cs ds r (r .phase)
+-- of a step, whatever the phase
+pub record StepInside (d : Due) (cs ds : List ℤ) (r : Run) : Type 0 where
+  pub waiting : (j i : ℕ) → r .phase ≡ Waiting j i → j ≤ d .last → OfferInside d cs ds r j i
+  pub finish : FinishReady d r

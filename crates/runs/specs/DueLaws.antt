@@ -1,6 +1,6 @@
 -- A step that reads of its plan and its calendar only what they say of the job that is due comes to the same answer.
 use Prim.Native.Nat.{ℕ, zero, suc, _+_, _*_, _-_, _≤_, _<_}
-use mathlib.Core.Path.{_≡_, refl, sym, ap, ap₂, subst, _∙_}
+use mathlib.Core.Path.{_≡_, refl, sym, ap, ap₂, _∙_}
 use mathlib.Core.Bool.{Bool, true, false, cond}
 use mathlib.Core.List.{List}
 use native.Mathlib.Omega.{arith}
@@ -24,7 +24,7 @@ use Rattle.runs.specs.declared.Run.{Run}
 use Rattle.runs.specs.Offers.{greater, lesser, offerOf, opened, openingIn, opening}
 use Rattle.runs.specs.Ends.{pickOf, endOf}
 use Rattle.runs.specs.EndLaws.{endOf-is}
-use Rattle.runs.specs.Due.{duePlan, dueCalendar, dueOf, OfferInside, FinishInside, PhaseInside, StepInside}
+use Rattle.runs.specs.Due.{duePlan, dueCalendar, dueOf}
 
 -- ---- the offer
 
@@ -66,12 +66,3 @@ module _ (p : Plan) (c : Calendar) (r : Run) (j i : ℕ) (e : r .phase ≡ Waiti
 pub opening-running : (p : Plan) (c : Calendar) (r : Run) (j i : ℕ) (t : RunTime) → r .phase ≡ Running j i t → opening p c r ≡ Shut refusal.Running
 unfolding openingIn
 opening-running p c r j i t e = rw (e)
-
--- ---- the ranges, case by case of the phase
-
-module _ (d : Due) (cs ds : List ℤ) (r : Run) (h : StepInside d cs ds r) where
-  pub inside-waiting : (j i : ℕ) → r .phase ≡ Waiting j i → j ≤ d .last → OfferInside d cs ds r j i
-  inside-waiting j i e = subst (λ (f : Phase). PhaseInside d cs ds r f) e h
-
-  pub inside-running : (j i : ℕ) (t : RunTime) → r .phase ≡ Running j i t → FinishInside d j i t
-  inside-running j i t e = subst (λ (f : Phase). PhaseInside d cs ds r f) e h

@@ -8,4 +8,5 @@ pub mod Due
 -- ---- laws
 pub mod EndLaws
 pub mod DueLaws
+pub mod StepLaws
 pub mod OfferLaws

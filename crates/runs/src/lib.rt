@@ -1,6 +1,7 @@
 // Runs: what a run has seen, the offer for its next start, and the steps that ask, start and finish.
 
 mod ends;
+mod limits;
 mod offers;
 mod steps;
 
@@ -11,6 +12,9 @@ use rounds::Terms;
 
 // The places of a calendar's c on one side: a row of rounds::MOST_EVENTS for each job.
 const MOST_TERMS: usize = 324;
+
+// The last time that a run or a step can name.
+const LAST_TIME: i64 = 100_000_000_000_000_000;
 
 // A probe that has finished: when it started and when it finished.
 pub struct Probe {

@@ -3,19 +3,13 @@ use mathlib.Core.Path.{sym, _∙_}
 use borrow.Author.Needs.{needs}
 use Rattle.runs.proofs.offers.opened.Statement.{statement}
 use Rattle.runs.proofs.offers.opened.Tie as tie
-use Rattle.runs.proofs.offers.opened.Reads as reads
-use Rattle.runs.proofs.offers.opened.Lts as lts
-use Rattle.clock.proofs.is_earlier.Reads as is-earlier-reads
 
--- src/offers.rt:42:8
 is-earlier-requires : tie.Need-is-earlier-requires
 is-earlier-requires c κs = search needs
 
--- src/offers.rt:43:9
 returns : tie.Need-returns
 returns c = rw (sym (c .before .is-earlier .ensures) ∙ c .if1 .taken)
 
--- src/offers.rt:37:1
 returns-2 : tie.Need-returns-2
 returns-2 c = rw (sym (c .before .is-earlier .ensures) ∙ c .if1 .left)
 

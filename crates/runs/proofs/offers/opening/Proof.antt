@@ -2,7 +2,7 @@
 use mathlib.Core.Path.{sym, ap, _∙_}
 use Rattle.runs.specs.Offers.{opened}
 use Rattle.runs.specs.Due.{duePlan, dueCalendar}
-use Rattle.runs.specs.DueLaws.{opening-over, opening-waiting, opening-running, inside-waiting}
+use Rattle.runs.specs.DueLaws.{opening-over, opening-waiting, opening-running}
 use borrow.Author.Needs.{needs}
 use Rattle.runs.proofs.offers.opening.Statement.{statement}
 use Rattle.runs.proofs.offers.opening.Tie as tie
@@ -17,8 +17,7 @@ returns c =
 
 offer-of-requires : tie.Need-offer-of-requires
 offer-of-requires c κs =
-    let a = c .before .before .before .before .before .args in
-    inside-waiting (a .d) _ _ (a .run) (c .before .before .before .before .before .pre) _ _ (c .before .before .before .phase .given .1) (c .if1 .left)
+    c .before .before .before .before .before .pre .waiting _ _ (c .before .before .before .phase .given .1) (c .if1 .left)
 
 opened-requires : tie.Need-opened-requires
 opened-requires c κs = search needs

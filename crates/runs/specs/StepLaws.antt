@@ -1,0 +1,91 @@
+-- The clauses of the steps as equations, each under the tests that lead to it; a step of the code ends in one of them.
+use Prim.Native.Nat.{ℕ, _+_, _-_, _≤_, _<_}
+use mathlib.Core.Path.{_≡_, refl, sym, ap, _∙_}
+use mathlib.Core.Bool.{Bool, true, false, cond}
+use native.Mathlib.Omega.{arith}
+use lib.IntN.{ℤ, _+ℤ_}
+use lib.ListN.{getD, set, replicate, getD-replicate}
+use borrow.Author.Tests.{lt-ltb, le-ltb}
+use mir.Syntax.{w64}
+use mir.Val.{SFits}
+use Rattle.whole.specs.Rules.{wholes}
+use Rattle.clock.specs.declared.RunTime.{RunTime}
+use Rattle.clock.specs.Spans.{Near}
+use Rattle.clock.specs.Clock.{isBetween, movedBy}
+use Rattle.plan.specs.declared.Plan.{Plan}
+use Rattle.plan.specs.declared.Refusal.the-variants as refusal
+use Rattle.plan.specs.Limits.{mostJobs}
+use Rattle.plan.specs.PlanRead.{noJob}
+use Rattle.rounds.specs.declared.Calendar.{Calendar}
+use Rattle.runs.specs.declared.Answer.the-variants.{Final}
+use Rattle.runs.specs.declared.Answered.{Answered}
+use Rattle.runs.specs.declared.Due.{Due}
+use Rattle.runs.specs.declared.Phase.{Phase}
+use Rattle.runs.specs.declared.Phase.the-variants.{Waiting, Running}
+use Rattle.runs.specs.declared.Probe.{Probe}
+use Rattle.runs.specs.declared.Run.{Run}
+use Rattle.runs.specs.declared.Choice.{Choice}
+use Rattle.runs.specs.declared.Step.{Step}
+use Rattle.runs.specs.declared.Step.the-variants.{Ask, Start, Finish}
+use Rattle.runs.specs.Steps.{noProbes, refusedWith, asked, started, closed, finished, stepped}
+use Rattle.runs.specs.Offers.{opening}
+use Rattle.runs.specs.Due.{duePlan, FinishInside}
+
+module _ (p : Plan) (r : Run) (j i : ℕ) (q : Probe) where
+  pub closed-next : i < p .jobs
+      → record { phase = Waiting j (i + 1); «has_previous» = r .«has_previous»; previous = r .previous; present = set (r .present) (i - 1) q }
+      ≡ closed p r j i q
+  unfolding closed
+  closed-next h = rw (lt-ltb i (p .jobs) h)
+
+  pub closed-last : p .jobs ≤ i
+      → record { phase = Waiting (j + 1) 1; «has_previous» = true; previous = set (r .present) (i - 1) q; present = noProbes } ≡ closed p r j i q
+  unfolding closed
+  closed-last h = rw (le-ltb i (p .jobs) h)
+
+pub finish-fits : {d : Due} {j i : ℕ} {s : RunTime} → FinishInside d j i s → (c : ℤ) → Near c → SFits w64 (s .0 +ℤ c)
+finish-fits h c n = omega wholes
+
+-- a finish, where from and to are start + min and start + max
+module _
+    (d : Due)
+    (r : Run)
+    (j i : ℕ)
+    (s t from to : RunTime)
+    (h : i ≤ mostJobs)
+    (e : from ≡ movedBy s (d .job .min))
+    (f : to ≡ movedBy s (d .job .max))
+  where
+    due-job : getD (replicate mostJobs (d .job)) (i - 1) noJob ≡ d .job
+    due-job = getD-replicate mostJobs (i - 1) (d .job) noJob (omega arith)
+
+    times : isBetween from to t ≡ isBetween (movedBy s (d .job .min)) (movedBy s (d .job .max)) t
+    times = rw (e, f)
+
+    pub finished-on : isBetween from to t ≡ true
+        → record { answer = Final j i t; run = closed (duePlan d) r j i (record { start = s; finish = t }) } ≡ finished (duePlan d) r t (Running j i s)
+    unfolding finished
+    finished-on b = rw (due-job, sym times ∙ b)
+
+    pub finished-off : isBetween from to t ≡ false → refusedWith r refusal.OutsideTimes ≡ finished (duePlan d) r t (Running j i s)
+    unfolding finished
+    finished-off b = rw (due-job, sym times ∙ b)
+
+pub finished-idle : (p : Plan) (r : Run) (t : RunTime) (f : Phase) (j i : ℕ) → f ≡ Waiting j i → refusedWith r refusal.Idle ≡ finished p r t f
+unfolding finished
+finished-idle p r t f j i e = rw (e)
+
+-- ---- a step, by its kind
+
+module _ (p : Plan) (c : Calendar) (r : Run) (st : Step) where
+  pub stepped-ask : st ≡ Ask → asked r (opening p c r) ≡ stepped p c r st
+  unfolding stepped
+  stepped-ask e = rw (e)
+
+  pub stepped-start : (choice : Choice) → st ≡ Start choice → started r choice (opening p c r) ≡ stepped p c r st
+  unfolding stepped
+  stepped-start choice e = rw (e)
+
+  pub stepped-finish : (t : RunTime) → st ≡ Finish t → finished p r t (r .phase) ≡ stepped p c r st
+  unfolding stepped
+  stepped-finish t e = rw (e)
