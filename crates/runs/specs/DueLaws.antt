@@ -4,6 +4,7 @@ use mathlib.Core.Path.{_≡_, refl, sym, ap, ap₂, _∙_}
 use mathlib.Core.Bool.{Bool, true, false, cond}
 use mathlib.Core.List.{List}
 use native.Mathlib.Omega.{arith}
+use lib.Dec.{ltb}
 use lib.IntN.{ℤ, pos}
 use lib.ListN.{getD, replicate, getD-replicate}
 use borrow.Author.Tests.{lt-ltb, le-ltb}
@@ -12,6 +13,7 @@ use Rattle.clock.specs.Clock.{onRun}
 use Rattle.plan.specs.declared.Plan.{Plan}
 use Rattle.plan.specs.declared.Refusal.the-variants as refusal
 use Rattle.plan.specs.Limits.{mostJobs}
+use Rattle.plan.specs.PlanRead.{noJob}
 use Rattle.rounds.specs.declared.Terms.{Terms}
 use Rattle.rounds.specs.declared.Calendar.{Calendar}
 use Rattle.rounds.specs.Calendars.{mostEvents, noTerms}
@@ -21,7 +23,11 @@ use Rattle.runs.specs.declared.Opening.the-variants.{Open, Shut}
 use Rattle.runs.specs.declared.Phase.{Phase}
 use Rattle.runs.specs.declared.Phase.the-variants.{Waiting, Running}
 use Rattle.runs.specs.declared.Run.{Run}
-use Rattle.runs.specs.Offers.{greater, lesser, offerOf, opened, openingIn, opening}
+use Rattle.runs.specs.declared.Step.{Step}
+use Rattle.runs.specs.declared.Step.the-variants.{Ask, Start, Finish}
+use Rattle.runs.specs.Offers.{timeOf, isInForce, greater, lesser, endFrom, offerOf, opened, openingIn, opening}
+use Rattle.runs.specs.ValueLimits.{jobOfPhase}
+use Rattle.runs.specs.Steps.{asked, started, closed, finished, stepped}
 use Rattle.runs.specs.Ends.{pickOf, endOf}
 use Rattle.runs.specs.EndLaws.{endOf-is}
 use Rattle.runs.specs.Due.{duePlan, dueCalendar, dueOf}
@@ -66,3 +72,50 @@ module _ (p : Plan) (c : Calendar) (r : Run) (j i : ℕ) (e : r .phase ≡ Waiti
 pub opening-running : (p : Plan) (c : Calendar) (r : Run) (j i : ℕ) (t : RunTime) → r .phase ≡ Running j i t → opening p c r ≡ Shut refusal.Running
 unfolding openingIn
 opening-running p c r j i t e = rw (e)
+
+-- ---- a step
+
+module _ (p : Plan) (c : Calendar) (r : Run) where
+  end-due : (pick : ℤ → ℤ → ℤ) (set : ℕ) (cs : List ℤ) (row count : ℕ) (end : ℤ) (e : ℕ)
+      → endFrom pick (duePlan (dueOf p c r)) r set cs row end e count ≡ endFrom pick p r set cs row end e count
+  unfolding endFrom timeOf isInForce
+  end-due pick set cs row zero end e = refl
+  end-due pick set cs row (suc count) end e = end-due pick set cs row count _ (suc e)
+
+  module _ (i : ℕ) (is : jobOfPhase (r .phase) ≡ i) (most : i ≤ mostJobs) where
+    terms-due : getD (replicate mostJobs (dueOf p c r .terms)) (i - 1) noTerms ≡ getD (c .terms) (i - 1) noTerms
+    terms-due =
+        getD-replicate mostJobs (i - 1) (dueOf p c r .terms) noTerms (omega arith)
+        ∙ ap (λ (k : ℕ). getD (c .terms) (k - 1) noTerms) is
+
+    job-due : getD (replicate mostJobs (dueOf p c r .job)) (i - 1) noJob ≡ getD (p .job) (i - 1) noJob
+    job-due =
+        getD-replicate mostJobs (i - 1) (dueOf p c r .job) noJob (omega arith) ∙ ap (λ (k : ℕ). getD (p .job) (k - 1) noJob) is
+
+    offer-due : (j : ℕ) → offerOf (duePlan (dueOf p c r)) (dueCalendar (dueOf p c r) (c .«at_least») (c .«at_most»)) r j i ≡ offerOf p c r j i
+    unfolding offerOf
+    offer-due j = rw (terms-due, end-due greater, end-due lesser)
+
+    finish-due : (t : RunTime) (j : ℕ) (s : RunTime) → finished (duePlan (dueOf p c r)) r t (Running j i s) ≡ finished p r t (Running j i s)
+    unfolding finished closed
+    finish-due t j s = rw (job-due)
+
+  opening-due : (f : Phase) → r .phase ≡ f → jobOfPhase f ≤ mostJobs
+      → openingIn (duePlan (dueOf p c r)) (dueCalendar (dueOf p c r) (c .«at_least») (c .«at_most»)) r f ≡ openingIn p c r f
+  unfolding openingIn
+  opening-due (Waiting j i) e h = ap (λ (o : Offer). cond (ltb (p .last) j) (Shut refusal.Over) (opened j i o)) (offer-due i (ap jobOfPhase e) h j)
+  opening-due (Running j i t) e h = refl
+
+  finished-due : (t : RunTime) (f : Phase) → r .phase ≡ f → jobOfPhase f ≤ mostJobs
+      → finished (duePlan (dueOf p c r)) r t f ≡ finished p r t f
+  unfolding finished
+  finished-due t (Waiting j i) e h = refl
+  finished-due t (Running j i s) e h = finish-due i (ap jobOfPhase e) h t j s
+
+  module _ (h : jobOfPhase (r .phase) ≤ mostJobs) where
+    pub stepped-due : (st : Step)
+        → stepped (duePlan (dueOf p c r)) (dueCalendar (dueOf p c r) (c .«at_least») (c .«at_most»)) r st ≡ stepped p c r st
+    unfolding stepped
+    stepped-due Ask = ap (asked r) (opening-due (r .phase) refl h)
+    stepped-due (Start choice) = ap (started r choice) (opening-due (r .phase) refl h)
+    stepped-due (Finish t) = finished-due t (r .phase) refl h
