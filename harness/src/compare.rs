@@ -68,9 +68,17 @@ fn count_kinds(output: &[u8], counts: &mut Counts) {
         *counts.entry("(empty)".into()).or_default() += 1;
     }
     for line in String::from_utf8_lossy(output).lines() {
-        let end = if line.starts_with("refused") { line.find(',') } else { line.find('=') };
-        *counts.entry(line[..end.unwrap_or(line.len())].into()).or_default() += 1;
+        *counts.entry(kind(line).into()).or_default() += 1;
     }
+}
+
+fn kind(line: &str) -> &str {
+    let end = match line.split_once('=') {
+        Some(("settled", _)) => None,
+        Some(("refused", _)) => line.find(','),
+        _ => line.find('='),
+    };
+    &line[..end.unwrap_or(line.len())]
 }
 
 /// The first lines that differ.

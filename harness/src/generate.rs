@@ -192,6 +192,9 @@ pub fn session(dice: &mut Dice, plan: &Plan) -> Vec<u8> {
     let mut run = Run::new(plan, &calendar);
     let strays = dice.choose(&[0, 5, 5, 30]);
     loop {
+        if run.is_over() && dice.percent(10) {
+            return text;
+        }
         let step = if dice.percent(strays) { stray_step(dice, run.running_since().unwrap_or(0)) } else { good_step(dice, &mut run, plan) };
         if text.len() + step.len() > most {
             return text;
@@ -255,7 +258,7 @@ pub fn damaged(dice: &mut Dice, mut text: Vec<u8>) -> Vec<u8> {
 fn damage(dice: &mut Dice, mut text: Vec<u8>) -> Vec<u8> {
     const ODD: &[u8] = b"\n\r\0 =,-+0123456789tnpsfaobTNSF\t\x7f\x80\xff";
     let at = dice.below(text.len().max(1));
-    match dice.between(0, 15) {
+    match dice.between(0, 17) {
         0 | 1 if !text.is_empty() => text[at] = dice.choose(ODD),
         2 if !text.is_empty() => text[at] ^= 1 << dice.between(0, 7),
         3 => text.insert(at.min(text.len()), dice.choose(ODD)),
@@ -266,6 +269,7 @@ fn damage(dice: &mut Dice, mut text: Vec<u8>) -> Vec<u8> {
         8 => {
             text.pop();
         }
+        9 | 10 => return wrong_pair(dice, &text),
         _ => return edited_number(dice, &text),
     }
     text
@@ -296,6 +300,23 @@ fn edited_lines(dice: &mut Dice, text: &[u8]) -> Vec<u8> {
         4 => lines.swap(i, j),
         _ => lines.insert(i, b"\n".to_vec()),
     }
+    lines.concat()
+}
+
+/// A bound's events put on another bound, or exchanged, or one of them given twice.
+fn wrong_pair(dice: &mut Dice, text: &[u8]) -> Vec<u8> {
+    let mut lines = lines_of(text);
+    let bounds: Vec<usize> = (0..lines.len()).filter(|&at| lines[at].starts_with(b"bound=") && lines[at].len() > 14).collect();
+    if bounds.is_empty() {
+        return text.to_vec();
+    }
+    let (from, to) = (dice.choose(&bounds), dice.choose(&bounds));
+    let events = lines[from][6..13].to_vec();
+    let (a, b) = (&events[..3], &events[4..]);
+    let next: &[u8] = if dice.percent(50) { b"ns1" } else { b"nf1" };
+    let (a, b) = dice.choose(&[(a, b), (a, b), (b, a), (a, a), (next, a), (next, next)]);
+    lines[to].splice(6..9, a.iter().copied());
+    lines[to].splice(10..13, b.iter().copied());
     lines.concat()
 }
 

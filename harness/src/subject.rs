@@ -1,9 +1,12 @@
 //! What is compared: this implementation, the two programs, or the C export.
 
 use std::io::{self, Read, Write};
-use std::path::PathBuf;
+use std::path::{Path, PathBuf};
 use std::process::{Command, Stdio};
+use std::sync::mpsc::{self, RecvTimeoutError};
+use std::sync::Mutex;
 use std::thread;
+use std::time::Duration;
 
 /// An implementation of document 01.
 pub trait Subject: Sync {
@@ -45,24 +48,53 @@ impl Subject for Programs {
 /// A pipe holds this much at least before its writer has to wait.
 const PIPE: usize = 60_000;
 
-fn run(program: &PathBuf, text: &[u8]) -> io::Result<Vec<u8>> {
+/// A program that takes longer is ended.
+const PATIENCE: Duration = Duration::from_secs(20);
+
+fn run(program: &Path, text: &[u8]) -> io::Result<Vec<u8>> {
     let mut child = Command::new(program).stdin(Stdio::piped()).stdout(Stdio::piped()).spawn()?;
-    let (mut input, mut output) = (child.stdin.take().unwrap(), child.stdout.take().unwrap());
+    let (input, mut output) = (child.stdin.take().unwrap(), child.stdout.take().unwrap());
+    // The pipe is closed after the text. A program that stops reading earlier is no fault here: its output tells.
+    let write = move || {
+        let mut input = input;
+        drop(input.write_all(text));
+    };
+    let child = Mutex::new(child);
     let mut answers = Vec::new();
-    // A program that stops reading early closes the pipe; its output tells.
-    let mut write = move || drop(input.write_all(text));
-    if text.len() <= PIPE {
-        write();
-        output.read_to_end(&mut answers)?;
-    } else {
-        thread::scope(|scope| {
+    thread::scope(|scope| {
+        let (done, is_done) = mpsc::channel::<()>();
+        let child = &child;
+        scope.spawn(move || {
+            if is_done.recv_timeout(PATIENCE) == Err(RecvTimeoutError::Timeout) {
+                drop(child.lock().unwrap().kill());
+            }
+        });
+        if text.len() <= PIPE {
+            write();
+        } else {
             scope.spawn(write);
-            output.read_to_end(&mut answers)
-        })?;
-    }
-    let status = child.wait()?;
+        }
+        let read = output.read_to_end(&mut answers);
+        drop(done);
+        read
+    })?;
+    let status = child.into_inner().unwrap().wait()?;
     if status.code().is_none() {
         return Err(io::Error::other(format!("the program was ended: {status}")));
     }
     Ok(answers)
+}
+
+#[cfg(test)]
+mod tests {
+    use super::*;
+
+    #[test]
+    fn a_program_gets_the_whole_text_and_its_end() {
+        for size in [0, 10, PIPE, 65_536, 300_000] {
+            let text = vec![b'x'; size];
+            assert!(run(Path::new("/bin/cat"), &text).unwrap() == text, "{size}");
+        }
+        assert_eq!(run(Path::new("/bin/true"), b"unread").unwrap(), b"");
+    }
 }
