@@ -8,8 +8,8 @@ use crate::generate::{settling, Dice};
 use crate::plan::{self, Bound, Event, Job, Plan};
 
 /// Batches of each entry, and how long one batch takes at least.
-const BATCHES: usize = 25;
-const BATCH_NANOS: u128 = 1_000_000;
+const BATCHES: usize = 41;
+const BATCH_NANOS: u128 = 500_000;
 
 /// A text and what is measured with it.
 pub struct Task {
@@ -17,17 +17,18 @@ pub struct Task {
     pub text: Vec<u8>,
 }
 
-/// Least, median and greatest of some measurements.
+/// The median of some measurements, and the quartiles beside it.
 #[derive(Clone, Copy, Debug)]
 pub struct Spread {
-    pub least: f64,
+    pub lower: f64,
     pub median: f64,
-    pub most: f64,
+    pub upper: f64,
 }
 
 fn spread(mut values: Vec<f64>) -> Spread {
     values.sort_by(f64::total_cmp);
-    Spread { least: values[0], median: values[values.len() / 2], most: values[values.len() - 1] }
+    let at = |quarter: usize| values[(values.len() - 1) * quarter / 4];
+    Spread { lower: at(1), median: at(2), upper: at(3) }
 }
 
 /// Microseconds of one call of each entry, and the ratio of the second entry to the first, batch by batch.

@@ -136,7 +136,7 @@ fn bench() -> io::Result<bool> {
     let entries = entries();
     let names: Vec<&str> = entries.iter().map(|(name, _)| *name).collect();
     let calls: Vec<Entry> = entries.iter().map(|(_, entry)| *entry).collect();
-    println!("microseconds of one call, median (least to greatest): {}", names.join(", then "));
+    println!("microseconds of one call, median (quartiles): {}", names.join(", then "));
     for task in tasks() {
         let (times, ratio) = measure(&task, &calls);
         let times: Vec<String> = times.iter().map(|time| shown(*time)).collect();
@@ -148,5 +148,5 @@ fn bench() -> io::Result<bool> {
 }
 
 fn shown(spread: Spread) -> String {
-    format!("{:.2} ({:.2} to {:.2})", spread.median, spread.least, spread.most)
+    format!("{:.2} ({:.2} to {:.2})", spread.median, spread.lower, spread.upper)
 }
