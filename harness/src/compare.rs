@@ -96,3 +96,42 @@ fn difference(expected: &[u8], output: &[u8]) -> String {
     }
     "bytes that are no text differ".into()
 }
+
+#[cfg(test)]
+mod tests {
+    use super::*;
+    use std::io;
+
+    /// Every kind of answer that a session or plan can get is among the first cases. 11 cannot come up in a text.
+    #[test]
+    fn cases_have_every_kind_of_answer() {
+        let compared = compare(&Own, 1, 3000);
+        assert_eq!((compared.cases, compared.differences), (3000, vec![]));
+        let refusals: Vec<String> = (1..=10).map(|number| format!("refused={number}")).collect();
+        for kind in refusals.iter().map(String::as_str).chain(["(empty)", "settled=1", "settled=2", "atleast", "atmost", "offer", "started", "final"]) {
+            assert!(compared.counts.get(kind).is_some_and(|&count| count >= 5), "{kind}: {:?}", compared.counts);
+        }
+    }
+
+    /// One line number is wrong.
+    struct NearlyRight;
+
+    impl Subject for NearlyRight {
+        fn calendar(&self, text: &[u8]) -> Option<io::Result<Vec<u8>>> {
+            Own.calendar(text)
+        }
+
+        fn dispatch(&self, text: &[u8]) -> io::Result<Vec<u8>> {
+            let answers = crate::dispatch_output(text);
+            Ok(String::from_utf8_lossy(&answers).replace("refused=3,10\n", "refused=3,11\n").into_bytes())
+        }
+    }
+
+    #[test]
+    fn a_difference_is_told() {
+        let compared = compare(&NearlyRight, 1, 20_000);
+        let (number, why) = &compared.differences[0];
+        assert!(why.contains("refused=3,1"), "{why}");
+        assert!(case(1, *number).session);
+    }
+}

@@ -5,6 +5,7 @@
 
 use std::ffi::{c_int, c_void};
 use std::ptr;
+use std::slice;
 
 /// An entry as C sees it: a session and a slice for its answers; the length written, or -12.
 pub type Entry = fn(&[u8], &mut [u8]) -> i64;
@@ -41,6 +42,15 @@ mod linked {
 
 #[cfg(feature = "export")]
 pub use linked::{Export, ENTRY};
+
+/// This implementation behind an entry of the same form, for the fuzzer in C.
+///
+/// # Safety
+/// `text` is valid for `len` bytes and `out` for `room`, and nothing else uses `out` meanwhile.
+#[no_mangle]
+pub unsafe extern "C" fn harness_session(text: *const u8, len: usize, out: *mut u8, room: usize) -> i64 {
+    crate::session(slice::from_raw_parts(text, len), slice::from_raw_parts_mut(out, room))
+}
 
 /// More than any session's answer: a step of eight bytes or more gets at most fifty.
 pub const ROOM: usize = 1 << 19;

@@ -12,7 +12,7 @@ use harness::{compare, demand, generate, vectors};
 const USAGE: &str = "\
 harness calendar                   a plan on standard input, its calendar on standard output
 harness dispatch                   a session on standard input, its answers on standard output
-harness vectors DIR                the texts NAME.in of a folder, compared with their outputs NAME.out
+harness vectors DIR [WHAT]         the texts NAME.in of a folder, compared with their outputs NAME.out
 harness game SEED COUNT [WHAT]     verdict, K and offers, compared with an exhaustive search over tiny plans
 harness compare WHAT SEED COUNT    random plans, sessions and damaged texts, compared with this implementation
 harness case SEED NUMBER           the text of one case of `compare`
@@ -32,7 +32,8 @@ fn main() -> ExitCode {
     let passed = match words.as_slice() {
         ["calendar"] => filter(harness::calendar_output),
         ["dispatch"] => filter(harness::dispatch_output),
-        ["vectors", folder] => compare_vectors(Path::new(folder)),
+        ["vectors", folder] => compare_vectors(folder, "own"),
+        ["vectors", folder, what] => compare_vectors(folder, what),
         ["game", seed, count] => game("own", seed, count),
         ["game", seed, count, what] => game(what, seed, count),
         ["compare", what, seed, count] => compare_cases(what, seed, count),
@@ -82,8 +83,8 @@ fn filter(program: fn(&[u8]) -> Vec<u8>) -> io::Result<bool> {
     Ok(true)
 }
 
-fn compare_vectors(folder: &Path) -> io::Result<bool> {
-    let (count, wrong) = vectors::compare(folder)?;
+fn compare_vectors(folder: &str, what: &str) -> io::Result<bool> {
+    let (count, wrong) = vectors::compare(Path::new(folder), subject(what)?.as_ref())?;
     for name in &wrong {
         println!("differs: {name}");
     }
