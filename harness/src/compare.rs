@@ -108,7 +108,8 @@ mod tests {
         let compared = compare(&Own, 1, 3000);
         assert_eq!((compared.cases, compared.differences), (3000, vec![]));
         let refusals: Vec<String> = (1..=10).map(|number| format!("refused={number}")).collect();
-        for kind in refusals.iter().map(String::as_str).chain(["(empty)", "settled=1", "settled=2", "atleast", "atmost", "offer", "started", "final"]) {
+        for kind in refusals.iter().map(String::as_str).chain(["(empty)", "settled=1", "settled=2", "atleast", "atmost", "offer", "started", "final"])
+        {
             assert!(compared.counts.get(kind).is_some_and(|&count| count >= 5), "{kind}: {:?}", compared.counts);
         }
     }

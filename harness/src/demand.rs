@@ -1,5 +1,7 @@
 //! Demand 3: verdict, K and offers of an implementation against the exhaustive search.
 
+use std::slice;
+
 use crate::calendar;
 use crate::game::{Game, Outcome, Times};
 use crate::generate::{tiny, Dice};
@@ -78,7 +80,7 @@ fn line(output: &[u8]) -> String {
 /// K is the game's. With fewer rounds the answer is unsettled, except that K - 1 rounds may do.
 fn no_strategy(dice: &mut Dice, plan: &Plan, k: i64, subject: &dyn Subject, counts: &mut Counts) -> Result<(), String> {
     let known = format!("refused=4,{k}");
-    expect(&[known.clone()], verdict(plan, 1000, subject, counts)?)?;
+    expect(slice::from_ref(&known), verdict(plan, 1000, subject, counts)?)?;
     let rounds = dice.between(1, k);
     let unsettled = format!("refused=5,{rounds}");
     let answers: &[String] = if rounds >= k {

@@ -135,7 +135,7 @@ impl<'p> Elimination<'p> {
 
     /// Eliminates the last node that is left. Its row and column stay in the table and are not looked at again.
     fn eliminate(&self, table: &mut Table, node: usize) -> Judged {
-        if node % 2 == 0 {
+        if node.is_multiple_of(2) {
             self.eliminate_finish(table, node)
         } else {
             self.eliminate_start(table, node)
@@ -165,8 +165,7 @@ impl<'p> Elimination<'p> {
     fn eliminate_start(&self, table: &mut Table, start: usize) -> Judged {
         let mut above = [(0, 0); SIDE];
         let mut count = 0;
-        for z in 0..start {
-            let v = table[start][z];
+        for (z, &v) in table[start][..start].iter().enumerate() {
             if v != NONE {
                 above[count] = (z, v);
                 count += 1;
@@ -187,11 +186,11 @@ impl<'p> Elimination<'p> {
     fn put_next(&self, table: &mut Table, set: &Table) {
         let window = self.plan.window as i32;
         let events = self.this - 1;
-        for node in 1..self.this {
+        for (node, row) in set[..self.this].iter().enumerate().skip(1) {
             let next = node + events;
-            table[next][self.this..self.both].copy_from_slice(&set[node][1..self.this]);
+            table[next][self.this..self.both].copy_from_slice(&row[1..self.this]);
             table[0][next] = set[0][node] + window;
-            table[next][0] = set[node][0] - window;
+            table[next][0] = row[0] - window;
         }
     }
 

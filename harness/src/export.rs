@@ -95,7 +95,12 @@ extern "C" {
     fn pthread_attr_init(attributes: *mut Attributes) -> c_int;
     fn pthread_attr_setstack(attributes: *mut Attributes, stack: *mut c_void, size: usize) -> c_int;
     fn pthread_attr_destroy(attributes: *mut Attributes) -> c_int;
-    fn pthread_create(thread: *mut usize, attributes: *const Attributes, body: extern "C" fn(*mut c_void) -> *mut c_void, argument: *mut c_void) -> c_int;
+    fn pthread_create(
+        thread: *mut usize,
+        attributes: *const Attributes,
+        body: extern "C" fn(*mut c_void) -> *mut c_void,
+        argument: *mut c_void,
+    ) -> c_int;
     fn pthread_join(thread: usize, answer: *mut *mut c_void) -> c_int;
 }
 
@@ -175,6 +180,6 @@ mod tests {
             i64::from(std::hint::black_box(&mut local)[17])
         };
         let large = stack_use(large, b"");
-        assert!(small < 5_000 && 100_000 <= large && large < 110_000, "{small} {large}");
+        assert!(small < 5_000 && (100_000..110_000).contains(&large), "{small} {large}");
     }
 }

@@ -12,6 +12,9 @@ use crate::plan::{Event, Plan};
 /// Start and finish of each job so far, on the window's own clock.
 pub type Times = Vec<(i64, i64)>;
 
+/// What is done at a position: the previous window if there is one, this one so far, and the starts on offer.
+pub type Visit<'v> = dyn FnMut(Option<&[(i64, i64)]>, &[(i64, i64)], &[i64]) -> Result<(), String> + 'v;
+
 /// More windows than this are not searched.
 const WINDOWS_MOST: i64 = 5_000;
 
@@ -154,13 +157,9 @@ impl<'p> Game<'p> {
         whole.then_some(good)
     }
 
-    /// Every position that a run can come to while it keeps to what is on offer: the previous window if there is one, and this
-    /// one so far, with the starts on offer there. Positions that agree in both are visited once.
-    pub fn visit_positions(
-        &self,
-        lasting: &Lasting,
-        visit: &mut dyn FnMut(Option<&[(i64, i64)]>, &[(i64, i64)], &[i64]) -> Result<(), String>,
-    ) -> Result<(), String> {
+    /// Visits every position that a run can come to while it keeps to what is on offer. Runs that agree in the last window and
+    /// in this one so far are in the same position.
+    pub fn visit_positions(&self, lasting: &Lasting, visit: &mut Visit) -> Result<(), String> {
         let mut reached = HashSet::new();
         let mut waiting = vec![None];
         while let Some(previous) = waiting.pop() {
@@ -180,7 +179,7 @@ impl<'p> Game<'p> {
         previous: Option<&[(i64, i64)]>,
         this: &mut Times,
         lasting: &Lasting,
-        visit: &mut dyn FnMut(Option<&[(i64, i64)]>, &[(i64, i64)], &[i64]) -> Result<(), String>,
+        visit: &mut Visit,
         ended: &mut Vec<Times>,
     ) -> Result<(), String> {
         let Some(job) = self.plan.jobs.get(this.len()) else {

@@ -124,7 +124,13 @@ pub fn settling(dice: &mut Dice, jobs: usize) -> Plan {
             _ => reach(a, true) - reach(b, false),
         };
         let most = plan.window / 4 + 1;
-        let slack = if tight && dice.percent(20) { dice.between(-most / 4 - 1, 0) } else if dice.percent(30) { 0 } else { dice.between(0, most) };
+        let slack = if tight && dice.percent(20) {
+            dice.between(-most / 4 - 1, 0)
+        } else if dice.percent(30) {
+            0
+        } else {
+            dice.between(0, most)
+        };
         (worst + slack).clamp(-plan::BOUND_MOST, plan::BOUND_MOST)
     });
     plan
@@ -160,7 +166,11 @@ pub fn extreme_plan(dice: &mut Dice) -> Plan {
     }
     let count = extreme(dice, 0, 2 * plan::BOUNDS_MOST as i64) as usize;
     add_bounds(dice, &mut plan, count, &mut |dice, _, _, _| {
-        if roomy { dice.between(plan::PLACE_MOST, plan::BOUND_MOST) } else { extreme(dice, -plan::BOUND_MOST, plan::BOUND_MOST) }
+        if roomy {
+            dice.between(plan::PLACE_MOST, plan::BOUND_MOST)
+        } else {
+            extreme(dice, -plan::BOUND_MOST, plan::BOUND_MOST)
+        }
     });
     plan.bounds.truncate(plan::BOUNDS_MOST);
     plan
