@@ -1,4 +1,4 @@
-//! An independent implementation of document 01, written from the document, and what is compared with it.
+//! A second implementation of document 01, written from the document and its readings, and what is compared with it.
 #![deny(unsafe_code)]
 
 pub mod bench;
