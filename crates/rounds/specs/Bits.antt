@@ -1,6 +1,6 @@
 -- Sets of events as bits (document 01, 'Elimination': 'are kept as bits of two numbers, the origin not among them; in each the count of its
 -- terms is the count of ones').
-use Prim.Native.Nat.{ℕ, zero, suc, _+_, _*_, _/_, _%_}
+use Prim.Native.Nat.{ℕ, zero, suc, _+_, _*_, _/_, _%_, _^_}
 use mathlib.Core.Bool.{Bool, true, false, cond}
 use mathlib.Core.List.{List, [], _∷_}
 use lib.Dec.{eqb}
@@ -14,3 +14,34 @@ hasEvent (suc e) s = hasEvent e (s / 2)
 unfoldable pub eventSet : List Bool → ℕ
 eventSet [] = 0
 eventSet (b ∷ bs) = cond b 1 0 + 2 * eventSet bs
+
+-- how many places hold true
+unfoldable pub countTrue : List Bool → ℕ
+countTrue [] = 0
+countTrue (b ∷ bs) = cond b 1 0 + countTrue bs
+
+-- a set and event e
+unfoldable pub withEvent : ℕ → ℕ → ℕ
+withEvent e s = cond (hasEvent e s) s (s + 2 ^ e)
+
+-- ---- 'ones give the term count, trailing zeros the next event'
+
+-- as many events as a u64 has bits
+abbrev pub mostBits : ℕ
+mostBits = 64
+
+-- how many of n events from event e on are in a set
+unfoldable pub countFrom : ℕ → ℕ → ℕ → ℕ
+countFrom s e zero = 0
+countFrom s e (suc n) = cond (hasEvent e s) 1 0 + countFrom s (suc e) n
+
+abbrev pub eventCount : ℕ → ℕ
+eventCount s = countFrom s 0 mostBits
+
+-- the first of n events from event e on that is in a set; e + n, where none is
+unfoldable pub nextFrom : ℕ → ℕ → ℕ → ℕ
+nextFrom s e zero = e
+nextFrom s e (suc n) = let later = nextFrom s (suc e) n in cond (hasEvent e s) e later
+
+abbrev pub nextEvent : ℕ → ℕ → ℕ
+nextEvent s e = nextFrom s e mostBits

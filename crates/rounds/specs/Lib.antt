@@ -8,3 +8,4 @@ pub mod Calendars
 pub mod CalendarText
 -- ---- laws
 pub mod SameLaws
+pub mod BitsLaws

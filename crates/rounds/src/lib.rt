@@ -34,3 +34,5 @@ pub struct Calendar {
     pub at_least: [i32; MOST_TERMS],
     pub at_most: [i32; MOST_TERMS],
 }
+
+mod bits;
