@@ -1,7 +1,7 @@
 -- The laws of lines and keys.
--- The length to a byte: it is at most the whole length (`lenTo-fits`); one turn of the search (`lenTo-stop`, `lenTo-past`, `lenTo-end`); of a text that ends
--- in its first b it is what stands before that b (`lenTo-append`), so the parts of a line that was written are given back (`before-back`, `has-back`,
--- `after-back`); and a text that has a b is what stands before it, the b, and what follows (`has-split`).
+-- The length to a byte: it is at most the whole length (`lenTo-fits`); one turn of the search (`lenTo-stop`, `lenTo-past`, `lenTo-end`); a part without b
+-- is passed (`lenTo-over`, `free-append`), so the parts of a line that was written are given back (`before-back`, `has-back`, `after-back`); a text that has
+-- a b is what stands before it, the b, and what follows (`has-split`); a text without b is all before it (`has-false`, `has-free`, `before-free`).
 -- Keys: a key that was written is given back (`afterKey-back`), and only a text that begins with the key has something after it (`afterKey-split`); one turn
 -- of the comparison (`afterKey-same`, `afterKey-other`, `afterKey-short`, `afterKey-end`); and what the test `hasKey` tells (`hasKey-true`, `hasKey-false`).
 -- A part of a slice that goes to its end is what is left behind its start (`drop-rest`).
@@ -12,12 +12,13 @@ use mathlib.Core.Path.{_≡_, refl, sym, ap, _∙_}
 use mathlib.Core.Bool.{Bool, true, false, cond, true≢false, false≢true}
 use mathlib.Core.List.{List, [], _∷_, _++_}
 use mathlib.Core.Option.{Option, none, some}
+use native.Mathlib.Nat.{zero-add}
 use native.Mathlib.Numerals.{add-one}
 use native.Mathlib.Omega.{arith}
 use lib.Dec.{eqb}
 use lib.ListN.{length, getD, take, drop, length-append, length-drop, drop-of-length-le}
-use lib.Seq.{drop-cons, take-all, split-at, take-at, drop-at, drop-drop, drop-append-seam}
-use borrow.Author.Tests.{eqb-true, eq-eqb, ne-eqb, lt-ltb, ltb-true}
+use lib.Seq.{drop-cons, take-all, take-length, split-at, take-at, drop-at, drop-drop, drop-append-seam}
+use borrow.Author.Tests.{eqb-true, eq-eqb, ne-eqb, lt-ltb, le-ltb, ltb-true, ltb-false}
 use Rattle.text.specs.Lines.{lenTo, before, has, after, afterKey, hasKey, isSome}
 
 -- ---- the length to a byte
@@ -49,15 +50,21 @@ lenTo-fits b (a ∷ s) = at-head (eqb a b) (lenTo b s) (length s) (lenTo-fits b 
     at-head true n m h = omega arith
     at-head false n m h = omega arith
 
--- a b that stands nowhere in s is told by the length to it
-pub lenTo-append : (b : ℕ) (s t : List ℕ) → lenTo b s ≡ length s → lenTo b (s ++ (b ∷ t)) ≡ length s
+-- a part without b is passed
+pub lenTo-over : (b : ℕ) (s t : List ℕ) → lenTo b s ≡ length s → lenTo b (s ++ t) ≡ length s + lenTo b t
 unfolding lenTo
-lenTo-append b [] t e = lenTo-same b t refl
-lenTo-append b (a ∷ s) t e = at-head (eqb a b) (λ h. lenTo-append b s t h) e
+lenTo-over b [] t e = sym (zero-add (lenTo b t))
+lenTo-over b (a ∷ s) t e = at-head (eqb a b) (λ h. lenTo-over b s t h) e
   where
-    at-head : (q : Bool) → (lenTo b s ≡ length s → lenTo b (s ++ (b ∷ t)) ≡ length s) → cond q 0 (suc (lenTo b s)) ≡ suc (length s) → cond q 0 (suc (lenTo b (s ++ (b ∷ t)))) ≡ suc (length s)
+    at-head : (q : Bool) → (lenTo b s ≡ length s → lenTo b (s ++ t) ≡ length s + lenTo b t) → cond q 0 (suc (lenTo b s)) ≡ suc (length s) → cond q 0 (suc (lenTo b (s ++ t))) ≡ suc (length s) + lenTo b t
     at-head true more e = absurd (omega arith)
-    at-head false more e = ap suc (more (omega arith))
+    at-head false more e = omega (arith, more (omega arith))
+
+pub lenTo-append : (b : ℕ) (s t : List ℕ) → lenTo b s ≡ length s → lenTo b (s ++ (b ∷ t)) ≡ length s
+lenTo-append b s t e = omega (arith, lenTo-over b s (b ∷ t) e, lenTo-same b t refl)
+
+pub free-append : (b : ℕ) (s t : List ℕ) → lenTo b s ≡ length s → lenTo b t ≡ length t → lenTo b (s ++ t) ≡ length (s ++ t)
+free-append b s t e d = omega (arith, lenTo-over b s t e, length-append s t)
 
 pub before-back : (b : ℕ) (s t : List ℕ) → lenTo b s ≡ length s → before b (s ++ (b ∷ t)) ≡ s
 before-back b s t e = take-at s (b ∷ t) (lenTo b (s ++ (b ∷ t))) (sym (lenTo-append b s t e))
@@ -81,6 +88,15 @@ pub has-split : (b : ℕ) (s : List ℕ) → has b s ≡ true → s ≡ before b
 has-split b s h =
     let found : lenTo b s < length s = ltb-true (lenTo b s) (length s) h in
     rw (add-one) (split-at s (lenTo b s) 0 found ∙ ap (λ (a : ℕ). take (lenTo b s) s ++ (a ∷ drop (suc (lenTo b s)) s)) (lenTo-found b s found))
+
+pub has-false : (b : ℕ) (s : List ℕ) → has b s ≡ false → lenTo b s ≡ length s
+has-false b s h = omega (arith, ltb-false (lenTo b s) (length s) h, lenTo-fits b s)
+
+pub has-free : (b : ℕ) (s : List ℕ) → lenTo b s ≡ length s → has b s ≡ false
+has-free b s e = le-ltb (lenTo b s) (length s) (omega arith)
+
+pub before-free : (b : ℕ) (s : List ℕ) → lenTo b s ≡ length s → before b s ≡ s
+before-free b s e = ap (λ (n : ℕ). take n s) e ∙ take-length s
 
 -- ---- keys
 

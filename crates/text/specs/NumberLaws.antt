@@ -1,10 +1,11 @@
 -- The laws of numbers.
 -- Written: a whole number's text has the form (`decimal-form`) and its value (`decimal-back`), is not empty (`decimal-some`), has at most twenty bytes where it
--- is an i64 (`decimal-short`), and no byte but digits and `-` (`decimal-free`); by its sign it is digits, or `-` and digits (`decimal-above`, `decimal-below`). Read: a text of the form is the text of its value (`number-back`).
+-- is an i64 (`decimal-short`), and no byte but digits and `-` (`decimal-free`); by its sign it is digits, or `-` and digits (`decimal-above`,
+-- `decimal-below`). Read: a text of the form is the text of its value (`number-back`).
 -- The range: a number is answered exactly where it lies between the ends (`numberWithin-below`, `numberWithin-above`, `numberWithin-inside`), so a number that
 -- was written is read back (`numberIn-decimal`, `numberIn-back`), and what is answered as a value was its text (`numberIn-value`).
--- A line of a key and a number is the number behind the key (`numberAfter-key`, `numberAfter-other`), written (`numberAfter-back`) and read
--- (`numberAfter-value`).
+-- A line of a key and a number is the number behind the key (`numberAfter-key`, `numberAfter-other`), written (`numberAfter-back`, `keyed-free`)
+-- and read (`numberAfter-value`).
 
 use Prim.Native.Nat.{ℕ, zero, suc, _+_, _-_, _≤_, _<_}
 use mathlib.Core.Path.{_≡_, refl, sym, ap, _∙_}
@@ -23,8 +24,8 @@ use Rattle.whole.specs.Split.{up, dn}
 use Rattle.whole.specs.Rules.{wholes}
 use Rattle.text.specs.declared.Fault.the-variants.{Form, Range}
 use Rattle.text.specs.declared.Number.the-variants.{Value, Bad}
-use Rattle.text.specs.Lines.{lenTo, afterKey, hasKey}
-use Rattle.text.specs.LineLaws.{lenTo-other, afterKey-back, afterKey-split, hasKey-true, hasKey-false}
+use Rattle.text.specs.Lines.{LF, lenTo, afterKey, hasKey}
+use Rattle.text.specs.LineLaws.{lenTo-other, free-append, afterKey-back, afterKey-split, hasKey-true, hasKey-false}
 use Rattle.text.specs.Numbers.{
   minus,
   zeroDigit,
@@ -193,6 +194,10 @@ numberAfter-other key lo hi s h = rw (hasKey-false key s h)
 pub numberAfter-back : (key : List ℕ) (lo hi : ℤ) (s : List ℕ) → numberAfter key lo hi (key ++ s) ≡ numberIn lo hi s
 unfolding numberOf
 numberAfter-back key lo hi s = rw (afterKey-back key s)
+
+-- a key without LF, with a number behind it, is a line
+pub keyed-free : (key : List ℕ) (z : ℤ) → lenTo LF key ≡ length key → lenTo LF (key ++ decimal z) ≡ length (key ++ decimal z)
+keyed-free key z e = free-append LF key (decimal z) e (decimal-free LF refl (omega arith) z)
 
 pub numberAfter-value : (key : List ℕ) (lo hi z : ℤ) (s : List ℕ) → numberAfter key lo hi s ≡ Value z → InRange lo hi z × (s ≡ key ++ decimal z)
 unfolding numberOf
