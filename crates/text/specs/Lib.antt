@@ -1,5 +1,5 @@
--- Texts are lists of bytes. In reading order: quoted texts as bytes, lines and their parts, numbers, and what a lent slice holds after
--- something was written into it. These files are definitions alone. The laws follow them.
+-- Texts are lists of bytes. In reading order: quoted texts as bytes, lines and their parts, numbers, digits as the code reads them, and what a
+-- lent slice holds after something was written into it. These files are definitions alone; the laws follow them.
 pub mod Bytes
 pub mod Lines
 pub mod Numbers

@@ -19,7 +19,7 @@ enum Digits {
     Bad,
 }
 
-// Ten times this fits, and it is out of every range.
+// Above every i64; a number below a tenth of it has room for one more digit.
 const TOO_LARGE: u64 = 10_000_000_000_000_000_000;
 
 mod line;
