@@ -9,6 +9,7 @@ pub mod PlanRead
 pub mod PlanWritten
 pub mod Pairs
 pub mod BoundNames
+pub mod ReadAt
 pub mod Accepted
 -- ---- laws
 pub mod EventNameLaws
@@ -17,3 +18,4 @@ pub mod PairLaws
 pub mod BoundLaws
 pub mod ReadingLaws
 pub mod PlanLaws
+pub mod ReadAtLaws

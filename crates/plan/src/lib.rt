@@ -109,9 +109,30 @@ pub enum BoundLine {
     Bad(text::Fault),
 }
 
+// ---- what the line readers answer
+
+// A refusal, and where its faulty line begins.
+pub struct Faulty {
+    pub refusal: Refusal,
+    pub at: usize,
+}
+
+// A line that is a key and a number: the number and where the next line begins, or the fault.
+pub enum NumberLine {
+    Value(i64, usize),
+    Bad(Faulty),
+}
+
+// The four lines of a job: the job and where the next line begins, or the first fault.
+pub enum JobLines {
+    Value(Job, usize),
+    Bad(Faulty),
+}
+
 mod bound_line;
 mod names;
 mod narrow;
+mod number_line;
 mod pairs;
 mod refusals;
 

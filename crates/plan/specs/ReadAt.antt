@@ -1,0 +1,45 @@
+-- The answers of the code's line readers, as readings of the text that they stand in: a place in the text stands for the text from there on.
+use Prim.Native.Nat.{ℕ}
+use mathlib.Core.Path.{_≡_}
+use mathlib.Core.List.{List}
+use lib.IntN.{ℤ}
+use lib.ListN.{take, drop}
+use Rattle.plan.specs.declared.Faulty.{Faulty}
+use Rattle.plan.specs.declared.NumberLine.{NumberLine}
+use Rattle.plan.specs.declared.NumberLine.the-variants as numberLine
+use Rattle.plan.specs.declared.Job.{Job}
+use Rattle.plan.specs.declared.JobLines.{JobLines}
+use Rattle.plan.specs.declared.JobLines.the-variants as jobLines
+use Rattle.plan.specs.declared.Refusal.the-variants.{Form}
+use Rattle.plan.specs.Reading.{Reading, read, refused}
+
+abbrev pub faultyIn : {A : Type 0} → List ℕ → Faulty → Reading A
+faultyIn s f = refused (f .refusal) (drop (f .at) s)
+
+abbrev pub numberTold : List ℕ → ℕ → NumberLine → Reading ℤ
+numberTold s n (numberLine.Value z at) = read z (drop at s) n
+numberTold s n (numberLine.Bad f) = faultyIn s f
+
+abbrev pub numberPlace : NumberLine → ℕ
+numberPlace (numberLine.Value z at) = at
+numberPlace (numberLine.Bad f) = f .at
+
+abbrev pub jobTold : List ℕ → ℕ → JobLines → Reading Job
+jobTold s n (jobLines.Value j at) = read j (drop at s) n
+jobTold s n (jobLines.Bad f) = faultyIn s f
+
+abbrev pub jobPlace : JobLines → ℕ
+jobPlace (jobLines.Value j at) = at
+jobPlace (jobLines.Bad f) = f .at
+
+-- the fault of an answer that is one
+abbrev pub noFault : Faulty
+noFault = record { refusal = Form 0; at = 0 }
+
+abbrev pub numberFault : NumberLine → Faulty
+numberFault (numberLine.Value z at) = noFault
+numberFault (numberLine.Bad f) = f
+
+abbrev pub jobFault : JobLines → Faulty
+jobFault (jobLines.Value j at) = noFault
+jobFault (jobLines.Bad f) = f

@@ -1,0 +1,58 @@
+// A line that is a key and a number, read at a place of the text.
+use crate::Faulty;
+use crate::NumberLine;
+use crate::Refusal;
+use crate::refusals::fault_at;
+use text::Number;
+ghost use mathlib.Core.Path.{_≡_};
+ghost use Prim.Native.Nat.{_+_, _≤_};
+ghost use lib.ListN.{length, drop};
+ghost use Rattle.plan.specs.Reading.{numberLine};
+ghost use Rattle.plan.specs.ReadAt.{numberTold, numberPlace, numberFault};
+
+// The number of the line that begins at a place, and where the next line begins.
+pub fn read_number_line(
+    s: &[u8],
+    at: usize,
+    line: usize,
+    key: &[u8],
+    lo: i64,
+    hi: i64,
+) -> NumberLine
+    requires { ⌜ at ≤ length (now s) ⌝ }
+    ensures { λ r. ⌜ numberLine (now (key .entry)) lo hi (drop at (now (s .entry))) line ≡ numberTold (now (s .entry)) (line + 1) r ⌝ }
+    ensures { λ r. ⌜ numberPlace r ≤ length (now (s .entry)) ⌝ }
+{
+    let rest = &s[at..];
+    let len = text::len_to(rest, b'\n');
+    if rest.len() <= len {
+        return NumberLine::Bad(Faulty {
+            refusal: Refusal::Form(line),
+            at,
+        });
+    }
+    let number = text::number_after(&rest[..len], key, lo, hi);
+    match number {
+        Number::Value(z) => {
+            let next = at + len + 1;
+            NumberLine::Value(z, next)
+        }
+        Number::Bad(f) => {
+            let refusal = fault_at(line, f);
+            NumberLine::Bad(Faulty { refusal, at })
+        }
+    }
+}
+
+// The fault of a line that is faulty.
+pub fn number_fault(l: NumberLine) -> Faulty
+    ensures { λ r. ⌜ r ≡ numberFault l ⌝ }
+{
+    match l {
+        NumberLine::Value(_, _) => Faulty {
+            refusal: Refusal::Form(0),
+            at: 0,
+        },
+        NumberLine::Bad(f) => f,
+    }
+}
