@@ -119,7 +119,7 @@ pub struct Faulty {
 
 // A line that is a key and a number: the number and where the next line begins, or the fault.
 pub enum NumberLine {
-    Value(i64, usize),
+    Value(i32, usize),
     Bad(Faulty),
 }
 

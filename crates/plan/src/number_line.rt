@@ -2,6 +2,7 @@
 use crate::Faulty;
 use crate::NumberLine;
 use crate::Refusal;
+use crate::narrow::narrow;
 use crate::refusals::fault_at;
 use text::Number;
 ghost use mathlib.Core.Path.{_≡_};
@@ -16,8 +17,8 @@ pub fn read_number_line(
     at: usize,
     line: usize,
     key: &[u8],
-    lo: i64,
-    hi: i64,
+    lo: i32,
+    hi: i32,
 ) -> NumberLine
     requires { ⌜ at ≤ length (now s) ⌝ }
     ensures { λ r. ⌜ numberLine (now (key .entry)) lo hi (drop at (now (s .entry))) line ≡ numberTold (now (s .entry)) (line + 1) r ⌝ }
@@ -31,11 +32,11 @@ pub fn read_number_line(
             at,
         });
     }
-    let number = text::number_after(&rest[..len], key, lo, hi);
+    let number = text::number_after(&rest[..len], key, lo as i64, hi as i64);
     match number {
         Number::Value(z) => {
             let next = at + len + 1;
-            NumberLine::Value(z, next)
+            NumberLine::Value(narrow(z), next)
         }
         Number::Bad(f) => {
             let refusal = fault_at(line, f);

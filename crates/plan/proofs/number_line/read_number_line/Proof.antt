@@ -3,16 +3,22 @@ use mathlib.Core.Path.{_≡_, sym, _∙_, ap}
 use Prim.Native.Nat.{_-_}
 use native.Mathlib.Omega.{arith}
 use denote.Ref.{now}
+use lib.IntN.{ℤ}
+use mathlib.Core.List.{List}
+use Prim.Native.Nat.{ℕ}
 use lib.ListN.{length, take, drop, length-take, length-drop}
 use mir.Facts.{toZ-ofZ}
-use mir.Syntax.{w64}
+use mir.Syntax.{w32, w64}
 use mir.Val.{toZ, ofZ}
 use Rattle.text.specs.LineLaws.{drop-rest}
 use Rattle.text.specs.Numbers.{numberAfter}
+use Rattle.text.specs.NumberLaws.{numberAfter-value}
+use Rattle.whole.specs.Rules.{whole}
 use Rattle.text.specs.declared.Number.the-variants as number
 use Rattle.plan.specs.Reading.{refused, linedNumber}
 use Rattle.plan.specs.ReadAtLaws.{lineAt-bare, lineAt-value, lineAt-fault}
 use borrow.Author.Needs.{needs}
+use Rattle.plan.proofs.Widths.{i32-least, i32-most, i32-wide, i32-widened}
 use Rattle.plan.proofs.number_line.read_number_line.Statement.{statement}
 use Rattle.plan.proofs.number_line.read_number_line.Tie as tie
 
@@ -39,6 +45,12 @@ returns c =
 slice-aggregate-number-after : tie.Need-slice-aggregate-number-after
 slice-aggregate-number-after c = simp (length-take, length-drop) (omega arith)
 
+cast-number-after : tie.Need-cast-number-after
+cast-number-after c = rw (toZ-ofZ (c .before .before .before .before .before .before .fits .lo)) (i32-wide (c .before .before .before .before .before .before .fits .lo))
+
+cast-number-after-2 : tie.Need-cast-number-after-2
+cast-number-after-2 c = rw (toZ-ofZ (c .before .before .before .before .before .before .fits .hi)) (i32-wide (c .before .before .before .before .before .before .fits .hi))
+
 number-after-requires : tie.Need-number-after-requires
 number-after-requires c κs = search needs
 
@@ -51,6 +63,34 @@ add-next c = search needs
 add-next-2 : tie.Need-add-next-2
 add-next-2 c = search needs
 
+-- the number that was read, and its range
+module _ (c : tie.After-known-told) where
+  n : tie.After-len-to
+  n = c .before .before .before .before .before .before
+
+  b : tie.Start
+  b = n .before .before .before .before
+
+  z : ℤ
+  z = c .before .number .given .0 .0
+
+  s : List ℕ
+  s = now (b .args .s)
+
+  told : numberAfter (now (b .args .key)) (b .args .lo) (b .args .hi) (take (n .len-to .result) (take (length s - b .args .at) (drop (b .args .at) s))) ≡ number.Value z
+  unfolding n b z s
+  told = sym (rw (i32-widened (b .fits .lo), i32-widened (b .fits .hi)) at (c .before .before .before .number-after .ensures)) ∙ c .before .number .given .1
+
+  z-back : toZ w64 (ofZ w64 z) ≡ z
+  unfolding z
+  z-back = toZ-ofZ {w = w64} {z = z} (record { sfits = c .known-told .given .0 .1 })
+
+narrow-requires : tie.Need-narrow-requires
+unfolding b z
+narrow-requires c κs =
+    let q = numberAfter-value (now (b c .args .key)) (b c .args .lo) (b c .args .hi) (z c) _ (told c) .0 in
+    rw (z-back c) (omega (whole, q .least, q .greatest, i32-least (b c .fits .lo), i32-most (b c .fits .hi)))
+
 enum-known-number-2 : tie.Need-enum-known-number-2
 enum-known-number-2 c = search needs
 
@@ -58,33 +98,30 @@ fault-at-requires : tie.Need-fault-at-requires
 fault-at-requires c κs = search needs
 
 returns-2 : tie.Need-returns-2
-unfolding linedNumber
+unfolding linedNumber n b z s
 returns-2 c =
-    let m = c .before .before .before in
-    let n = m .before .before .before in
-    let b = n .before .before .before .before in
-    let a = b .args in
-    let s = now (a .s) in
-    let t = take (length s - a .at) (drop (a .at) s) in
-    let z = c .before .number .given .0 .0 in
-    let back : numberAfter (now (a .key)) (a .lo) (a .hi) (take (n .len-to .result) t) ≡ number.Value (toZ w64 (ofZ w64 z)) =
-    sym (rw (toZ-ofZ (b .fits .lo), toZ-ofZ (b .fits .hi)) at (m .number-after .ensures)) ∙ c .before .number .given .1 ∙ ap number.Value (sym (toZ-ofZ {w = w64} {z = z} (record { sfits = c .known-told .given .0 .1 }))) in
-    (lineAt-value (λ l. linedNumber (numberAfter (now (a .key)) (a .lo) (a .hi) l)) s (a .at) (a .line) t (n .len-to .result) (drop-rest (a .at) s) (n .len-to .ensures) (simp (length-take, length-drop) (omega arith)) (ap linedNumber back), omega (arith, length-drop (a .at) s, length-take (length s - a .at) (drop (a .at) s)))
+    let e = c .before in
+    let a = b e .args in
+    let t = take (length (s e) - a .at) (drop (a .at) (s e)) in
+    let same : toZ w32 (ofZ w32 (c .narrow .result)) ≡ z e = toZ-ofZ {w = w32} {z = c .narrow .result} (record { sfits = c .narrow .ok }) ∙ c .narrow .ensures ∙ z-back e in (
+      lineAt-value (λ l. linedNumber (numberAfter (now (a .key)) (a .lo) (a .hi) l)) (s e) (a .at) (a .line) t (n e .len-to .result) (drop-rest (a .at) (s e)) (n e .len-to .ensures) (simp (length-take, length-drop) (omega arith)) (ap linedNumber (told e ∙ ap number.Value (sym same))),
+      omega (arith, length-drop (a .at) (s e), length-take (length (s e) - a .at) (drop (a .at) (s e))),
+    )
 
 returns-3 : tie.Need-returns-3
 unfolding linedNumber
 returns-3 c =
     let m = c .before .before .before .before in
-    let n = m .before .before .before in
-    let b = n .before .before .before .before in
-    let a = b .args in
-    let s = now (a .s) in
-    let t = take (length s - a .at) (drop (a .at) s) in
-    let back : numberAfter (now (a .key)) (a .lo) (a .hi) (take (n .len-to .result) t) ≡ number.Bad (c .before .before .number2 .given .0 .0) =
-    sym (rw (toZ-ofZ (b .fits .lo), toZ-ofZ (b .fits .hi)) at (m .number-after .ensures)) ∙ c .before .before .number2 .given .1 in (
-      lineAt-fault (λ l. linedNumber (numberAfter (now (a .key)) (a .lo) (a .hi) l)) s (a .at) (a .line) t (n .len-to .result) (drop-rest (a .at) s) (n .len-to .ensures) (simp (length-take, length-drop) (omega arith)) (ap linedNumber back)
-          ∙ ap (λ x. refused x (drop (a .at) s)) (sym (c .fault-at .ensures)),
-      b .pre,
+    let l = m .before .before .before in
+    let f = l .before .before .before .before in
+    let a = f .args in
+    let x = now (a .s) in
+    let t = take (length x - a .at) (drop (a .at) x) in
+    let back : numberAfter (now (a .key)) (a .lo) (a .hi) (take (l .len-to .result) t) ≡ number.Bad (c .before .before .number2 .given .0 .0) =
+    sym (rw (i32-widened (f .fits .lo), i32-widened (f .fits .hi)) at (m .number-after .ensures)) ∙ c .before .before .number2 .given .1 in (
+      lineAt-fault (λ l. linedNumber (numberAfter (now (a .key)) (a .lo) (a .hi) l)) x (a .at) (a .line) t (l .len-to .result) (drop-rest (a .at) x) (l .len-to .ensures) (simp (length-take, length-drop) (omega arith)) (ap linedNumber back)
+          ∙ ap (λ r. refused r (drop (a .at) x)) (sym (c .fault-at .ensures)),
+      f .pre,
     )
 
 pub read-number-line-spec : {M : Type 1} → statement M
@@ -97,10 +134,13 @@ read-number-line-spec =
     len-to-requires
     returns
     slice-aggregate-number-after
+    cast-number-after
+    cast-number-after-2
     number-after-requires
     enum-known-number
     add-next
     add-next-2
+    narrow-requires
     enum-known-number-2
     fault-at-requires
     returns-2
