@@ -78,7 +78,8 @@ module _ (p : Plan) (sound : Sound p) where
           → Forced p (Both p c0 c) (p .jobs) h
       two-windows h n old q =
           subst (Forced p (Both p c0 c) (p .jobs)) (seen-all p h)
-          (strategy-both p sound m c0 c e0 (strategy-keeps p sound m c e) 0 h (omega arith) old (q .1) (q .0))
+          (strategy-both p sound m c0 c e0 e 0 0 (p .jobs) (omega arith) h (omega arith) old (q .1) (strategy-keeps p sound m c e)
+          (subst (λ g. Strategy p h g) (more-windows p sound m) (q .0)))
 
   pub begin-none : (m : ℕ) (c0 c : Rows) → C0 p ≡ bounds c0 → C p m ≡ bounds c → round p c0 c ≡ contradiction → StrategyFor p (suc (suc m)) → ⊥
   begin-none m c0 c e0 e none s = fails-first _ (round-none m c0 c e0 e none) (first-window (suc m) s)

@@ -106,7 +106,7 @@ module _ (p : Plan) (P : History → Type 0) (none : P []) where
       (at-most-or-above (j * p .jobs) (length h))
 
   module _ (more : (u m : History) → p .jobs + p .jobs ≤ length u → P u → P (u ++ m)) (h m : History) (j : ℕ)
-      (n : length h ≡ suc j * p .jobs) (n′ : length (h ++ m) ≡ suc (suc j) * p .jobs)
+      (n : suc j * p .jobs ≤ length h) (n′ : length (h ++ m) ≡ suc (suc j) * p .jobs)
       (old : Always p P h) (this : P (seenFrom p j (h ++ m))) (next : P (seenFrom p (suc j) (h ++ m))) where
     earlier : (i : ℕ) → i < j → P (seenFrom p i (h ++ m))
     earlier i l =
@@ -143,7 +143,7 @@ module _ (p : Plan) where
   pub kept-before : (h m : History) → Kept p (h ++ m) → Kept p h
   kept-before h m = always-before p (KeptIn p) (keptIn-none p) (keptIn-before p) h m
 
-  pub held-next : Sound p → (h m : History) (j : ℕ) → length h ≡ suc j * p .jobs → length (h ++ m) ≡ suc (suc j) * p .jobs
+  pub held-next : Sound p → (h m : History) (j : ℕ) → suc j * p .jobs ≤ length h → length (h ++ m) ≡ suc (suc j) * p .jobs
       → Always p (Held p) h → Held p (seenFrom p j (h ++ m)) → Held p (seenFrom p (suc j) (h ++ m)) → Always p (Held p) (h ++ m)
   held-next sound h m j = always-next p (Held p) (held-none p) (held-more p sound) h m j
 

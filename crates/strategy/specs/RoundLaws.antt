@@ -81,7 +81,7 @@ module _ (p : Plan) (sound : Sound p) where
       elim-tidy p sound (p .jobs) (p .jobs) (r .both) c (omega arith)
       (joined-tidy p sound (r .own) (r .before) (r .own-is) (C-tidy m (r .before) (r .before-is) .anchored) (r .both) (r .both-is)) (r .left-is)
 
-  round-tidy : (m : ℕ) (c : Rows) (r : Round m c) → Tidy p (nodes (p .jobs + p .jobs)) (r .both)
+  pub round-tidy : (m : ℕ) (c : Rows) (r : Round m c) → Tidy p (nodes (p .jobs + p .jobs)) (r .both)
   round-tidy m c r =
       joined-tidy p sound (r .own) (r .before) (r .own-is) (C-tidy m (r .before) (r .before-is) .anchored) (r .both) (r .both-is)
 
@@ -112,80 +112,109 @@ module _ (p : Plan) (sound : Sound p) where
 
   -- ---- from one round to the next
 
+  -- what the round theorem says of m rounds, one way and the other
   abbrev pub Answers : ℕ → Rows → Type 0
-  Answers m c = (j : ℕ) (h : History) → length h ≡ suc j * p .jobs → Timely p h → Punctual p h → Strategy p h (m * p .jobs)
+  Answers m c =
+      (j : ℕ) (h : History) → length h ≡ suc j * p .jobs → Timely p h → Punctual p h → Strategy p h (m * p .jobs)
       → Keeps (nodes (p .jobs)) (at c) (seenFrom p j h)
+
+  abbrev pub Answered : ℕ → Rows → Type 0
+  Answered m c =
+      (j : ℕ) (h : History) → length h ≡ suc j * p .jobs → Timely p h → Punctual p h → Kept p h
+      → Keeps (nodes (p .jobs)) (at c) (seenFrom p j h) → Strategy p h (m * p .jobs)
 
   pub more-windows : (m : ℕ) → suc m * p .jobs ≡ p .jobs + m * p .jobs
   more-windows m = omega arith
 
-  -- a strategy for one window more makes a game of two windows
-  pub strategy-both : (m : ℕ) (c0 c : Rows) → C0 p ≡ bounds c0 → Answers m c → (j : ℕ) (h : History) → length h ≡ suc j * p .jobs
-      → Timely p h → Punctual p h → Strategy p h (suc m * p .jobs) → Forced p (Both p c0 c) (p .jobs) (seenFrom p j h)
-  strategy-both m c0 c e0 answers j h n old c-h s =
-      forced-seen p j (Both p c0 c) (p .jobs) h (omega arith)
-      (forced-map p _ _ (p .jobs) h
-      (λ h′ f q.
-      let size = f .size in
-      let two : length h′ ≡ suc (suc j) * p .jobs = omega arith in
-      let old′ = f .timely old in
-      let held = held-of p h′ (strategy-kept (m * p .jobs) h′ (q .0)) (q .1) in
-      let len = length-seen p j h′ in
-      record {
-        this = C0-keeps p sound c0 e0 (seenFrom p j h′) (held-own p sound (seenFrom p j h′) (held j) (timely-seen p j h′ old′) (omega arith));
-        next = rw (seen-next p j h′) (answers (suc j) h′ two old′ (q .1) (q .0));
-        across = held-across p sound (seenFrom p j h′) (held j) (omega arith);
-      })
-      (forced-punctual p sound (λ h. Strategy p h (m * p .jobs)) (λ h q. strategy-kept (m * p .jobs) h q) (p .jobs) h c-h
-      (forced-split p (Kept p) (p .jobs) (m * p .jobs) h (subst (λ g. Strategy p h g) (more-windows m) s))))
+  -- After j + 1 windows and i jobs of the next one, with g jobs of it to go: a strategy to its end and m windows more is a game of these two windows.
+  module _ (m : ℕ) (c0 c : Rows) (c0-is : C0 p ≡ bounds c0) (c-is : C p m ≡ bounds c) (j i g : ℕ) (ig : i + g ≡ p .jobs)
+      (h : History) (n : length h ≡ suc j * p .jobs + i) (old : Timely p h) (room : Punctual p h) where
+    pub strategy-both : Answers m c → Strategy p h (g + m * p .jobs) → Forced p (Both p c0 c) g (seenFrom p j h)
+    strategy-both answers s =
+        forced-seen p j (Both p c0 c) g h (omega arith)
+        (forced-map p _ _ g h
+        (λ h′ f q.
+        let size = f .size in
+        let two : length h′ ≡ suc (suc j) * p .jobs = omega arith in
+        let old′ = f .timely old in
+        let held = held-of p h′ (strategy-kept (m * p .jobs) h′ (q .0)) (q .1) in
+        let len = length-seen p j h′ in
+        record {
+          this = C0-keeps p sound c0 c0-is (seenFrom p j h′) (held-own p sound (seenFrom p j h′) (held j) (timely-seen p j h′ old′) (omega arith));
+          next = rw (seen-next p j h′) (answers (suc j) h′ two old′ (q .1) (q .0));
+          across = held-across p sound (seenFrom p j h′) (held j) (omega arith);
+        })
+        (forced-punctual p sound (λ h. Strategy p h (m * p .jobs)) (λ h q. strategy-kept (m * p .jobs) h q) g h room
+        (forced-split p (Kept p) g (m * p .jobs) h s)))
 
-  pub strategy-keeps : (m : ℕ) (c : Rows) → C p m ≡ bounds c → (j : ℕ) (h : History) → length h ≡ suc j * p .jobs
-      → Timely p h → Punctual p h → Strategy p h (m * p .jobs) → Keeps (nodes (p .jobs)) (at c) (seenFrom p j h)
-  unfolding C Forced
-  strategy-keeps zero c e j h n old c-h s =
+    held-both : Kept p h → (h′ : History) → Follows p h g h′ → Both p c0 c (seenFrom p j h′) → Always p (Held p) h′
+    held-both k h′ f b =
+        let size = f .size in
+        let two : length h′ ≡ suc (suc j) * p .jobs = omega arith in
+        let old′ = f .timely old in
+        let len₁ = length-seen p j h′ in
+        let len₂ = length-seen p (suc j) h′ in
+        let this-held : Held p (seenFrom p j h′) =
+        own-held p sound (seenFrom p j h′)
+        (C0-back p sound c0 c0-is (seenFrom p j h′) (omega arith) (timely-seen p j h′ old′) (b .this)) (λ l. b .across) in
+        let next-held : Held p (seenFrom p (suc j) h′) =
+        C-held m c c-is c0 c0-is (seenFrom p (suc j) h′) (omega arith) (timely-seen p (suc j) h′ old′) (rw (seen-next p j h′) at (b .next)) in
+        subst (λ h. Always p (Held p) h) (sym (f .whole))
+        (held-next p sound h (f .more) j (omega arith) (ap length (sym (f .whole)) ∙ two) (held-of p h k room)
+        (subst (λ h. Held p (seenFrom p j h)) (f .whole) this-held)
+        (subst (λ h. Held p (seenFrom p (suc j) h)) (f .whole) next-held))
+
+    pub both-strategy : Answered m c → Kept p h → Forced p (Both p c0 c) g (seenFrom p j h) → Strategy p h (g + m * p .jobs)
+    both-strategy answered k q =
+        forced-join p (Kept p) g (m * p .jobs) h
+        (forced-map p _ _ g h
+        (λ h′ f b.
+        let size = f .size in
+        let held = held-both k h′ f b in
+        answered (suc j) h′ (omega arith) (f .timely old) (punctual-of p h′ held) (kept-of p h′ held) (rw (seen-next p j h′) at (b .next)))
+        (seen-forced p j (Both p c0 c) g h (omega arith) q))
+
+  -- the game of two windows is the game of the table that a round starts with
+  module _ (m : ℕ) (c : Rows) (r : Round m c) (u : History) (g : ℕ) (n : length u + g ≡ p .jobs + p .jobs) where
+    pub both-keeps : Forced p (Both p (r .own) (r .before)) g u → Forced p (Keeps (nodes (p .jobs + p .jobs)) (at (r .both))) g u
+    both-keeps q =
+        forced-map p _ _ g u
+        (λ v f b.
+        joined-keeps p sound (r .own) (r .before) (r .own-is) (C-tidy m (r .before) (r .before-is) .anchored) (r .both) (r .both-is) v (f .size ∙ n) b)
+        q
+
+    pub keeps-both : Timely p u → Forced p (Keeps (nodes (p .jobs + p .jobs)) (at (r .both))) g u → Forced p (Both p (r .own) (r .before)) g u
+    keeps-both old q =
+        forced-map p _ _ g u
+        (λ v f b.
+        joined-back p sound (r .own) (r .before) (r .own-is) (C-tidy m (r .before) (r .before-is) .anchored) (r .both) (r .both-is) v (f .size ∙ n)
+        (f .timely old) b)
+        q
+
+  pub strategy-keeps : (m : ℕ) (c : Rows) → C p m ≡ bounds c → Answers m c
+  unfolding C
+  strategy-keeps zero c e = λ j h n old room s.
       let len = length-seen p j h in
       let k : Kept p h = strategy-kept (0 * p .jobs) h s in
       C0-keeps p sound c e (seenFrom p j h)
-      (held-own p sound (seenFrom p j h) (held-of p h k c-h j) (timely-seen p j h old) (omega arith))
-  strategy-keeps (suc m) c e j h n old c-h s =
+      (held-own p sound (seenFrom p j h) (held-of p h k room j) (timely-seen p j h old) (omega arith))
+  strategy-keeps (suc m) c e = λ j h n old room s.
       let r = round-parts m c e in
       let len = length-seen p j h in
       elim-keeps p sound (p .jobs) (p .jobs) (r .both) c (omega arith) (round-tidy m c r) (r .left-is) (seenFrom p j h) (omega arith)
-      (forced-map p _ _ (p .jobs) (seenFrom p j h)
-      (λ u f b. let size = f .size in
-      joined-keeps p sound (r .own) (r .before) (r .own-is) (C-tidy m (r .before) (r .before-is) .anchored) (r .both) (r .both-is) u (omega arith) b)
-      (strategy-both m (r .own) (r .before) (r .own-is) (strategy-keeps m (r .before) (r .before-is)) j h n old c-h s))
+      (both-keeps m c r (seenFrom p j h) (p .jobs) (omega arith)
+      (strategy-both m (r .own) (r .before) (r .own-is) (r .before-is) j 0 (p .jobs) (omega arith) h (omega arith) old room
+      (strategy-keeps m (r .before) (r .before-is)) (subst (λ g. Strategy p h g) (more-windows m) s)))
 
-  pub keeps-strategy : (m : ℕ) (c : Rows) → C p m ≡ bounds c → (j : ℕ) (h : History) → length h ≡ suc j * p .jobs
-      → Timely p h → Punctual p h → Kept p h → Keeps (nodes (p .jobs)) (at c) (seenFrom p j h) → Strategy p h (m * p .jobs)
+  pub keeps-strategy : (m : ℕ) (c : Rows) → C p m ≡ bounds c → Answered m c
   unfolding C Forced
-  keeps-strategy zero c e j h n old c-h k kept = subst (λ g. Strategy p h g) (sym (zero-mul (p .jobs))) k
-  keeps-strategy (suc m) c e j h n old c-h k kept =
+  keeps-strategy zero c e = λ j h n old room k kept. subst (λ g. Strategy p h g) (sym (zero-mul (p .jobs))) k
+  keeps-strategy (suc m) c e = λ j h n old room k kept.
       let r = round-parts m c e in
       let len = length-seen p j h in
       subst (λ g. Strategy p h g) (sym (more-windows m))
-      (forced-join p (Kept p) (p .jobs) (m * p .jobs) h
-      (forced-map p _ _ (p .jobs) h
-      (λ h′ f q.
-      let size = f .size in
-      let two : length h′ ≡ suc (suc j) * p .jobs = omega arith in
-      let old′ = f .timely old in
-      let len₁ = length-seen p j h′ in
-      let len₂ = length-seen p (suc j) h′ in
-      let u-old = timely-seen p j h′ old′ in
-      let b = joined-back p sound (r .own) (r .before) (r .own-is) (C-tidy m (r .before) (r .before-is) .anchored) (r .both) (r .both-is)
-      (seenFrom p j h′) (omega arith) u-old q in
-      let next : Keeps (nodes (p .jobs)) (at (r .before)) (seenFrom p (suc j) h′) = rw (seen-next p j h′) at (b .next) in
-      let this-held : Held p (seenFrom p j h′) =
-      own-held p sound (seenFrom p j h′) (C0-back p sound (r .own) (r .own-is) (seenFrom p j h′) (omega arith) u-old (b .this)) (λ l. b .across) in
-      let next-held : Held p (seenFrom p (suc j) h′) =
-      C-held m (r .before) (r .before-is) (r .own) (r .own-is) (seenFrom p (suc j) h′) (omega arith) (timely-seen p (suc j) h′ old′) next in
-      let held : Always p (Held p) h′ =
-      subst (λ h. Always p (Held p) h) (sym (f .whole))
-      (held-next p sound h (f .more) j n (ap length (sym (f .whole)) ∙ two) (held-of p h k c-h)
-      (subst (λ h. Held p (seenFrom p j h)) (f .whole) this-held)
-      (subst (λ h. Held p (seenFrom p (suc j) h)) (f .whole) next-held)) in
-      keeps-strategy m (r .before) (r .before-is) (suc j) h′ two old′ (punctual-of p h′ held) (kept-of p h′ held) next)
-      (seen-forced p j _ (p .jobs) h (omega arith)
+      (both-strategy m (r .own) (r .before) (r .own-is) (r .before-is) j 0 (p .jobs) (omega arith) h (omega arith) old room
+      (keeps-strategy m (r .before) (r .before-is)) k
+      (keeps-both m c r (seenFrom p j h) (p .jobs) (omega arith) (timely-seen p j h old)
       (elim-back p sound (p .jobs) (p .jobs) (r .both) c (omega arith) (round-tidy m c r) (r .left-is) (seenFrom p j h) (omega arith)
-      (timely-seen p j h old) kept))))
+      (timely-seen p j h old) kept)))
