@@ -362,7 +362,7 @@ module _ (p : Plan) where
           ∙ join-plus (at (v .0) y sᵢ) (at (v .0) sᵢ z) (moved p y) (moved p sᵢ) (moved p z))
           ∙ least-plus (at (v .0) y z) (join (at (v .0) y sᵢ) (at (v .0) sᵢ z)) (moved p z -ℤ moved p y)
 
-      without-start : (B₂ : Rows) → withoutStart p (p .jobs + i) W ≡ bounds B₂
+      pub without-start : (B₂ : Rows) → withoutStart p (p .jobs + i) W ≡ bounds B₂
           → (A₂ : Rows) × (withoutStart p i (without-finish .0) ≡ bounds A₂) × Shifted sᵢ (at A₂) (at B₂)
       without-start B₂ e =
           shifted-set sᵢ (startNode (p .jobs + i)) (omega arith) (omega arith) (startCell i (without-finish .0)) (startCell (p .jobs + i) W) start-shifted B₂ e

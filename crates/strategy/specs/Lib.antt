@@ -21,4 +21,6 @@ pub mod BeginLaws
 pub mod AloneLaws
 pub mod FirstLaws
 pub mod VerdictLaws
+pub mod StageLaws
+pub mod OfferLaws
 pub mod Theorems
