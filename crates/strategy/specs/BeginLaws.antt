@@ -28,10 +28,10 @@ use Rattle.strategy.specs.JoinedLaws.{C0-none, Both, joined-tidy, joined
 use Rattle.strategy.specs.RoundLaws.{C, strategy-kept, C-tidy, C-held, strategy-both, strategy-keeps, keeps-strategy, more-windows}
 
 module _ (p : Plan) (sound : Sound p) where
-  nothing-punctual : Punctual p []
+  pub nothing-punctual : Punctual p []
   nothing-punctual k h = absurd (omega arith)
 
-  nothing-timely : Timely p []
+  pub nothing-timely : Timely p []
   nothing-timely k h = absurd (omega arith)
 
   nothing-extreme : (long : Bool) → Extreme p long []
@@ -101,36 +101,56 @@ module _ (p : Plan) (sound : Sound p) where
     alone-tidy : Tidy p (nodes (0 + p .jobs)) c
     alone-tidy = subst (λ k. Tidy p (nodes k) c) (sym (zero-add (p .jobs))) (C-tidy p sound m c e)
 
+    nothing : (t : Rows) → Tidy p (nodes 0) t → Keeps (nodes 0) (at t) []
+    nothing t tidy y z a b =
+        let y0 : y ≡ 0 = omega arith in
+        let z0 : z ≡ 0 = omega arith in
+        rw (y0, z0, tidy .diagonal 0 (omega arith)) tt
+
+    -- where one window alone does not fail, its jobs can be started so that C(m) is kept
+    pub begin-game : (t : Rows) → eliminated p 0 (p .jobs) c ≡ bounds t → Forced p (Keeps (nodes (p .jobs)) (at c)) (p .jobs) []
+    begin-game t left =
+        subst (λ k. Forced p (Keeps (nodes k) (at c)) (p .jobs) []) (zero-add (p .jobs))
+        (elim-back p sound 0 (p .jobs) c t (omega arith) alone-tidy left [] refl nothing-timely
+        (nothing t (elim-tidy p sound 0 (p .jobs) c t (omega arith) alone-tidy left)))
+
+    -- times of the first window that keep C(m) keep the plan's bounds
+    pub first-held : (c0 : Rows) → C0 p ≡ bounds c0 → (h : History) → length h ≡ p .jobs → Timely p h → Keeps (nodes (p .jobs)) (at c) h → Always p (Held p) h
+    first-held c0 e0 h n old kept =
+        held-one p h (omega arith) (subst (Held p) (sym (seen-all p h)) (C-held p sound m c e c0 e0 h n old kept))
+
+    -- after i jobs of the first window, with g to go
+    module _ (i g : ℕ) (ig : i + g ≡ p .jobs) (h : History) (n : length h ≡ i) (old : Timely p h) where
+      pub first-strategy : (c0 : Rows) → C0 p ≡ bounds c0 → Forced p (Keeps (nodes (p .jobs)) (at c)) g h → Strategy p h (g + m * p .jobs)
+      first-strategy c0 e0 q =
+          forced-join p (Kept p) g (m * p .jobs) h
+          (forced-map p _ _ g h
+          (λ h′ f kept.
+          let size = f .size in
+          let old′ = f .timely old in
+          let all = first-held c0 e0 h′ (omega arith) old′ kept in
+          keeps-strategy p sound m c e 0 h′ (omega arith) old′ (punctual-of p h′ all) (kept-of p h′ all)
+          (subst (Keeps (nodes (p .jobs)) (at c)) (sym (seen-all p h′)) kept))
+          q)
+
+      pub strategy-first : Punctual p h → Strategy p h (g + m * p .jobs) → Forced p (Keeps (nodes (p .jobs)) (at c)) g h
+      strategy-first room s =
+          forced-map p _ _ g h
+          (λ h′ f q.
+          let size = f .size in
+          subst (Keeps (nodes (p .jobs)) (at c)) (seen-all p h′)
+          (strategy-keeps p sound m c e 0 h′ (omega arith) (f .timely old) (q .1) (q .0)))
+          (forced-punctual p sound (λ h. Strategy p h (m * p .jobs)) (λ h q. strategy-kept p sound (m * p .jobs) h q) g h room
+          (forced-split p (Kept p) g (m * p .jobs) h s))
+
     pub begin-alone : eliminated p 0 (p .jobs) c ≡ contradiction → StrategyFor p (suc m) → ⊥
     begin-alone none s =
         let f = elim-none p sound 0 (p .jobs) c (omega arith) alone-tidy none in
         f .1 [] refl (nothing-extreme (f .0))
-        (forced-map p _ _ (p .jobs) []
-        (λ h g q.
-        let size : length h ≡ 0 + p .jobs = g .size in
-        λ y z a b.
-        subst (λ u. Holds (at c y z) (gap u y z)) (seen-all p h)
-        (strategy-keeps p sound m c e 0 h (omega arith) (g .timely nothing-timely) (q .1) (q .0) y z (omega arith) (omega arith)))
-        (first-window m s))
+        (subst (λ k. Forced p (Keeps (nodes k) (at c)) (p .jobs) []) (sym (zero-add (p .jobs)))
+        (strategy-first 0 (p .jobs) (omega arith) [] refl nothing-timely nothing-punctual (subst (λ g. Strategy p [] g) (more-windows p sound m) s)))
 
     pub begin-strategy : (c0 t : Rows) → C0 p ≡ bounds c0 → eliminated p 0 (p .jobs) c ≡ bounds t → StrategyFor p (suc m)
     begin-strategy c0 t e0 left =
-        let tidy = elim-tidy p sound 0 (p .jobs) c t (omega arith) alone-tidy left in
         subst (λ g. Strategy p [] g) (sym (more-windows p sound m))
-        (forced-join p (Kept p) (p .jobs) (m * p .jobs) []
-        (forced-map p _ _ (p .jobs) []
-        (λ h g q.
-        let size : length h ≡ 0 + p .jobs = g .size in
-        let old = g .timely nothing-timely in
-        let kept : Keeps (nodes (p .jobs)) (at c) h = λ y z a b. q y z (omega arith) (omega arith) in
-        let held = C-held p sound m c e c0 e0 h (omega arith) old kept in
-        let all = held-one p h (omega arith) (subst (Held p) (sym (seen-all p h)) held) in
-        keeps-strategy p sound m c e 0 h (omega arith) old (punctual-of p h all) (kept-of p h all)
-        (subst (Keeps (nodes (p .jobs)) (at c)) (sym (seen-all p h)) kept))
-        (elim-back p sound 0 (p .jobs) c t (omega arith) alone-tidy left [] refl nothing-timely (nothing tidy))))
-      where
-        nothing : Tidy p (nodes 0) t → Keeps (nodes 0) (at t) []
-        nothing tidy y z a b =
-            let y0 : y ≡ 0 = omega arith in
-            let z0 : z ≡ 0 = omega arith in
-            rw (y0, z0, tidy .diagonal 0 (omega arith)) tt
+        (first-strategy 0 (p .jobs) (omega arith) [] refl nothing-timely c0 e0 (begin-game t left))

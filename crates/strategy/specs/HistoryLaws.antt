@@ -84,10 +84,10 @@ pub record Follows (p : Plan) (h : History) (g : ℕ) (h′ : History) : Type 0 
   pub whole : h′ ≡ h ++ more
   pub timely : Timely p h → Timely p h′
 
-follows-none : (p : Plan) (h : History) → Follows p h 0 h
+pub follows-none : (p : Plan) (h : History) → Follows p h 0 h
 follows-none p h = record { size = sym (add-zero (length h)); more = []; whole = sym (append-nil h); timely = λ t. t }
 
-follows-more : (p : Plan) (h : History) (g : ℕ) (t e : ℤ) → turn p (length h) .min ≤ℤ e → e ≤ℤ turn p (length h) .max
+pub follows-more : (p : Plan) (h : History) (g : ℕ) (t e : ℤ) → turn p (length h) .min ≤ℤ e → e ≤ℤ turn p (length h) .max
     → (h′ : History) → Follows p (ranFor h t e) g h′ → Follows p h (suc g) h′
 follows-more p h g t e lo hi h′ f =
     let n = length-more h (record { start = t; finish = t +ℤ e }) in

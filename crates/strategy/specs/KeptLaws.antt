@@ -143,6 +143,9 @@ module _ (p : Plan) where
   pub kept-before : (h m : History) → Kept p (h ++ m) → Kept p h
   kept-before h m = always-before p (KeptIn p) (keptIn-none p) (keptIn-before p) h m
 
+  pub held-all-before : (h m : History) → Always p (Held p) (h ++ m) → Always p (Held p) h
+  held-all-before h m = always-before p (Held p) (held-none p) (held-before p) h m
+
   pub held-next : Sound p → (h m : History) (j : ℕ) → suc j * p .jobs ≤ length h → length (h ++ m) ≡ suc (suc j) * p .jobs
       → Always p (Held p) h → Held p (seenFrom p j (h ++ m)) → Held p (seenFrom p (suc j) (h ++ m)) → Always p (Held p) (h ++ m)
   held-next sound h m j = always-next p (Held p) (held-none p) (held-more p sound) h m j
@@ -185,7 +188,7 @@ module _ (p : Plan) where
   room t b m d h = omega wholes
 
   -- the longest run of a start shows the deadline
-  starts-punctual : Sound p → (Q : History → Type 0) → ((h : History) → Q h → Kept p h) → (g : ℕ) (h : History) (t : ℤ)
+  pub starts-punctual : Sound p → (Q : History → Type 0) → ((h : History) → Q h → Kept p h) → (g : ℕ) (h : History) (t : ℤ)
       → Forced p Q g (ranFor h t (turn p (length h) .max))
       → (e : ℤ) → PunctualAt (length h) (record { start = t; finish = t +ℤ e })
   starts-punctual sound Q kept g h t f e j i l k =

@@ -23,4 +23,5 @@ pub mod FirstLaws
 pub mod VerdictLaws
 pub mod StageLaws
 pub mod OfferLaws
+pub mod GameLaws
 pub mod Theorems

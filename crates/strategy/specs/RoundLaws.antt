@@ -147,7 +147,7 @@ module _ (p : Plan) (sound : Sound p) where
         (forced-punctual p sound (λ h. Strategy p h (m * p .jobs)) (λ h q. strategy-kept (m * p .jobs) h q) g h room
         (forced-split p (Kept p) g (m * p .jobs) h s)))
 
-    held-both : Kept p h → (h′ : History) → Follows p h g h′ → Both p c0 c (seenFrom p j h′) → Always p (Held p) h′
+    pub held-both : Kept p h → (h′ : History) → Follows p h g h′ → Both p c0 c (seenFrom p j h′) → Always p (Held p) h′
     held-both k h′ f b =
         let size = f .size in
         let two : length h′ ≡ suc (suc j) * p .jobs = omega arith in

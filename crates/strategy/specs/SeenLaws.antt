@@ -96,7 +96,7 @@ module _ (p : Plan) (j : ℕ) where
         most = omega (shows le (any ⊖ any ⊖ (any ⊖ any)) any, wholes);
       })
 
-  turn-after : (h : History) → j * p .jobs ≤ length h → turn p (length (seenFrom p j h)) ≡ turn p (length h)
+  pub turn-after : (h : History) → j * p .jobs ≤ length h → turn p (length (seenFrom p j h)) ≡ turn p (length h)
   turn-after h i =
       let n = length-seen h in
       let e : j * p .jobs + length (seenFrom p j h) ≡ length h = omega arith in
