@@ -11,7 +11,7 @@ use mir.Facts.{toZ-ofZ, sfits-lit}
 use Rattle.whole.specs.Split.{eqZ}
 use Rattle.whole.specs.SplitLaws.{bits-eqb}
 use Rattle.whole.specs.Rules.{wholes}
-use Rattle.bounds.specs.Flat.{noBound, Putting, Weighed}
+use Rattle.bounds.specs.Flat.{noBound, Putting, Weighed, Moving}
 
 pub is-mark : {v : ℤ} → SFits w32 v → ofZ w32 v ≡ 2147483647 → eqZ v noBound ≡ true
 is-mark {v} f e = sym (bits-eqb f (sfits-lit tt)) ∙ eq-eqb (ofZ w32 v) 2147483647 e
@@ -39,3 +39,12 @@ pub weights-fit : {v w : ℤ} → SFits w32 v → SFits w32 w → Weighed v → 
 weights-fit {v} {w} f g h k on e =
     let here : eqZ v noBound ≡ false = sym (ap (λ v. eqZ v noBound) (toZ-ofZ f)) ∙ e in
     sum-fits f g (weights-sum v w (h .least here) (h .greatest here) (k .least on) (k .greatest on))
+
+moved-sum : (v a : ℤ) → negℤ (pos 259200000) ≤ℤ v → v ≤ℤ pos 259200000 → Moving a → SFits w32 (v +ℤ a)
+moved-sum v a h k m = omega wholes
+
+-- a weight of a table, moved by a running time
+pub moved-fits : {v a : ℤ} → SFits w32 v → SFits w32 a → Weighed v → Moving a → Putting (toZ w32 (ofZ w32 v)) (toZ w32 (ofZ w32 a))
+moved-fits {v} {a} f g h m e =
+    let here : eqZ v noBound ≡ false = sym (ap (λ v. eqZ v noBound) (toZ-ofZ f)) ∙ e in
+    sum-fits f g (moved-sum v a (h .least here) (h .greatest here) m)

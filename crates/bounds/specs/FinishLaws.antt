@@ -18,7 +18,8 @@ use Rattle.bounds.specs.declared.Judgement.{Judgement}
 use Rattle.bounds.specs.declared.Judgement.the-variants.{Contradiction, LeftOut, Kept}
 use Rattle.bounds.specs.declared.Event.the-variants.{Start, Finish}
 use Rattle.bounds.specs.Events.{startNode, finishNode, eventOf, jobAt}
-use Rattle.bounds.specs.Judgements.{judged, atLeast}
+use Rattle.bounds.specs.Judgements.{judged}
+use Rattle.bounds.specs.JudgementsLaws.{judged-running, judged-reverse}
 use Rattle.bounds.specs.Tables.{Cell, off, upto, least, plus, at, Set, contradiction, bounds, judgement, isContradiction, judgedSet}
 use Rattle.bounds.specs.Elimination.{onlyIf, finishCell, withoutFinish}
 use Rattle.bounds.specs.BuildLaws.{at-build, eventOf-start, eventOf-finish}
@@ -32,22 +33,6 @@ use Rattle.bounds.specs.StartLaws.{place-one, less-or-same, answer-is}
 
 -- ---- the two bounds of a job with itself are never kept
 
-at-least-kept : (limit w : ℤ) (b : Bool) → ltZ w limit ≡ b → cond b Contradiction LeftOut ≡ Kept → ⊥
-at-least-kept limit w true e h = let z : _≡_ {A = ℕ} 0 1 = cc in omega arith
-at-least-kept limit w false e h = let z : _≡_ {A = ℕ} 0 1 = cc in omega arith
-
-running-kept : (p : Plan) (k : ℕ) (w : ℤ) → judged p (Start k) (Finish k) w ≡ Kept → ⊥
-unfolding judged
-running-kept p k w h =
-    at-least-kept (jobAt p k .max) w (ltZ w (jobAt p k .max)) refl
-    (rw (eq-eqb k k refl) at h)
-
-reverse-kept : (p : Plan) (k : ℕ) (w : ℤ) → judged p (Finish k) (Start k) w ≡ Kept → ⊥
-unfolding judged
-reverse-kept p k w h =
-    at-least-kept (negℤ (jobAt p k .min)) w (ltZ w (negℤ (jobAt p k .min))) refl
-    (rw (eq-eqb k k refl) at h)
-
 never-on : (p : Plan) (y z : ℕ) (c : Cell) → KeptCell p y z c → ((w : ℤ) → judged p (eventOf y) (eventOf z) w ≡ Kept → ⊥) → c ≡ off
 never-on p y z off k n = refl
 never-on p y z (upto w) k n = absurd (n w (k .kept w refl))
@@ -55,12 +40,12 @@ never-on p y z (upto w) k n = absurd (n w (k .kept w refl))
 pub running-off : (p : Plan) (k : ℕ) (c : Cell) → KeptCell p (startNode k) (finishNode k) c → c ≡ off
 running-off p k c h =
     never-on p (startNode k) (finishNode k) c h
-    (λ w e. running-kept p k w (ap₂ (λ a b. judged p a b w) (sym (eventOf-start k)) (sym (eventOf-finish k)) ∙ e))
+    (λ w e. judged-running p k w (ap₂ (λ a b. judged p a b w) (sym (eventOf-start k)) (sym (eventOf-finish k)) ∙ e))
 
 pub reverse-off : (p : Plan) (k : ℕ) (c : Cell) → KeptCell p (finishNode k) (startNode k) c → c ≡ off
 reverse-off p k c h =
     never-on p (finishNode k) (startNode k) c h
-    (λ w e. reverse-kept p k w (ap₂ (λ a b. judged p a b w) (sym (eventOf-finish k)) (sym (eventOf-start k)) ∙ e))
+    (λ w e. judged-reverse p k w (ap₂ (λ a b. judged p a b w) (sym (eventOf-finish k)) (sym (eventOf-start k)) ∙ e))
 
 -- ---- sums
 
@@ -88,7 +73,6 @@ module _ (p : Plan) (early late : List ℤ) (s f : ℕ) (less more : ℤ) (ws : 
     (reverse : cellAt ws f s ≡ off)
     (less-moves : Moving less)
     (more-moves : Moving more) where
-
   -- the made cell
   abbrev made : ℕ → ℕ → Cell
   made y z =
@@ -121,7 +105,7 @@ module _ (p : Plan) (early late : List ℤ) (s f : ℕ) (less more : ℤ) (ws : 
   stage-start us g =
       let here : cellAt us s s ≡ cellAt ws s s = ap cellOf (g .rest-column s (omega arith) (omega arith)) in
       let same : JudgedCell p s s (made s s) (cellAt us s s)
-              = subst₂ (λ c d. JudgedCell p s s c d) (sym made-start) (sym here) (judged-again p s s (cellAt ws s s) (kept s s (omega arith) (omega arith))) in
+      = subst₂ (λ c d. JudgedCell p s s c d) (sym made-start) (sym here) (judged-again p s s (cellAt ws s s) (kept s s (omega arith) (omega arith))) in
       record {
         len = g .len;
         column = λ u h. ⊎-elim (λ l. g .column u l) (λ e. subst (λ u. JudgedCell p u s (made u s) (cellAt us u s)) (sym e) same) (less-or-same u s h);
@@ -143,15 +127,15 @@ module _ (p : Plan) (early late : List ℤ) (s f : ℕ) (less more : ℤ) (ws : 
       let here : cellAt us y s ≡ cellAt ws y s = ap cellOf (g .rest-column y (omega arith) (omega arith)) in
       let there : weightAt us y f ≡ weightAt ws y f = g .other y f n (λ e. omega arith) node in
       let cell : least (cellAt us y s) (plus (cellOf (weightAt us y f)) less) ≡ made y s
-              = ap₂ least here (ap (λ v. plus (cellOf v) less) there) ∙ sym (made-column y n) in
+      = ap₂ least here (ap (λ v. plus (cellOf v) less) there) ∙ sym (made-column y n) in
       let r = putAt early late y s (weightAt us y f) less us in
       let o = subst (λ c. Outcome (λ vs. JudgedCell p y s c (cellAt vs y s)) (isContradiction (judgement p y s c) ≡ true) r) cell
-                  (putAt-left p early late y s us (judgedAt-is p (suc f) early late times y s (omega arith) (omega arith))
-                      (omega (arith, g .len))
-                      (subst (λ c. KeptCell p y s c) (sym here) (kept y s (omega arith) (omega arith)))
-                      (weightAt us y f)
-                      less
-                      (λ e. moved-low (weightAt us y f) less (subst Weighed (sym there) (weighed y f (omega arith) (omega arith)) .greatest e) (less-moves .greatest))) in
+      (putAt-left p early late y s us (judgedAt-is p (suc f) early late times y s (omega arith) (omega arith))
+      (omega (arith, g .len))
+      (subst (λ c. KeptCell p y s c) (sym here) (kept y s (omega arith) (omega arith)))
+      (weightAt us y f)
+      less
+      (λ e. moved-low (weightAt us y f) less (subst Weighed (sym there) (weighed y f (omega arith) (omega arith)) .greatest e) (less-moves .greatest))) in
       record {
         fails = λ q. record { y = y; z = s; y-node = l; z-node = order; found = o .fails q };
         keeps = λ q.
@@ -170,23 +154,23 @@ module _ (p : Plan) (early late : List ℤ) (s f : ℕ) (less more : ℤ) (ws : 
       let f≢s : f ≡ s → ⊥ = λ e. omega arith in
       let s≢y : s ≡ y → ⊥ = λ e. n (sym e) in
       let here : cellAt vs s y ≡ cellAt ws s y
-              = ap cellOf (h .same s y low (row-apart s y y s low start-low s≢y) ∙ g .rest-row y (omega arith) (omega arith)) in
+      = ap cellOf (h .same s y low (row-apart s y y s low start-low s≢y) ∙ g .rest-row y (omega arith) (omega arith)) in
       let there : weightAt vs f y ≡ weightAt ws f y
-              = h .same f y low (column-apart f y y s low start-low n) ∙ g .other f y f≢s n low in
+      = h .same f y low (column-apart f y y s low start-low n) ∙ g .other f y f≢s n low in
       let cell : least (cellAt vs s y) (plus (cellOf (weightAt vs f y)) more) ≡ made s y
-              = ap₂ least here (ap (λ v. plus (cellOf v) more) there) ∙ sym (made-row y n) in
+      = ap₂ least here (ap (λ v. plus (cellOf v) more) there) ∙ sym (made-row y n) in
       let r = putAt early late s y (weightAt vs f y) more vs in
       let o = subst (λ c. Outcome (λ us. JudgedCell p s y c (cellAt us s y)) (isContradiction (judgement p s y c) ≡ true) r) cell
-                  (putAt-left p early late s y vs (judgedAt-is p (suc f) early late times s y (omega arith) (omega arith))
-                      (omega (arith, h .len))
-                      (subst (λ c. KeptCell p s y c) (sym here) (kept s y (omega arith) (omega arith)))
-                      (weightAt vs f y)
-                      more
-                      (λ e. moved-low (weightAt vs f y) more (subst Weighed (sym there) (weighed f y (omega arith) (omega arith)) .greatest e) (more-moves .greatest))) in
+      (putAt-left p early late s y vs (judgedAt-is p (suc f) early late times s y (omega arith) (omega arith))
+      (omega (arith, h .len))
+      (subst (λ c. KeptCell p s y c) (sym here) (kept s y (omega arith) (omega arith)))
+      (weightAt vs f y)
+      more
+      (λ e. moved-low (weightAt vs f y) more (subst Weighed (sym there) (weighed f y (omega arith) (omega arith)) .greatest e) (more-moves .greatest))) in
       let same : (u x : ℕ) → (place u x ≡ place s y → ⊥) → weightAt (r .weights) u x ≡ weightAt vs u x
-              = λ u x d. putAt-same early late s y (weightAt vs f y) more vs (place u x) (pos 0) d in
+      = λ u x d. putAt-same early late s y (weightAt vs f y) more vs (place u x) (pos 0) d in
       let in-column : (u : ℕ) → weightAt (r .weights) u s ≡ weightAt vs u s
-              = λ u. same u s (column-apart u s s y start-low low s≢y) in
+      = λ u. same u s (column-apart u s s y start-low low s≢y) in
       record {
         fails = λ q. record { y = s; z = y; y-node = order; z-node = l; found = o .fails q };
         keeps = λ q.
@@ -222,9 +206,9 @@ module _ (p : Plan) (early late : List ℤ) (s f : ℕ) (less more : ℤ) (ws : 
   unfolding movedAt
   nothing-moved us g =
       let ahead : eqZ (weightAt us s f) noBound ≡ true
-              = ap (λ w. eqZ w noBound) (g .rest-row f (omega arith) (omega arith)) ∙ mark-of-off (weightAt ws s f) running in
+      = ap (λ w. eqZ w noBound) (g .rest-row f (omega arith) (omega arith)) ∙ mark-of-off (weightAt ws s f) running in
       let back : eqZ (weightAt us f s) noBound ≡ true
-              = ap (λ w. eqZ w noBound) (g .rest-column f (omega arith) (omega arith)) ∙ mark-of-off (weightAt ws f s) reverse in
+      = ap (λ w. eqZ w noBound) (g .rest-column f (omega arith) (omega arith)) ∙ mark-of-off (weightAt ws f s) reverse in
       ap (λ r. thenFlat r (λ us. putAt early late s s (weightAt us f s) more us)) (sym (putAt-none early late s s (weightAt us s f) less us ahead))
       ∙ sym (putAt-none early late s s (weightAt us f s) more us back)
 
@@ -286,21 +270,21 @@ pub withoutFinish-is : (p : Plan) (early late : List ℤ) (k : ℕ) (ws : List �
     → Moving (negℤ (jobAt p k .max))
     → Moving (jobAt p k .min)
     → let r = movedRows early late (startNode k) (finishNode k) (negℤ (jobAt p k .max)) (jobAt p k .min) ws in
-      cond (r .found) contradiction (bounds (rowsOf (finishNode k) (r .weights))) ≡ withoutFinish p k (rowsOf (suc (finishNode k)) ws)
+    cond (r .found) contradiction (bounds (rowsOf (finishNode k) (r .weights))) ≡ withoutFinish p k (rowsOf (suc (finishNode k)) ws)
 unfolding finishCell
 withoutFinish-is p early late k ws times node size kept weighed less-moves more-moves =
     let s = startNode k in
     let f = finishNode k in
     let same : (y z : ℕ) → y < suc f → z < suc f → at (rowsOf (suc f) ws) y z ≡ cellAt ws y z = at-build (suc f) (cellAt ws) in
     movedRows-is p early late s f (negℤ (jobAt p k .max)) (jobAt p k .min) ws times node (omega arith) size kept weighed
-        (running-off p k (cellAt ws s f) (kept s f (omega arith) (omega arith)))
-        (reverse-off p k (cellAt ws f s) (kept f s (omega arith) (omega arith)))
-        less-moves
-        more-moves
+    (running-off p k (cellAt ws s f) (kept s f (omega arith) (omega arith)))
+    (reverse-off p k (cellAt ws f s) (kept f s (omega arith) (omega arith)))
+    less-moves
+    more-moves
     ∙ judgedSet-ext p f _ _
-        (λ y z a b.
-        sym
-        (ap₂ least (same y z (omega arith) (omega arith))
-        (ap₂ (λ c d. least (onlyIf (eqb z s) (plus c (negℤ (jobAt p k .max)))) (onlyIf (eqb y s) (plus d (jobAt p k .min))))
-        (same y f (omega arith) (omega arith))
-        (same f z (omega arith) (omega arith)))))
+    (λ y z a b.
+    sym
+    (ap₂ least (same y z (omega arith) (omega arith))
+    (ap₂ (λ c d. least (onlyIf (eqb z s) (plus c (negℤ (jobAt p k .max)))) (onlyIf (eqb y s) (plus d (jobAt p k .min))))
+    (same y f (omega arith) (omega arith))
+    (same f z (omega arith) (omega arith)))))

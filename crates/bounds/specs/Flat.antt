@@ -145,3 +145,23 @@ pub record JoinsRows (early late : List ℤ) (s : ℕ) (ws : List ℤ) : Type 0 
   pub node : s < 37
   pub column : (y : ℕ) → y < s → Weighed (weightAt ws y s)
   pub row : (z : ℕ) → z < s → Weighed (weightAt ws s z)
+
+-- and the same of the finish f of the start s
+pub record MovesAt (early late : List ℤ) (s f : ℕ) (less more : ℤ) (y : ℕ) (ws : List ℤ) : Type 0 where
+  pub times : AllTimed early late
+  pub node : f < 37
+  pub order : s < f
+  pub before : y < f
+  pub less-moves : Moving less
+  pub more-moves : Moving more
+  pub column : Weighed (weightAt ws y f)
+  pub row : Weighed (weightAt ws f y)
+
+pub record MovesRows (early late : List ℤ) (s f : ℕ) (less more : ℤ) (ws : List ℤ) : Type 0 where
+  pub times : AllTimed early late
+  pub node : f < 37
+  pub order : s < f
+  pub less-moves : Moving less
+  pub more-moves : Moving more
+  pub column : (y : ℕ) → y < f → Weighed (weightAt ws y f)
+  pub row : (z : ℕ) → z < f → Weighed (weightAt ws f z)

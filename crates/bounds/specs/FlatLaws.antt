@@ -12,7 +12,7 @@ use Rattle.whole.specs.Split.{eqZ}
 use Rattle.bounds.specs.declared.Judgement.{Judgement}
 use Rattle.bounds.specs.declared.Judgement.the-variants.{Contradiction, LeftOut, Kept}
 use Rattle.bounds.specs.Spans.{judgedAt}
-use Rattle.bounds.specs.Flat.{noBound, place, weightAt, Flat, flat, stored, keptAt, putAt, thenFlat, eachNode, joinedAt, joinedCells, joinedRow}
+use Rattle.bounds.specs.Flat.{noBound, place, weightAt, Flat, flat, stored, keptAt, putAt, thenFlat, eachNode, joinedAt, joinedCells, joinedRow, movedAt}
 
 module _ (early late : List ℤ) (y z : ℕ) (v a : ℤ) (ws : List ℤ) where
   pub putAt-none : eqZ v noBound ≡ true → flat false ws ≡ putAt early late y z v a ws
@@ -167,3 +167,28 @@ module _ (early late : List ℤ) (s y : ℕ) (ws : List ℤ) where
       (omega arith)
       ws
       refl)
+
+-- ---- a node of a finish that is eliminated
+
+module _ (early late : List ℤ) (s f : ℕ) (less more : ℤ) (y : ℕ) (ws : List ℤ) where
+  pub movedAt-stop : (r : Bool) (us : List ℤ) → flat r us ≡ putAt early late y s (weightAt ws y f) less ws → r ≡ true
+      → flat true us ≡ movedAt early late s f less more y ws
+  unfolding movedAt
+  movedAt-stop r us e t =
+      let rest : List ℤ → Flat = λ us. putAt early late s y (weightAt us f y) more us in
+      sym (ap (λ r. thenFlat r rest) (sym e) ∙ thenFlat-found r us rest t)
+
+  pub movedAt-past : (r : Bool) (us : List ℤ) → flat r us ≡ putAt early late y s (weightAt ws y f) less ws → r ≡ false
+      → putAt early late s y (weightAt us f y) more us ≡ movedAt early late s f less more y ws
+  unfolding movedAt
+  movedAt-past r us e t =
+      let rest : List ℤ → Flat = λ us. putAt early late s y (weightAt us f y) more us in
+      sym (ap (λ r. thenFlat r rest) (sym e) ∙ thenFlat-next r us rest t)
+
+  -- nothing is written but at (y, s) and (s, y)
+  pub movedAt-same : (i : ℕ) (d : ℤ) → (i ≡ place y s → ⊥) → (i ≡ place s y → ⊥) → getD (movedAt early late s f less more y ws .weights) i d ≡ getD ws i d
+  unfolding movedAt
+  movedAt-same i d m n =
+      thenFlat-keeps (λ us. getD us i d ≡ getD ws i d) (putAt early late y s (weightAt ws y f) less ws) (λ us. putAt early late s y (weightAt us f y) more us)
+      (putAt-same early late y s (weightAt ws y f) less ws i d m)
+      (λ us e. putAt-same early late s y (weightAt us f y) more us i d n ∙ e)

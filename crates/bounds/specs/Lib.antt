@@ -11,9 +11,11 @@ pub mod Fit
 -- ---- laws
 pub mod BuildLaws
 pub mod EventsLaws
+pub mod JudgementsLaws
 pub mod TablesLaws
 pub mod SpansLaws
 pub mod FlatLaws
 pub mod PutLaws
 pub mod StartLaws
 pub mod FinishLaws
+pub mod FitLaws

@@ -66,7 +66,6 @@ module _ (p : Plan) (early late : List ℤ) (y z : ℕ) (ws : List ℤ)
     (judges : (w : ℤ) → judgedAt early late y z w ≡ judged p (eventOf y) (eventOf z) w)
     (room : place y z < length ws)
     (kept : KeptCell p y z (cellAt ws y z)) where
-
   -- what is left of a cell, or that the cell is a contradiction
   abbrev pub Left : Cell → Flat → Type 0
   Left c r = Outcome (λ us. JudgedCell p y z c (cellAt us y z)) (isContradiction (judgement p y z c) ≡ true) r

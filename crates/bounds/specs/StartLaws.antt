@@ -67,7 +67,6 @@ module _ (p : Plan) (early late : List ℤ) (s : ℕ) (ws : List ℤ)
     (size : length ws ≡ 1369)
     (kept : (y z : ℕ) → y < suc s → z < suc s → KeptCell p y z (cellAt ws y z))
     (weighed : (y z : ℕ) → y < suc s → z < suc s → Weighed (weightAt ws y z)) where
-
   -- the made cell
   abbrev made : ℕ → ℕ → Cell
   made y z = least (cellAt ws y z) (join (cellAt ws y s) (cellAt ws s z))
@@ -84,17 +83,17 @@ module _ (p : Plan) (early late : List ℤ) (s : ℕ) (ws : List ℤ)
       let here : cellAt us y z ≡ cellAt ws y z = ap cellOf (g .rest (place y z) (omega arith)) in
       let there : weightAt us s z ≡ weightAt ws s z = g .rest (place s z) (omega arith) in
       let cell : least (cellAt us y z) (plus (cellOf (weightAt us s z)) w) ≡ made y z
-              = ap₂ least here (ap (λ v. plus (cellOf v) w) there ∙ sym (join-plus w (cellAt ws s z)) ∙ ap (λ c. join c (cellAt ws s z)) (sym (cellOf-on w on))) in
+      = ap₂ least here (ap (λ v. plus (cellOf v) w) there ∙ sym (join-plus w (cellAt ws s z)) ∙ ap (λ c. join c (cellAt ws s z)) (sym (cellOf-on w on))) in
       let o = subst (λ c. Outcome (λ us. JudgedCell p y z c (cellAt us y z)) (isContradiction (judgement p y z c) ≡ true) (joinedAt early late s y w z us))
-                  cell
-                  (putAt-left p early late y z us (judgedAt-is p (suc s) early late times y z (omega arith) (omega arith))
-                      (omega (arith, g .len))
-                      (subst (λ c. KeptCell p y z c) (sym here) (kept y z (omega arith) (omega arith)))
-                      (weightAt us s z)
-                      w
-                      (λ e. weighed-low (weightAt us s z) w (subst Weighed (sym there) (weighed s z (omega arith) (omega arith))) (weighed y s (omega arith) (omega arith)) on e)) in
+      cell
+      (putAt-left p early late y z us (judgedAt-is p (suc s) early late times y z (omega arith) (omega arith))
+      (omega (arith, g .len))
+      (subst (λ c. KeptCell p y z c) (sym here) (kept y z (omega arith) (omega arith)))
+      (weightAt us s z)
+      w
+      (λ e. weighed-low (weightAt us s z) w (subst Weighed (sym there) (weighed s z (omega arith) (omega arith))) (weighed y s (omega arith) (omega arith)) on e)) in
       let same : (i : ℕ) → (i ≡ place y z → ⊥) → getD (joinedAt early late s y w z us .weights) i (pos 0) ≡ getD us i (pos 0)
-              = λ i n. putAt-same early late y z (weightAt us s z) w us i (pos 0) n in
+      = λ i n. putAt-same early late y z (weightAt us s z) w us i (pos 0) n in
       record {
         fails = λ f. record { y = y; z = z; y-node = h; z-node = l; found = o .fails f };
         keeps = λ f.
@@ -102,12 +101,12 @@ module _ (p : Plan) (early late : List ℤ) (s : ℕ) (ws : List ℤ)
               len = putAt-length early late y z (weightAt us s z) w us ∙ g .len;
               done = λ u x a b q.
                   ⊎-elim
-                      (λ lower.
-                      subst (λ c. JudgedCell p u x (made u x) c) (sym (ap cellOf (same (place u x) (λ e. omega arith)))) (g .done u x a b lower))
-                      (λ e.
-                      let one = place-one u x y z (omega arith) (omega arith) e in
-                      subst₂ (λ u x. JudgedCell p u x (made u x) (cellAt (joinedAt early late s y w z us .weights) u x)) (sym (one .0)) (sym (one .1)) (o .keeps f))
-                      (less-or-same (place u x) (place y z) (omega arith));
+                  (λ lower.
+                  subst (λ c. JudgedCell p u x (made u x) c) (sym (ap cellOf (same (place u x) (λ e. omega arith)))) (g .done u x a b lower))
+                  (λ e.
+                  let one = place-one u x y z (omega arith) (omega arith) e in
+                  subst₂ (λ u x. JudgedCell p u x (made u x) (cellAt (joinedAt early late s y w z us .weights) u x)) (sym (one .0)) (sym (one .1)) (o .keeps f))
+                  (less-or-same (place u x) (place y z) (omega arith));
               rest = λ i q. same i (λ e. omega arith) ∙ g .rest i (omega arith);
             };
       }
@@ -122,9 +121,9 @@ module _ (p : Plan) (early late : List ℤ) (s : ℕ) (ws : List ℤ)
             ⊎-elim (λ lower. g .done u x a b (omega arith))
             (λ same.
             let cell : made u x ≡ cellAt ws u x
-                    = ap (λ c. least (cellAt ws u x) (join c (cellAt ws s x))) (ap (λ u. cellAt ws u s) same ∙ cellOf-mark (weightAt ws y s) e)
-                    ∙ ap (least (cellAt ws u x)) (join-off (cellAt ws s x))
-                    ∙ least-off (cellAt ws u x) in
+            = ap (λ c. least (cellAt ws u x) (join c (cellAt ws s x))) (ap (λ u. cellAt ws u s) same ∙ cellOf-mark (weightAt ws y s) e)
+            ∙ ap (least (cellAt ws u x)) (join-off (cellAt ws s x))
+            ∙ least-off (cellAt ws u x) in
             let here : cellAt us u x ≡ cellAt ws u x = ap cellOf (g .rest (place u x) (omega arith)) in
             subst₂ (λ c d. JudgedCell p u x c d) (sym cell) (sym here) (judged-again p u x (cellAt ws u x) (kept u x (omega arith) (omega arith))))
             (less-or-same u y (omega arith));
@@ -140,12 +139,12 @@ module _ (p : Plan) (early late : List ℤ) (s : ℕ) (ws : List ℤ)
   row-by y us h g true e = record { fails = λ f. absurd (let z : _≡_ {A = ℕ} 0 1 = cc in omega arith); keeps = λ f. row-none y us h e g }
   row-by y us h g false e =
       let o = eachNode-outcome (joinedAt early late s y (weightAt ws y s)) s (λ z us. Stage (place y z) us) (Contradicted p s made)
-                  (λ z us l g. cell-stage y h e z us l g)
-                  0
-                  s
-                  (omega arith)
-                  us
-                  g in
+      (λ z us l g. cell-stage y h e z us l g)
+      0
+      s
+      (omega arith)
+      us
+      g in
       record { fails = o .fails; keeps = λ f. row-end y (o .keeps f) }
 
   row-stage : (y : ℕ) (us : List ℤ) → y < s → Stage (place y 0) us → Outcome (Stage (place (y + 1) 0)) (Contradicted p s made) (joinedRow early late s y us)
@@ -176,12 +175,12 @@ pub withoutStart-is : (p : Plan) (early late : List ℤ) (k : ℕ) (ws : List �
     → ((y z : ℕ) → y < suc (startNode k) → z < suc (startNode k) → KeptCell p y z (cellAt ws y z))
     → ((y z : ℕ) → y < suc (startNode k) → z < suc (startNode k) → Weighed (weightAt ws y z))
     → let r = joinedRows early late (startNode k) ws in
-      cond (r .found) contradiction (bounds (rowsOf (startNode k) (r .weights))) ≡ withoutStart p k (rowsOf (suc (startNode k)) ws)
+    cond (r .found) contradiction (bounds (rowsOf (startNode k) (r .weights))) ≡ withoutStart p k (rowsOf (suc (startNode k)) ws)
 unfolding startCell
 withoutStart-is p early late k ws times node size kept weighed =
     let s = startNode k in
     joinedRows-is p early late s ws times node size kept weighed
     ∙ judgedSet-ext p s _ _
-        (λ y z a b.
-        let same : (y z : ℕ) → y < suc s → z < suc s → at (rowsOf (suc s) ws) y z ≡ cellAt ws y z = at-build (suc s) (cellAt ws) in
-        sym (ap₂ least (same y z (omega arith) (omega arith)) (ap₂ join (same y s (omega arith) (omega arith)) (same s z (omega arith) (omega arith)))))
+    (λ y z a b.
+    let same : (y z : ℕ) → y < suc s → z < suc s → at (rowsOf (suc s) ws) y z ≡ cellAt ws y z = at-build (suc s) (cellAt ws) in
+    sym (ap₂ least (same y z (omega arith) (omega arith)) (ap₂ join (same y s (omega arith) (omega arith)) (same s z (omega arith) (omega arith)))))

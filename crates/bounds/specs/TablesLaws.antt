@@ -36,7 +36,7 @@ use Rattle.bounds.specs.Tables.{
   judgedRows,
   judgedSet,
 }
-use Rattle.bounds.specs.BuildLaws.{at-build}
+use Rattle.bounds.specs.BuildLaws.{at-build, anyBelow-none}
 
 -- ---- cells
 
@@ -140,7 +140,7 @@ module _ (p : Plan) (k : ℕ) (f : ℕ → ℕ → Cell) where
   unfolding judgedSet contradicts
   judgedSet-none c =
       let bad : isContradiction (judgement p (c .y) (c .z) (at (build k f) (c .y) (c .z))) ≡ true
-              = ap (λ d. isContradiction (judgement p (c .y) (c .z) d)) (at-build k f (c .y) (c .z) (c .y-node) (c .z-node)) ∙ c .found in
+      = ap (λ d. isContradiction (judgement p (c .y) (c .z) d)) (at-build k f (c .y) (c .z) (c .y-node) (c .z-node)) ∙ c .found in
       ap (λ b. cond b contradiction (bounds (keptRows p k (build k f))))
       (anyBelow-one k _ (c .y) (c .y-node) (anyBelow-one k _ (c .z) (c .z-node) bad))
 
@@ -157,3 +157,22 @@ module _ (p : Plan) (k : ℕ) (f : ℕ → ℕ → Cell) where
 pub judgedSet-ext : (p : Plan) (k : ℕ) (f g : ℕ → ℕ → Cell) → ((y z : ℕ) → y < k → z < k → f y z ≡ g y z) → judgedSet p k f ≡ judgedSet p k g
 unfolding judgedSet
 judgedSet-ext p k f g h = ap (judgedRows p k) (build-ext k f g h)
+
+set-back : (b : Bool) (t u : Rows) → cond b contradiction (bounds t) ≡ bounds u → (b ≡ false) × (t ≡ u)
+set-back true t u h = absurd (let z : _≡_ {A = ℕ} 0 1 = cc in omega arith)
+set-back false t u h = (refl, cc)
+
+-- what stands in a judged set
+pub judgedSet-back : (p : Plan) (k : ℕ) (f : ℕ → ℕ → Cell) (u : Rows) → judgedSet p k f ≡ bounds u → (y z : ℕ) → y < k → z < k
+    → JudgedCell p y z (f y z) (at u y z)
+unfolding judgedSet contradicts keptRows
+judgedSet-back p k f u h y z a b =
+    let both = set-back _ _ u h in
+    let same = at-build k f y z a b in
+    record {
+      sound = rw same at (anyBelow-none k _ (anyBelow-none k _ (both .0) y a) z b);
+      left =
+          ap (λ t. at t y z) (sym (both .1))
+          ∙ at-build k _ y z a b
+          ∙ ap (λ c. keptCell (judgement p y z c) c) same;
+    }

@@ -3,7 +3,7 @@
 use super::Table;
 use super::put::put;
 ghost use mathlib.Core.Path.{_≡_};
-ghost use Rattle.bounds.specs.Flat.{JoinsCells, JoinsRow, JoinsRows, flat, joinedCells, joinedRow, joinedRows};
+ghost use Rattle.bounds.specs.Flat.{JoinsCells, JoinsRow, JoinsRows, MovesAt, MovesRows, flat, joinedCells, joinedRow, joinedRows, movedAt, movedRows};
 
 // The bounds through the start s in row y, where s - y <= w. Answers whether one is a contradiction.
 fn join_cells<'a>(
@@ -59,6 +59,53 @@ fn join_rows<'a>(
     let mut y = 0;
     while y < s {
         if join_row(weights, early, late, s, y) {
+            return true;
+        }
+        y += 1;
+    }
+    false
+}
+
+// The bounds of the finish f with node y, moved to its start s: f - y <= w by `less` and y - f <= w by `more`. Answers whether one is a
+// contradiction.
+fn move_node<'a>(
+    weights: &mut [i32; Table::SIZE],
+    early: &'a [i32; Table::SIDE],
+    late: &'a [i32; Table::SIDE],
+    s: usize,
+    f: usize,
+    less: i32,
+    more: i32,
+    y: usize,
+) -> bool
+    requires { ⌜ MovesAt (now early) (now late) s f less more y (now weights) ⌝ }
+    ensures { λ r. ⌜ flat r (now (weights .exit)) ≡ movedAt (now (early .entry)) (now (late .entry)) s f less more y (now (weights .entry)) ⌝ }
+{
+    let ahead = weights[y * Table::SIDE + f];
+    if put(weights, early, late, y, s, ahead, less) {
+        return true;
+    }
+    let back = weights[f * Table::SIDE + y];
+    put(weights, early, late, s, y, back, more)
+}
+
+// 'Eliminating a finish f of a job with start s: f - y <= w becomes s - y <= w - max; z - f <= w becomes z - s <= w + min.' Here `less` is
+// -max and `more` is min. Answers whether one is a contradiction.
+fn move_nodes<'a>(
+    weights: &mut [i32; Table::SIZE],
+    early: &'a [i32; Table::SIDE],
+    late: &'a [i32; Table::SIDE],
+    s: usize,
+    f: usize,
+    less: i32,
+    more: i32,
+) -> bool
+    requires { ⌜ MovesRows (now early) (now late) s f less more (now weights) ⌝ }
+    ensures { λ r. ⌜ flat r (now (weights .exit)) ≡ movedRows (now (early .entry)) (now (late .entry)) s f less more (now (weights .entry)) ⌝ }
+{
+    let mut y = 0;
+    while y < f {
+        if move_node(weights, early, late, s, f, less, more, y) {
             return true;
         }
         y += 1;

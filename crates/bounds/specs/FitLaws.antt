@@ -1,0 +1,231 @@
+-- Tables that are fit: their weights lie in range, and the elimination of an event leaves a fit table. A judged set is fit where its bounds with the
+-- origin were there before it was judged.
+use Prim.Native.Nat.{ℕ, zero, suc, _+_, _*_, _-_, _≤_, _<_}
+use mathlib.Core.Path.{_≡_, refl, sym, ap, ap₂, subst, subst₂, _∙_}
+use mathlib.Core.Bool.{Bool, true, false, cond}
+use mathlib.Core.List.{List}
+use native.Mathlib.Omega.{arith}
+use lib.Dec.{eqb}
+use lib.IntN.{ℤ, pos, negℤ, _+ℤ_, _-ℤ_}
+use lib.Signed.{_≤ℤ_, ltZ, leZ}
+use lib.ListN.{getD}
+use borrow.Author.Tests.{ltb-true, ltb-false}
+use Rattle.whole.specs.Split.{eqZ}
+use Rattle.whole.specs.SplitLaws.{split-neg, split-add, split-sub}
+use Rattle.whole.specs.Rules.{whole, wholes}
+use Rattle.plan.specs.declared.Plan.{Plan}
+use Rattle.plan.specs.declared.Job.{Job}
+use Rattle.plan.specs.PlanRead.{noJob}
+use Rattle.plan.specs.Accepted.{JobAccepted, Accepted}
+use Rattle.bounds.specs.declared.Judgement.{Judgement}
+use Rattle.bounds.specs.declared.Judgement.the-variants.{Contradiction, LeftOut, Kept}
+use Rattle.bounds.specs.declared.Event.{Event}
+use Rattle.bounds.specs.declared.Event.the-variants.{Origin, Start, Finish}
+use Rattle.bounds.specs.Events.{isThis, jobAt, shift, earliest, latest, eventOf, startNode, finishNode, nodes}
+use Rattle.bounds.specs.Judgements.{judged, atLeast, fromOrigin, apart}
+use Rattle.bounds.specs.Tables.{Cell, off, upto, least, Rows, at, build, judgement, isContradiction, keptCell, Set, contradiction, bounds, contradicts, keptRows, judgedSet}
+use Rattle.bounds.specs.Elimination.{startCell, withoutStart, finishCell, withoutFinish}
+use Rattle.bounds.specs.BuildLaws.{at-build, anyBelow-none, byNode, eventOf-start, eventOf-finish}
+use Rattle.bounds.specs.TablesLaws.{JudgedCell, KeptCell, judged-kept, judgedSet-back}
+use Rattle.bounds.specs.Flat.{noBound, weightAt, cellOf, cellAt, rowsOf, Weighed}
+use Rattle.bounds.specs.PutLaws.{cellOf-on}
+use Rattle.bounds.specs.JudgementsLaws.{judged-least, judged-most, judged-origin, judged-from-origin, judged-to-origin}
+use Rattle.bounds.specs.Fit.{AtMost, Fit}
+
+-- ---- the times of an accepted plan
+
+-- a time that no window of an accepted plan is past
+pub record EarlyIn (t : ℤ) : Type 0 where
+  pub least : pos 0 ≤ℤ t
+  pub greatest : t ≤ℤ pos 345600000
+
+pub record LateIn (t : ℤ) : Type 0 where
+  pub least : negℤ (pos 86400000) ≤ℤ t
+  pub greatest : t ≤ℤ pos 259200000
+
+job-at : (p : Plan) → Accepted p → (k : ℕ) → k < p .jobs + p .jobs → (b : Bool) → isThis p k ≡ b
+    → JobAccepted (getD (p .job) (cond b k (k - p .jobs)) noJob)
+job-at p a k h true e = a .job-at k (ltb-true k (p .jobs) e)
+job-at p a k h false e = a .job-at (k - p .jobs) (let low : p .jobs ≤ k = ltb-false k (p .jobs) e in omega arith)
+
+pub jobAt-accepted : (p : Plan) → Accepted p → (k : ℕ) → k < p .jobs + p .jobs → JobAccepted (jobAt p k)
+unfolding jobAt
+jobAt-accepted p a k h = job-at p a k h (isThis p k) refl
+
+record ShiftIn (h : ℤ) : Type 0 where
+  least : pos 0 ≤ℤ h
+  greatest : h ≤ℤ pos 86400000
+
+shift-in : (p : Plan) → Accepted p → (k : ℕ) → ShiftIn (shift p k)
+unfolding shift
+shift-in p a k = by (isThis p k)
+  where
+    by : (b : Bool) → ShiftIn (cond b (pos 0) (p .window))
+    by true = record { least = omega wholes; greatest = omega wholes }
+    by false = let l = a .window-least in let m = a .window-most in record { least = omega wholes; greatest = omega wholes }
+
+start-early : (r h : ℤ) → pos 0 ≤ℤ r → r ≤ℤ pos 172800000 → ShiftIn h → EarlyIn (r +ℤ h)
+start-early r h a b c = record { least = omega wholes; greatest = omega wholes }
+
+finish-early : (r m h : ℤ) → pos 0 ≤ℤ r → r ≤ℤ pos 172800000 → pos 0 ≤ℤ m → m ≤ℤ pos 86400000 → ShiftIn h → EarlyIn ((r +ℤ m) +ℤ h)
+finish-early r m h a b c d e = record { least = omega wholes; greatest = omega wholes }
+
+start-late : (d m h : ℤ) → pos 0 ≤ℤ d → d ≤ℤ pos 172800000 → pos 0 ≤ℤ m → m ≤ℤ pos 86400000 → ShiftIn h → LateIn ((d -ℤ m) +ℤ h)
+start-late d m h a b c e g = record { least = omega wholes; greatest = omega wholes }
+
+finish-late : (d h : ℤ) → pos 0 ≤ℤ d → d ≤ℤ pos 172800000 → ShiftIn h → LateIn (d +ℤ h)
+finish-late d h a b c = record { least = omega wholes; greatest = omega wholes }
+
+max-least : (j : Job) → JobAccepted j → pos 0 ≤ℤ j .max
+max-least j a = let l = a .min-least in let m = a .min-most in omega wholes
+
+min-most : (j : Job) → JobAccepted j → j .min ≤ℤ pos 86400000
+min-most j a = let l = a .max-most in let m = a .min-most in omega wholes
+
+module _ (p : Plan) (a : Accepted p) where
+  start-earliest : (k : ℕ) → k < p .jobs + p .jobs → EarlyIn (earliest p (Start k))
+  unfolding earliest
+  start-earliest k h = let j = jobAt-accepted p a k h in start-early _ _ (j .release-least) (j .release-most) (shift-in p a k)
+
+  finish-earliest : (k : ℕ) → k < p .jobs + p .jobs → EarlyIn (earliest p (Finish k))
+  unfolding earliest
+  finish-earliest k h =
+      let j = jobAt-accepted p a k h in
+      finish-early _ _ _ (j .release-least) (j .release-most) (j .min-least) (min-most (jobAt p k) j) (shift-in p a k)
+
+  start-latest : (k : ℕ) → k < p .jobs + p .jobs → LateIn (latest p (Start k))
+  unfolding latest
+  start-latest k h =
+      let j = jobAt-accepted p a k h in
+      start-late _ _ _ (j .deadline-least) (j .deadline-most) (max-least (jobAt p k) j) (j .max-most) (shift-in p a k)
+
+  finish-latest : (k : ℕ) → k < p .jobs + p .jobs → LateIn (latest p (Finish k))
+  unfolding latest
+  finish-latest k h = let j = jobAt-accepted p a k h in finish-late _ _ (j .deadline-least) (j .deadline-most) (shift-in p a k)
+
+  pub earliest-in : (y : ℕ) → y < nodes (p .jobs + p .jobs) → EarlyIn (earliest p (eventOf y))
+  unfolding eventOf earliest
+  earliest-in =
+      byNode (λ y. y < nodes (p .jobs + p .jobs) → EarlyIn (earliest p (eventOf y))) (λ h. record { least = omega wholes; greatest = omega wholes })
+      (λ k h. subst (λ e. EarlyIn (earliest p e)) (sym (eventOf-start k)) (start-earliest k (omega arith)))
+      (λ k h. subst (λ e. EarlyIn (earliest p e)) (sym (eventOf-finish k)) (finish-earliest k (omega arith)))
+
+  pub latest-in : (y : ℕ) → y < nodes (p .jobs + p .jobs) → LateIn (latest p (eventOf y))
+  unfolding eventOf latest
+  latest-in =
+      byNode (λ y. y < nodes (p .jobs + p .jobs) → LateIn (latest p (eventOf y))) (λ h. record { least = omega wholes; greatest = omega wholes })
+      (λ k h. subst (λ e. LateIn (latest p e)) (sym (eventOf-start k)) (start-latest k (omega arith)))
+      (λ k h. subst (λ e. LateIn (latest p e)) (sym (eventOf-finish k)) (finish-latest k (omega arith)))
+
+-- ---- the weights of a fit table
+
+not-origin : (y : ℕ) → 0 < y → eventOf y ≡ Origin → ⊥
+not-origin =
+    byNode (λ y. 0 < y → eventOf y ≡ Origin → ⊥) (λ h. absurd (omega arith))
+    (λ k h e. let g = eventOf-start k in let z : _≡_ {A = ℕ} 0 1 = cc in omega arith)
+    (λ k h e. let g = eventOf-finish k in let z : _≡_ {A = ℕ} 0 1 = cc in omega arith)
+
+origin-node : eventOf 0 ≡ Origin
+unfolding eventOf
+origin-node = refl
+
+-- at most latest(z) - earliest(y), which is latest(z) from the origin and -earliest(y) to it
+held-most : {c : Cell} {w a : ℤ} → c ≡ upto w → AtMost c a → w ≤ℤ a
+held-most {c} {w} {a} e m = let h = m .held in let same : w ≡ m .weight = cc in subst (λ w. w ≤ℤ a) (sym same) (m .most)
+
+module _ (p : Plan) (a : Accepted p) (k : ℕ) (t : Rows) (size : k ≤ nodes (p .jobs + p .jobs)) (fit : Fit p k t) where
+  least-weight : (y z : ℕ) (w : ℤ) → y < k → z < k → at t y z ≡ upto w → negℤ (pos 259200000) ≤ℤ w
+  least-weight y z w h l e =
+      let low = judged-least p (eventOf y) (eventOf z) w (fit .kept y z w h l e) in
+      let early = earliest-in p a z (omega arith) .least in
+      let late = latest-in p a y (omega arith) .greatest in
+      omega wholes
+
+  most-weight : (y z : ℕ) (w : ℤ) → y < k → z < k → at t y z ≡ upto w → w ≤ℤ pos 259200000
+  most-weight zero zero w h l e =
+      absurd (judged-origin p w (subst₂ (λ a b. judged p a b w ≡ Kept) origin-node origin-node (fit .kept 0 0 w h l e)))
+  most-weight zero (suc z) w h l e =
+      let top = held-most e (fit .above (suc z) (omega arith) l) in
+      let late = latest-in p a (suc z) (omega arith) .greatest in
+      omega wholes
+  most-weight (suc y) zero w h l e =
+      let top = held-most e (fit .below (suc y) (omega arith) h) in
+      let early = earliest-in p a (suc y) (omega arith) .least in
+      omega (wholes, split-neg (earliest p (eventOf (suc y))))
+  most-weight (suc y) (suc z) w h l e =
+      let top = judged-most p (eventOf (suc y)) (eventOf (suc z)) w (not-origin (suc y) (omega arith)) (not-origin (suc z) (omega arith))
+      (fit .kept (suc y) (suc z) w h l e) in
+      let early = earliest-in p a (suc y) (omega arith) .least in
+      let late = latest-in p a (suc z) (omega arith) .greatest in
+      omega wholes
+
+module _ (p : Plan) (k : ℕ) (ws : List ℤ) (fit : Fit p k (rowsOf k ws)) where
+  held : (y z : ℕ) → y < k → z < k → (w : ℤ) → cellAt ws y z ≡ upto w → at (rowsOf k ws) y z ≡ upto w
+  held y z h l w e = at-build k (cellAt ws) y z h l ∙ e
+
+  pub fit-kept : (y z : ℕ) → y < k → z < k → KeptCell p y z (cellAt ws y z)
+  fit-kept y z h l = record { kept = λ w e. fit .kept y z w h l (held y z h l w e) }
+
+  pub fit-weighed : Accepted p → k ≤ nodes (p .jobs + p .jobs) → (y z : ℕ) → y < k → z < k → Weighed (weightAt ws y z)
+  fit-weighed a size y z h l =
+      record {
+        least = λ e. least-weight p a k (rowsOf k ws) size fit y z (weightAt ws y z) h l (held y z h l (weightAt ws y z) (cellOf-on (weightAt ws y z) e));
+        greatest = λ e. most-weight p a k (rowsOf k ws) size fit y z (weightAt ws y z) h l (held y z h l (weightAt ws y z) (cellOf-on (weightAt ws y z) e));
+      }
+
+-- ---- a judged set is fit
+
+-- a bound of the lesser of two cells is at most one of the first
+lesser : (w v a : ℤ) (b : Bool) → leZ w v ≡ b → w ≤ℤ a → AtMost (cond b (upto w) (upto v)) a
+lesser w v a true e h = record { weight = w; held = refl; most = h }
+lesser w v a false e h = record { weight = v; held = refl; most = omega whole }
+
+upto-least : (w a : ℤ) (d : Cell) → w ≤ℤ a → AtMost (least (upto w) d) a
+unfolding least
+upto-least w a off h = record { weight = w; held = refl; most = h }
+upto-least w a (upto v) h = lesser w v a (leZ w v) refl h
+
+pub least-most : {c : Cell} (d : Cell) {a : ℤ} → AtMost c a → AtMost (least c d) a
+least-most d {a} m = subst (λ c. AtMost (least c d) a) (sym (m .held)) (upto-least (m .weight) a d (m .most))
+
+-- what is left of a bound with the origin is that bound
+kept-most : (j : Judgement) (c : Cell) (a : ℤ) → j ≡ Kept → AtMost c a → AtMost (keptCell j c) a
+kept-most j c a e m = subst (λ j. AtMost (keptCell j c) a) (sym e) m
+
+left-most : (p : Plan) (y z : ℕ) (c d : Cell) (a : ℤ) → ((w : ℤ) → isContradiction (judged p (eventOf y) (eventOf z) w) ≡ false → judged p (eventOf y) (eventOf z) w ≡ Kept)
+    → JudgedCell p y z c d → AtMost c a → AtMost d a
+unfolding judgement
+left-most p y z c d a never j m =
+    let w = m .weight in
+    let e : judgement p y z c ≡ judged p (eventOf y) (eventOf z) w = ap (judgement p y z) (m .held) in
+    subst (λ d. AtMost d a) (sym (j .left)) (kept-most (judgement p y z c) c a (e ∙ never w (ap isContradiction (sym e) ∙ j .sound)) m)
+
+from-origin : (p : Plan) (y : ℕ) → 0 < y → (w : ℤ) → isContradiction (judged p (eventOf 0) (eventOf y) w) ≡ false → judged p (eventOf 0) (eventOf y) w ≡ Kept
+unfolding eventOf
+from-origin p y h w e = judged-from-origin p (eventOf y) w (not-origin y h) e
+
+to-origin : (p : Plan) (y : ℕ) → 0 < y → (w : ℤ) → isContradiction (judged p (eventOf y) (eventOf 0) w) ≡ false → judged p (eventOf y) (eventOf 0) w ≡ Kept
+unfolding eventOf
+to-origin p y h w e = judged-to-origin p (eventOf y) w (not-origin y h) e
+
+pub fit-judged : (p : Plan) (k : ℕ) (f : ℕ → ℕ → Cell) (u : Rows)
+    → ((y : ℕ) → 0 < y → y < k → AtMost (f 0 y) (latest p (eventOf y)))
+    → ((y : ℕ) → 0 < y → y < k → AtMost (f y 0) (negℤ (earliest p (eventOf y))))
+    → judgedSet p k f ≡ bounds u → Fit p k u
+fit-judged p k f u above below e =
+    let back : (y z : ℕ) → y < k → z < k → JudgedCell p y z (f y z) (at u y z) = judgedSet-back p k f u e in
+    record {
+      kept = λ y z w h l q. judged-kept p y z (back y z h l) .kept w q;
+      above = λ y h l. left-most p 0 y _ _ _ (from-origin p y h) (back 0 y (omega arith) l) (above y h l);
+      below = λ y h l. left-most p y 0 _ _ _ (to-origin p y h) (back y 0 l (omega arith)) (below y h l);
+    }
+
+pub withoutStart-fit : (p : Plan) (k : ℕ) (t u : Rows) → Fit p (suc (startNode k)) t → withoutStart p k t ≡ bounds u → Fit p (startNode k) u
+unfolding startCell
+withoutStart-fit p k t u fit e =
+    fit-judged p (startNode k) (startCell k t) u (λ y h l. least-most _ (fit .above y h (omega arith))) (λ y h l. least-most _ (fit .below y h (omega arith))) e
+
+pub withoutFinish-fit : (p : Plan) (k : ℕ) (t u : Rows) → Fit p (suc (finishNode k)) t → withoutFinish p k t ≡ bounds u → Fit p (finishNode k) u
+unfolding finishCell
+withoutFinish-fit p k t u fit e =
+    fit-judged p (finishNode k) (finishCell p k t) u (λ y h l. least-most _ (fit .above y h (omega arith))) (λ y h l. least-most _ (fit .below y h (omega arith))) e

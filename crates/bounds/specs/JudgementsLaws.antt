@@ -1,0 +1,107 @@
+-- What a judgement tells of a weight. A bound that is kept is at least earliest(z) - latest(y), and, where neither event is the origin, at most
+-- latest(z) - earliest(y). A bound with the origin is kept unless it is a contradiction. A bound of an event with itself, or of a job's start with
+-- its finish, is never kept.
+use Prim.Native.Nat.{ℕ}
+use mathlib.Core.Path.{_≡_, refl, sym, ap}
+use mathlib.Core.Bool.{Bool, true, false, cond}
+use native.Mathlib.Omega.{arith}
+use lib.Dec.{eqb}
+use lib.IntN.{ℤ, pos, negℤ, _-ℤ_}
+use lib.Signed.{_≤ℤ_, ltZ, leZ}
+use borrow.Author.Tests.{eq-eqb}
+use Rattle.whole.specs.Rules.{whole}
+use Rattle.plan.specs.declared.Plan.{Plan}
+use Rattle.bounds.specs.declared.Event.{Event}
+use Rattle.bounds.specs.declared.Event.the-variants.{Origin, Start, Finish}
+use Rattle.bounds.specs.declared.Judgement.{Judgement}
+use Rattle.bounds.specs.declared.Judgement.the-variants.{Contradiction, LeftOut, Kept}
+use Rattle.bounds.specs.Events.{jobAt, earliest, latest}
+use Rattle.bounds.specs.Judgements.{judged, atLeast, fromOrigin, apart}
+use Rattle.bounds.specs.Tables.{isContradiction}
+
+clash : {A : Type 0} → _≡_ {A = ℕ} 0 1 → A
+clash z = absurd (omega arith)
+
+-- ---- by a test
+
+atLeast-kept : (limit w : ℤ) → atLeast limit w ≡ Kept → ⊥
+atLeast-kept limit w h = by (ltZ w limit) h
+  where
+    by : (b : Bool) → cond b Contradiction LeftOut ≡ Kept → ⊥
+    by true h = clash (cc)
+    by false h = clash (cc)
+
+fromOrigin-kept : (low w : ℤ) → fromOrigin low w ≡ Kept → low ≤ℤ w
+fromOrigin-kept low w h = by (ltZ w low) refl h
+  where
+    by : (b : Bool) → ltZ w low ≡ b → cond b Contradiction Kept ≡ Kept → low ≤ℤ w
+    by true e h = clash (cc)
+    by false e h = omega whole
+
+fromOrigin-sound : (low w : ℤ) → isContradiction (fromOrigin low w) ≡ false → fromOrigin low w ≡ Kept
+fromOrigin-sound low w h = by (ltZ w low) h
+  where
+    by : (b : Bool) → isContradiction (cond b Contradiction Kept) ≡ false → cond b Contradiction Kept ≡ Kept
+    by true h = clash (cc)
+    by false h = refl
+
+apart-kept : (low high w : ℤ) → apart low high w ≡ Kept → (low ≤ℤ w) × (w ≤ℤ high)
+apart-kept low high w h = by (ltZ w low) refl (leZ high w) refl h
+  where
+    by : (b : Bool) → ltZ w low ≡ b → (c : Bool) → leZ high w ≡ c → cond b Contradiction (cond c LeftOut Kept) ≡ Kept → (low ≤ℤ w) × (w ≤ℤ high)
+    by true e c q h = clash (cc)
+    by false e true q h = clash (cc)
+    by false e false q h = (omega whole, omega whole)
+
+-- one event, one job, or two of them
+or-apart : (b : Bool) (limit low high w : ℤ) → cond b (atLeast limit w) (apart low high w) ≡ Kept → (low ≤ℤ w) × (w ≤ℤ high)
+or-apart true limit low high w h = absurd (atLeast-kept limit w h)
+or-apart false limit low high w h = apart-kept low high w h
+
+-- ---- by what the events are
+
+pub judged-least : (p : Plan) (a b : Event) (w : ℤ) → judged p a b w ≡ Kept → (earliest p b -ℤ latest p a) ≤ℤ w
+unfolding judged
+judged-least p Origin Origin w h = absurd (atLeast-kept (pos 0) w h)
+judged-least p Origin (Start k) w h = fromOrigin-kept _ w h
+judged-least p Origin (Finish k) w h = fromOrigin-kept _ w h
+judged-least p (Start j) Origin w h = fromOrigin-kept _ w h
+judged-least p (Start j) (Start k) w h = or-apart (eqb j k) _ _ (latest p (Start k) -ℤ earliest p (Start j)) w h .0
+judged-least p (Start j) (Finish k) w h = or-apart (eqb j k) _ _ (latest p (Finish k) -ℤ earliest p (Start j)) w h .0
+judged-least p (Finish j) Origin w h = fromOrigin-kept _ w h
+judged-least p (Finish j) (Start k) w h = or-apart (eqb j k) _ _ (latest p (Start k) -ℤ earliest p (Finish j)) w h .0
+judged-least p (Finish j) (Finish k) w h = or-apart (eqb j k) _ _ (latest p (Finish k) -ℤ earliest p (Finish j)) w h .0
+
+pub judged-most : (p : Plan) (a b : Event) (w : ℤ) → (a ≡ Origin → ⊥) → (b ≡ Origin → ⊥) → judged p a b w ≡ Kept → w ≤ℤ (latest p b -ℤ earliest p a)
+unfolding judged
+judged-most p Origin b w m n h = absurd (m refl)
+judged-most p (Start j) Origin w m n h = absurd (n refl)
+judged-most p (Start j) (Start k) w m n h = or-apart (eqb j k) _ _ _ w h .1
+judged-most p (Start j) (Finish k) w m n h = or-apart (eqb j k) _ _ _ w h .1
+judged-most p (Finish j) Origin w m n h = absurd (n refl)
+judged-most p (Finish j) (Start k) w m n h = or-apart (eqb j k) _ _ _ w h .1
+judged-most p (Finish j) (Finish k) w m n h = or-apart (eqb j k) _ _ _ w h .1
+
+pub judged-origin : (p : Plan) (w : ℤ) → judged p Origin Origin w ≡ Kept → ⊥
+unfolding judged
+judged-origin p w h = atLeast-kept (pos 0) w h
+
+pub judged-from-origin : (p : Plan) (e : Event) (w : ℤ) → (e ≡ Origin → ⊥) → isContradiction (judged p Origin e w) ≡ false → judged p Origin e w ≡ Kept
+unfolding judged
+judged-from-origin p Origin w n h = absurd (n refl)
+judged-from-origin p (Start k) w n h = fromOrigin-sound _ w h
+judged-from-origin p (Finish k) w n h = fromOrigin-sound _ w h
+
+pub judged-to-origin : (p : Plan) (e : Event) (w : ℤ) → (e ≡ Origin → ⊥) → isContradiction (judged p e Origin w) ≡ false → judged p e Origin w ≡ Kept
+unfolding judged
+judged-to-origin p Origin w n h = absurd (n refl)
+judged-to-origin p (Start k) w n h = fromOrigin-sound _ w h
+judged-to-origin p (Finish k) w n h = fromOrigin-sound _ w h
+
+pub judged-running : (p : Plan) (k : ℕ) (w : ℤ) → judged p (Start k) (Finish k) w ≡ Kept → ⊥
+unfolding judged
+judged-running p k w h = atLeast-kept (jobAt p k .max) w (rw (eq-eqb k k refl) at h)
+
+pub judged-reverse : (p : Plan) (k : ℕ) (w : ℤ) → judged p (Finish k) (Start k) w ≡ Kept → ⊥
+unfolding judged
+judged-reverse p k w h = atLeast-kept (negℤ (jobAt p k .min)) w (rw (eq-eqb k k refl) at h)
