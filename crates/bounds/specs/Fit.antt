@@ -1,15 +1,19 @@
 -- The tables on which the code works: every bound in them was judged and is kept, and each event has its two bounds with the origin, which
 -- only fall. So every weight lies in range.
-use Prim.Native.Nat.{ℕ, _<_}
+use Prim.Native.Nat.{ℕ, _+_, _<_}
 use mathlib.Core.Path.{_≡_}
 use lib.IntN.{ℤ, negℤ}
 use lib.Signed.{_≤ℤ_}
+use mathlib.Core.List.{List}
 use Rattle.plan.specs.declared.Plan.{Plan}
+use Rattle.plan.specs.Accepted.{Accepted}
 use Rattle.bounds.specs.declared.Judgement.{Judgement}
 use Rattle.bounds.specs.declared.Judgement.the-variants.{Kept}
-use Rattle.bounds.specs.Events.{earliest, latest, eventOf}
+use Rattle.bounds.specs.Events.{earliest, latest, eventOf, nodes}
 use Rattle.bounds.specs.Judgements.{judged}
 use Rattle.bounds.specs.Tables.{Cell, off, upto, Rows, at}
+use Rattle.bounds.specs.Spans.{Times}
+use Rattle.bounds.specs.Flat.{AllTimed}
 
 -- a cell that holds a bound of at most w
 pub record AtMost (c : Cell) (w : ℤ) : Type 0 where
@@ -22,3 +26,9 @@ pub record Fit (p : Plan) (k : ℕ) (t : Rows) : Type 0 where
   pub kept : (y z : ℕ) (w : ℤ) → y < k → z < k → at t y z ≡ upto w → judged p (eventOf y) (eventOf z) w ≡ Kept
   pub above : (y : ℕ) → 0 < y → y < k → AtMost (at t 0 y) (latest p (eventOf y))
   pub below : (y : ℕ) → 0 < y → y < k → AtMost (at t y 0) (negℤ (earliest p (eventOf y)))
+
+-- two arrays that hold the times of an accepted plan, of both windows
+pub record Clocked (p : Plan) (early late : List ℤ) : Type 0 where
+  pub accepted : Accepted p
+  pub times : Times p (nodes (p .jobs + p .jobs)) early late
+  pub timed : AllTimed early late

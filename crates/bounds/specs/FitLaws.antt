@@ -76,11 +76,11 @@ start-late d m h a b c e g = record { least = omega wholes; greatest = omega who
 finish-late : (d h : ℤ) → pos 0 ≤ℤ d → d ≤ℤ pos 172800000 → ShiftIn h → LateIn (d +ℤ h)
 finish-late d h a b c = record { least = omega wholes; greatest = omega wholes }
 
-max-least : (j : Job) → JobAccepted j → pos 0 ≤ℤ j .max
-max-least j a = let l = a .min-least in let m = a .min-most in omega wholes
+pub running-least : (j : Job) → JobAccepted j → pos 0 ≤ℤ j .max
+running-least j a = let l = a .min-least in let m = a .min-most in omega wholes
 
-min-most : (j : Job) → JobAccepted j → j .min ≤ℤ pos 86400000
-min-most j a = let l = a .max-most in let m = a .min-most in omega wholes
+pub running-most : (j : Job) → JobAccepted j → j .min ≤ℤ pos 86400000
+running-most j a = let l = a .max-most in let m = a .min-most in omega wholes
 
 module _ (p : Plan) (a : Accepted p) where
   start-earliest : (k : ℕ) → k < p .jobs + p .jobs → EarlyIn (earliest p (Start k))
@@ -91,13 +91,13 @@ module _ (p : Plan) (a : Accepted p) where
   unfolding earliest
   finish-earliest k h =
       let j = jobAt-accepted p a k h in
-      finish-early _ _ _ (j .release-least) (j .release-most) (j .min-least) (min-most (jobAt p k) j) (shift-in p a k)
+      finish-early _ _ _ (j .release-least) (j .release-most) (j .min-least) (running-most (jobAt p k) j) (shift-in p a k)
 
   start-latest : (k : ℕ) → k < p .jobs + p .jobs → LateIn (latest p (Start k))
   unfolding latest
   start-latest k h =
       let j = jobAt-accepted p a k h in
-      start-late _ _ _ (j .deadline-least) (j .deadline-most) (max-least (jobAt p k) j) (j .max-most) (shift-in p a k)
+      start-late _ _ _ (j .deadline-least) (j .deadline-most) (running-least (jobAt p k) j) (j .max-most) (shift-in p a k)
 
   finish-latest : (k : ℕ) → k < p .jobs + p .jobs → LateIn (latest p (Finish k))
   unfolding latest

@@ -19,3 +19,4 @@ pub mod PutLaws
 pub mod StartLaws
 pub mod FinishLaws
 pub mod FitLaws
+pub mod ClockedLaws

@@ -8,6 +8,7 @@ use lib.Dec.{eqb}
 use lib.IntN.{ℤ, negℤ, _+ℤ_, _-ℤ_}
 use borrow.Author.Tests.{eqb-true}
 use Rattle.whole.specs.SplitLaws.{split-add, split-sub, split-neg}
+use Rattle.whole.specs.Order.{neg-sub}
 use Rattle.whole.specs.Rules.{wholes}
 use Rattle.plan.specs.declared.Plan.{Plan}
 use Rattle.bounds.specs.declared.Event.{Event}
@@ -44,6 +45,15 @@ latest-finish p k = late-is-max (jobAt p k .deadline) (jobAt p k .max) (shift p 
 pub earliest-start : (p : Plan) (k : ℕ) → earliest p (Start k) -ℤ earliest p (Finish k) ≡ negℤ (jobAt p k .min)
 unfolding earliest
 earliest-start p k = early-is-min (jobAt p k .release) (jobAt p k .min) (shift p k)
+
+pub latest-start : (p : Plan) (k : ℕ) → latest p (Start k) -ℤ latest p (Finish k) ≡ negℤ (jobAt p k .max)
+latest-start p k = sym (neg-sub (latest p (Finish k)) (latest p (Start k))) ∙ ap negℤ (latest-finish p k)
+
+pub earliest-finish : (p : Plan) (k : ℕ) → earliest p (Finish k) -ℤ earliest p (Start k) ≡ jobAt p k .min
+earliest-finish p k = sym (neg-sub (earliest p (Start k)) (earliest p (Finish k))) ∙ ap negℤ (earliest-start p k) ∙ neg-neg (jobAt p k .min)
+  where
+    neg-neg : (z : ℤ) → negℤ (negℤ z) ≡ z
+    neg-neg z = omega (wholes, split-neg (negℤ z), split-neg z)
 
 -- one job, or two
 same-job : (j k : ℕ) (b : Bool) → eqb j k ≡ b → (l m w : ℤ) (d : Judgement) → (j ≡ k → l ≡ m) → cond b (atLeast l w) d ≡ cond b (atLeast m w) d

@@ -47,7 +47,7 @@ fn join_row<'a>(
 }
 
 // 'Eliminating a start s: each s - y <= w and z - s <= v give z - y <= w + v.' Answers whether one is a contradiction.
-fn join_rows<'a>(
+pub fn join_rows<'a>(
     weights: &mut [i32; Table::SIZE],
     early: &'a [i32; Table::SIDE],
     late: &'a [i32; Table::SIDE],
@@ -91,7 +91,7 @@ fn move_node<'a>(
 
 // 'Eliminating a finish f of a job with start s: f - y <= w becomes s - y <= w - max; z - f <= w becomes z - s <= w + min.' Here `less` is
 // -max and `more` is min. Answers whether one is a contradiction.
-fn move_nodes<'a>(
+pub fn move_nodes<'a>(
     weights: &mut [i32; Table::SIZE],
     early: &'a [i32; Table::SIDE],
     late: &'a [i32; Table::SIDE],

@@ -4,6 +4,7 @@ mod eliminate;
 mod judge;
 mod nodes;
 mod put;
+mod tables;
 
 // The events of a bound z - y <= w. Jobs are counted by their place from the first job of this window on, so that the next window's
 // places follow this window's: with three jobs, place 4 is the next window's second job.
