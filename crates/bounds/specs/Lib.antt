@@ -20,3 +20,4 @@ pub mod StartLaws
 pub mod FinishLaws
 pub mod FitLaws
 pub mod ClockedLaws
+pub mod PlacesLaws

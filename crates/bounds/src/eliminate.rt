@@ -1,7 +1,7 @@
 // The elimination of one event, in place. The event is the last node of its table; only cells of the nodes before it are written, and what is
 // read of the event itself is not.
 use super::Table;
-use super::put::put;
+use super::cells::put;
 ghost use mathlib.Core.Path.{_≡_};
 ghost use Rattle.bounds.specs.Flat.{JoinsCells, JoinsRow, JoinsRows, MovesAt, MovesRows, flat, joinedCells, joinedRow, joinedRows, movedAt, movedRows};
 

@@ -1,10 +1,12 @@
 // Bounds between events, their judgement, and the elimination of one event from a set of them.
 
+mod cells;
 mod eliminate;
-mod judge;
+mod judging;
 mod nodes;
-mod put;
 mod tables;
+
+pub use cells::put;
 
 // The events of a bound z - y <= w. Jobs are counted by their place from the first job of this window on, so that the next window's
 // places follow this window's: with three jobs, place 4 is the next window's second job.

@@ -8,7 +8,7 @@ ghost use mathlib.Core.Path.{_≡_};
 ghost use Prim.Native.Nat.{ℕ, suc, _+_, _≤_};
 ghost use lib.ListN.{replicate};
 ghost use Rattle.bounds.specs.Events.{startNode, finishNode, nodes};
-ghost use Rattle.bounds.specs.Elimination.{withoutStart, withoutFinish};
+ghost use Rattle.bounds.specs.Elimination.{withoutStart, withoutFinish, withoutPlace, eliminated};
 ghost use Rattle.bounds.specs.Flat.{noBound, rowsOf, setOf};
 ghost use Rattle.bounds.specs.Fit.{Fit, Clocked};
 
@@ -67,6 +67,53 @@ impl Table {
         let table = Table { weights: weights };
         JudgedSet {
             contradiction: contradiction,
+            table: table,
+        }
+    }
+
+    // What remains of a table whose last place is k, without that place.
+    pub fn without_place<'a>(
+        self,
+        p: Plan,
+        early: &'a [i32; Table::SIDE],
+        late: &'a [i32; Table::SIDE],
+        k: usize,
+    ) -> JudgedSet
+        requires { ⌜ (Clocked p (now early) (now late)) × (k + 1 ≤ p .jobs + p .jobs) × (Fit p (nodes (k + 1)) (rowsOf (nodes (k + 1)) (self .weights))) ⌝ }
+        ensures { λ r. ⌜ setOf (nodes k) r ≡ withoutPlace p k (rowsOf (nodes (k + 1)) (self .weights)) ⌝ }
+    {
+        let finished = self.without_finish(p, early, late, k);
+        if finished.contradiction {
+            return finished;
+        }
+        let table = finished.table;
+        table.without_start(p, early, late, k)
+    }
+
+    // 'last job first, each finish before its start': what remains without the last count places, of those from place low on.
+    pub fn eliminated<'a>(
+        self,
+        p: Plan,
+        early: &'a [i32; Table::SIDE],
+        late: &'a [i32; Table::SIDE],
+        low: usize,
+        count: usize,
+    ) -> JudgedSet
+        requires { ⌜ (Clocked p (now early) (now late)) × (low + count ≤ p .jobs + p .jobs) × (Fit p (nodes (low + count)) (rowsOf (nodes (low + count)) (self .weights))) ⌝ }
+        ensures { λ r. ⌜ setOf (nodes low) r ≡ eliminated p low count (rowsOf (nodes (low + count)) (self .weights)) ⌝ }
+    {
+        let mut table = self;
+        let mut left = count;
+        while 0 < left {
+            left -= 1;
+            let remains = table.without_place(p, early, late, low + left);
+            if remains.contradiction {
+                return remains;
+            }
+            table = remains.table;
+        }
+        JudgedSet {
+            contradiction: false,
             table: table,
         }
     }

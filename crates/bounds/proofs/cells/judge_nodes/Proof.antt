@@ -1,4 +1,4 @@
--- `bounds::put::judge_nodes` meets its contract: the four differences fit, and `judge` answers by them.
+-- `bounds::cells::judge_nodes` meets its contract: the four differences fit, and `judge` answers by them.
 use mathlib.Core.Path.{_∙_, ap}
 use lib.IntN.{ℤ}
 use mir.Facts.{toZ-ofZ}
@@ -6,8 +6,8 @@ use Rattle.bounds.specs.Spans.{timeAt}
 use Rattle.bounds.specs.SpansLaws.{judgedAt-by}
 use Rattle.bounds.proofs.Gaps.{gap-fits, gap-back}
 use borrow.Author.Needs.{needs}
-use Rattle.bounds.proofs.put.judge_nodes.Statement.{statement}
-use Rattle.bounds.proofs.put.judge_nodes.Tie as tie
+use Rattle.bounds.proofs.cells.judge_nodes.Statement.{statement}
+use Rattle.bounds.proofs.cells.judge_nodes.Tie as tie
 
 mul-earliest-y : tie.Need-mul-earliest-y
 mul-earliest-y c = search needs

@@ -2,7 +2,7 @@
 use super::Event;
 use super::Judgement;
 use super::Table;
-use super::judge::judge;
+use super::judging::judge;
 ghost use mathlib.Core.Path.{_≡_};
 ghost use Rattle.bounds.specs.Spans.{Timed, judgedAt};
 ghost use Rattle.bounds.specs.Flat.{Putting, flat, putAt};

@@ -1,4 +1,4 @@
--- `bounds::put::put` meets its contract: it goes as `putAt` goes, by the laws of `FlatLaws`.
+-- `bounds::cells::put` meets its contract: it goes as `putAt` goes, by the laws of `FlatLaws`.
 use mathlib.Core.Path.{_∙_, sym, ap}
 use mathlib.Core.Bool.{false}
 use lib.ListN.{set}
@@ -10,8 +10,8 @@ use Rattle.bounds.specs.Flat.{weightAt, place, flat}
 use Rattle.bounds.specs.FlatLaws.{putAt-none, putAt-more, putAt-judged}
 use Rattle.bounds.proofs.Sums.{is-mark, no-mark, sum-fits, sum-back, sum-test}
 use borrow.Author.Needs.{needs}
-use Rattle.bounds.proofs.put.put.Statement.{statement}
-use Rattle.bounds.proofs.put.put.Tie as tie
+use Rattle.bounds.proofs.cells.put.Statement.{statement}
+use Rattle.bounds.proofs.cells.put.Tie as tie
 
 returns : tie.Need-returns
 returns c = let s = c .before in putAt-none (s .args .early .now) (s .args .late .now) (s .args .y) (s .args .z) (s .args .v) (s .args .a) (s .args .weights .now) (is-mark (s .fits .v) (c .if1 .taken))

@@ -1,7 +1,7 @@
--- `bounds::judge::from_origin` meets its contract: the test of the code is the test of `fromOrigin`.
+-- `bounds::judging::from_origin` meets its contract: the test of the code is the test of `fromOrigin`.
 use mir.Facts.{toZ-ofZ}
-use Rattle.bounds.proofs.judge.from_origin.Statement.{statement}
-use Rattle.bounds.proofs.judge.from_origin.Tie as tie
+use Rattle.bounds.proofs.judging.from_origin.Statement.{statement}
+use Rattle.bounds.proofs.judging.from_origin.Tie as tie
 
 returns : tie.Need-returns
 returns c = rw (simp (toZ-ofZ (c .before .fits .w), toZ-ofZ (c .before .fits .low)) at (c .if1 .taken))

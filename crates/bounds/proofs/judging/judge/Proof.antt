@@ -1,10 +1,10 @@
--- `bounds::judge::judge` meets its contract: each arm knows y and z, and answers by the clause of `judgedBy` for them.
+-- `bounds::judging::judge` meets its contract: each arm knows y and z, and answers by the clause of `judgedBy` for them.
 use borrow.Author.Needs.{needs}
 use borrow.Author.Tests.{eq-eqb, ne-eqb}
 use mir.Facts.{toZ-ofZ}
 use Rattle.bounds.specs.Spans.{judgedBy}
-use Rattle.bounds.proofs.judge.judge.Statement.{statement}
-use Rattle.bounds.proofs.judge.judge.Tie as tie
+use Rattle.bounds.proofs.judging.judge.Statement.{statement}
+use Rattle.bounds.proofs.judging.judge.Tie as tie
 
 enum-told : tie.Need-enum-told
 enum-told c = search needs

@@ -1,7 +1,7 @@
--- `bounds::judge::apart` meets its contract: the tests of the code are those of `apart`.
+-- `bounds::judging::apart` meets its contract: the tests of the code are those of `apart`.
 use mir.Facts.{toZ-ofZ}
-use Rattle.bounds.proofs.judge.apart.Statement.{statement}
-use Rattle.bounds.proofs.judge.apart.Tie as tie
+use Rattle.bounds.proofs.judging.apart.Statement.{statement}
+use Rattle.bounds.proofs.judging.apart.Tie as tie
 
 returns : tie.Need-returns
 returns c = rw (simp (toZ-ofZ (c .before .fits .w), toZ-ofZ (c .before .fits .low)) at (c .if1 .taken))

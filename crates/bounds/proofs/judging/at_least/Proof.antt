@@ -1,7 +1,7 @@
--- `bounds::judge::at_least` meets its contract: the test of the code is the test of `atLeast`.
+-- `bounds::judging::at_least` meets its contract: the test of the code is the test of `atLeast`.
 use mir.Facts.{toZ-ofZ}
-use Rattle.bounds.proofs.judge.at_least.Statement.{statement}
-use Rattle.bounds.proofs.judge.at_least.Tie as tie
+use Rattle.bounds.proofs.judging.at_least.Statement.{statement}
+use Rattle.bounds.proofs.judging.at_least.Tie as tie
 
 returns : tie.Need-returns
 returns c = rw (simp (toZ-ofZ (c .before .fits .w), toZ-ofZ (c .before .fits .limit)) at (c .if1 .taken))
