@@ -19,3 +19,4 @@ pub mod BoundLaws
 pub mod ReadingLaws
 pub mod PlanLaws
 pub mod ReadAtLaws
+pub mod JobsLoop

@@ -1,11 +1,12 @@
 -- The laws of lists that the plan's arrays need: what is told of each element (`All`) is told at each place (`All-at`), and of one more (`All-more`); an
--- array that a list fills has its size, the list's elements at the first places (`filled-at`), and its beginnings (`filled-take`, `filled-all`).
-use mathlib.Core.Path.{_≡_, _∙_}
+-- array that a list fills has its size, the list's elements at the first places (`filled-at`), and its beginnings (`filled-take`, `filled-all`). `Filling` is such an array while it is being filled.
+use mathlib.Core.Path.{_≡_, sym, _∙_, ap}
 use mathlib.Core.List.{List, [], _∷_, _++_}
-use Prim.Native.Nat.{ℕ, zero, suc, _-_, _≤_, _<_}
+use Prim.Native.Nat.{ℕ, zero, suc, _+_, _-_, _≤_, _<_}
+use native.Mathlib.Nat.{sub-zero}
 use native.Mathlib.Omega.{arith}
-use lib.ListN.{length, take, getD, replicate, length-append, length-replicate, List·getD-append}
-use lib.Seq.{take-append-le, take-all}
+use lib.ListN.{length, take, drop, set, getD, replicate, length-append, length-replicate, length-set, length-take, take-append-drop, List·getD-append}
+use lib.Seq.{take-append-le, take-all, drop-set-lt, drop-drop}
 use Rattle.plan.specs.PlanRead.{filled}
 
 -- what is told of each element
@@ -34,3 +35,33 @@ module _ {A : Type 0} (size : ℕ) (d : A) (xs : List A) (fits : length xs ≤ s
 
   pub filled-all : (n : ℕ) → length xs ≡ n → take n (filled size d xs) ≡ xs
   filled-all n e = filled-take n (omega arith) ∙ take-all n xs (omega arith)
+
+-- ---- an array that is being filled
+
+-- the first i places are set, and the others hold d
+pub record Filling {A : Type 0} (size : ℕ) (d : A) (xs : List A) (i : ℕ) : Type 0 where
+  pub places : length xs ≡ size
+  pub rest : drop i xs ≡ replicate (size - i) d
+
+pub Filling-start : {A : Type 0} (size : ℕ) (d : A) → Filling size d (replicate size d) 0
+Filling-start size d = record { places = length-replicate size d; rest = ap (λ (n : ℕ). replicate n d) (sym (sub-zero size)) }
+
+module _ {A : Type 0} (size : ℕ) (d : A) (xs : List A) (i : ℕ) (f : Filling size d xs i) where
+  pub Filling-more : i < size → (a : A) → Filling size d (set xs i a) (i + 1)
+  Filling-more h a =
+      record {
+        places = length-set xs i a ∙ f .places;
+        rest =
+            drop-set-lt (i + 1) xs i a (omega arith)
+            ∙ sym (drop-drop 1 i xs)
+            ∙ ap (drop 1) (f .rest ∙ ap (λ (n : ℕ). replicate n d) left);
+      }
+    where
+      left : size - i ≡ suc (size - (i + 1))
+      left = omega arith
+
+  pub Filling-end : i ≤ size → xs ≡ filled size d (take i xs)
+  Filling-end h = sym (take-append-drop i xs) ∙ ap (λ (r : List A). take i xs ++ r) (f .rest ∙ ap (λ (n : ℕ). replicate n d) left)
+    where
+      left : size - i ≡ size - length (take i xs)
+      left = omega (arith, length-take i xs, f .places)

@@ -1,5 +1,5 @@
 -- The answers of the code's line readers, as readings of the text that they stand in: a place in the text stands for the text from there on.
-use Prim.Native.Nat.{ℕ}
+use Prim.Native.Nat.{ℕ, _+_, _*_}
 use mathlib.Core.Path.{_≡_}
 use mathlib.Core.List.{List}
 use lib.IntN.{ℤ}
@@ -10,7 +10,12 @@ use Rattle.plan.specs.declared.NumberLine.the-variants as numberLine
 use Rattle.plan.specs.declared.Job.{Job}
 use Rattle.plan.specs.declared.JobLines.{JobLines}
 use Rattle.plan.specs.declared.JobLines.the-variants as jobLines
+use Rattle.plan.specs.declared.Went.{Went}
+use Rattle.plan.specs.declared.Went.the-variants as went
+use Rattle.plan.specs.declared.Jobs.{Jobs}
 use Rattle.plan.specs.declared.Refusal.the-variants.{Form}
+use Rattle.plan.specs.Limits.{mostJobs}
+use Rattle.plan.specs.PlanRead.{noJob, filled}
 use Rattle.plan.specs.Reading.{Reading, read, refused}
 
 abbrev pub faultyIn : {A : Type 0} → List ℕ → Faulty → Reading A
@@ -43,3 +48,29 @@ numberFault (numberLine.Bad f) = f
 abbrev pub jobFault : JobLines → Faulty
 jobFault (jobLines.Value j at) = noFault
 jobFault (jobLines.Bad f) = f
+
+-- what is told of a group that was read
+abbrev pub IfOn : Went → Type 0 → Type 0
+IfOn (went.On at) P = P
+IfOn (went.Bad f) P = Unit
+
+abbrev pub wentPlace : Went → ℕ
+wentPlace (went.On at) = at
+wentPlace (went.Bad f) = f .at
+
+-- a group of lines that was read, with its value and the number of the line after it
+abbrev pub wentTold : {A : Type 0} → List ℕ → A → ℕ → Went → Reading A
+wentTold s a n (went.On at) = read a (drop at s) n
+wentTold s a n (went.Bad f) = faultyIn s f
+
+abbrev pub jobsTold : List ℕ → ℕ → Jobs → Reading (List Job)
+jobsTold s jobs r = wentTold s (take jobs (r .job)) (5 + 4 * jobs) (r .went)
+
+-- the places past the jobs that were read hold zeros
+abbrev pub jobsFilled : ℕ → Jobs → Type 0
+jobsFilled jobs r = IfOn (r .went) (r .job ≡ filled mostJobs noJob (take jobs (r .job)))
+
+-- the fault of a group that has one
+abbrev pub wentFault : Went → Faulty
+wentFault (went.On at) = noFault
+wentFault (went.Bad f) = f

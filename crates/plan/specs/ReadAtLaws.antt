@@ -1,8 +1,8 @@
 -- The laws by which the code's line readers are right. A line at a place of the text has no LF, or lacks something, or has its value (`lineAt-bare`,
 -- `lineAt-fault`, `lineAt-value`); and a group of lines ends with the first refusal (`jobLines-first` to `jobLines-fourth`) or is read (`jobLines-all`).
-use mathlib.Core.Path.{_≡_, refl, sym, _∙_, ap}
+use mathlib.Core.Path.{_≡_, sym, _∙_, ap, subst}
 use mathlib.Core.List.{List}
-use Prim.Native.Nat.{ℕ, suc, _+_, _≤_, _<_}
+use Prim.Native.Nat.{ℕ, _+_, _≤_, _<_}
 use native.Mathlib.Nat.{add-assoc}
 use native.Mathlib.Numerals.{add-one}
 use native.Mathlib.Omega.{arith}
@@ -11,13 +11,20 @@ use lib.IntN.{ℤ, pos}
 use lib.ListN.{length, take, drop}
 use lib.Seq.{drop-drop}
 use Rattle.text.specs.Bytes.{bytes}
-use Rattle.text.specs.Lines.{LF, lenTo, before, after}
+use Rattle.text.specs.Lines.{LF, lenTo}
 use Rattle.text.specs.declared.Fault.{Fault}
 use Rattle.plan.specs.declared.Refusal.{Refusal}
 use Rattle.plan.specs.declared.Refusal.the-variants.{Form}
+use Rattle.plan.specs.declared.Faulty.{Faulty}
+use Rattle.plan.specs.declared.NumberLine.{NumberLine}
+use Rattle.plan.specs.declared.NumberLine.the-variants as numberLine
+use Rattle.plan.specs.declared.Job.{Job}
+use Rattle.plan.specs.declared.JobLines.{JobLines}
+use Rattle.plan.specs.declared.JobLines.the-variants as jobLines
+use Rattle.plan.specs.ReadAt.{jobTold, jobPlace, jobFault, faultyIn, numberTold, numberPlace, numberFault}
 use Rattle.plan.specs.Limits.{longestRunning, latestDeadline}
 use Rattle.plan.specs.Refusals.{faultAt}
-use Rattle.plan.specs.Reading.{Lined, value, bad, read, refused, next, lined, line, numberLine}
+use Rattle.plan.specs.Reading.{Lined, value, bad, Reading, read, refused, next, lined, line, numberLine}
 use Rattle.plan.specs.PlanRead.{jobLines}
 
 -- ---- a line at a place: t is the rest of the text, and i the length to its LF
@@ -38,6 +45,36 @@ module _ {A : Type 0} (f : List ℕ → Lined A) (s : List ℕ) (at n : ℕ) (t 
   pub lineAt-value : {a : A} → i < length t → f (take i t) ≡ value a → line f (drop at s) n ≡ read a (drop (at + i + 1) s) (n + 1)
   unfolding lined
   lineAt-value {a} h d = held (value a) h d ∙ rw (← rest, ← len) (rw (rest, drop-drop (i + 1) at s, add-assoc at i 1, add-one n))
+
+-- ---- an answer taken apart: m is the reading that it tells, of a text s
+
+module _ (s : List ℕ) (n : ℕ) {m : Reading ℤ} (r : NumberLine) (told : m ≡ numberTold s n r) where
+  pub number-value : {z : ℤ} {at : ℕ} → r ≡ numberLine.Value z at → m ≡ read z (drop at s) n
+  number-value e = told ∙ ap (numberTold s n) e
+
+  pub number-faulty : {f g : Faulty} → r ≡ numberLine.Bad f → g ≡ numberFault r → m ≡ faultyIn s g
+  number-faulty e d = told ∙ ap (numberTold s n) e ∙ ap (faultyIn s) (sym (d ∙ ap numberFault e))
+
+module _ (r : NumberLine) (k : ℕ) (fits : numberPlace r ≤ k) where
+  pub number-value-fits : {z : ℤ} {at : ℕ} → r ≡ numberLine.Value z at → at ≤ k
+  number-value-fits e = subst (λ x. numberPlace x ≤ k) e fits
+
+  pub number-faulty-fits : {f g : Faulty} → r ≡ numberLine.Bad f → g ≡ numberFault r → g .at ≤ k
+  number-faulty-fits e d = subst (λ x. x .at ≤ k) (sym (d ∙ ap numberFault e)) (subst (λ x. numberPlace x ≤ k) e fits)
+
+module _ (s : List ℕ) (n : ℕ) {m : Reading Job} (r : JobLines) (told : m ≡ jobTold s n r) where
+  pub job-value : {j : Job} {at : ℕ} → r ≡ jobLines.Value j at → m ≡ read j (drop at s) n
+  job-value e = told ∙ ap (jobTold s n) e
+
+  pub job-faulty : {f g : Faulty} → r ≡ jobLines.Bad f → g ≡ jobFault r → m ≡ faultyIn s g
+  job-faulty e d = told ∙ ap (jobTold s n) e ∙ ap (faultyIn s) (sym (d ∙ ap jobFault e))
+
+module _ (r : JobLines) (k : ℕ) (fits : jobPlace r ≤ k) where
+  pub job-value-fits : {j : Job} {at : ℕ} → r ≡ jobLines.Value j at → at ≤ k
+  job-value-fits e = subst (λ x. jobPlace x ≤ k) e fits
+
+  pub job-faulty-fits : {f g : Faulty} → r ≡ jobLines.Bad f → g ≡ jobFault r → g .at ≤ k
+  job-faulty-fits e d = subst (λ x. x .at ≤ k) (sym (d ∙ ap jobFault e)) (subst (λ x. jobPlace x ≤ k) e fits)
 
 -- ---- the lines of a job
 

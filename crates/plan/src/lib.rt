@@ -129,7 +129,21 @@ pub enum JobLines {
     Bad(Faulty),
 }
 
+// Where a group of lines ended: the place of the next line, or the first fault.
+pub enum Went {
+    On(usize),
+    Bad(Faulty),
+}
+
+// The jobs of a plan as they were read; on a fault what was read before it.
+pub struct Jobs {
+    pub job: [Job; MOST_JOBS],
+    pub went: Went,
+}
+
 mod bound_line;
+mod job_lines;
+mod jobs_lines;
 mod names;
 mod narrow;
 mod number_line;
