@@ -2,6 +2,7 @@
 -- reading order: histories, what it is that a history keeps the plan's bounds, and what a strategy is. These three are definitions alone.
 pub mod Histories
 pub mod Strategies
+pub mod Reaching
 -- ---- laws
 pub mod Keeping
 pub mod CellLaws
@@ -24,4 +25,5 @@ pub mod VerdictLaws
 pub mod StageLaws
 pub mod OfferLaws
 pub mod GameLaws
+pub mod RunLaws
 pub mod Theorems

@@ -1,0 +1,25 @@
+-- Runs that kept to their offers: those that come from the beginning by starts and finishes that were accepted, with the history of their finished jobs.
+-- A step that is refused, and an ask, leave the run as it is.
+use Prim.Native.Nat.{ℕ}
+use mathlib.Core.Path.{_≡_}
+use mathlib.Core.List.{[], _∷_, _++_}
+use Rattle.clock.specs.declared.RunTime.{RunTime}
+use Rattle.plan.specs.declared.Plan.{Plan}
+use Rattle.rounds.specs.declared.Calendar.{Calendar}
+use Rattle.runs.specs.declared.Phase.the-variants.{Running}
+use Rattle.runs.specs.declared.Run.{Run}
+use Rattle.runs.specs.declared.Choice.{Choice}
+use Rattle.runs.specs.declared.Step.the-variants.{Start, Finish}
+use Rattle.runs.specs.declared.Answer.the-variants.{Started, Final}
+use Rattle.runs.specs.Steps.{newRun, stepped}
+use Rattle.strategy.specs.Histories.{Ran, History}
+
+pub data Reached (p : Plan) (c : Calendar) : Run → History → Type 0 where
+  begun : Reached p c newRun []
+  -- `start=T` or `start=auto`, answered by `started=j,i,t`
+  started : {r : Run} {h : History} → Reached p c r h → (choice : Choice) (j i : ℕ) (t : RunTime)
+      → stepped p c r (Start choice) .answer ≡ Started j i t → Reached p c (stepped p c r (Start choice) .run) h
+  -- `finish=t`, answered by `final=j,i,t`, of a job that runs since s
+  finished : {r : Run} {h : History} → Reached p c r h → (j i : ℕ) (s t : RunTime) → r .phase ≡ Running j i s
+      → stepped p c r (Finish t) .answer ≡ Final j i t
+      → Reached p c (stepped p c r (Finish t) .run) (h ++ (record { start = s .0; finish = t .0 } ∷ []))
