@@ -278,13 +278,13 @@ module _ (p : Plan) (sound : Sound p) (m : ℕ) (c : Rows) (s : IsSettled p soun
       alone-tidy : Tidy p (nodes (suc i + st .rest)) c
       alone-tidy = subst (λ k. Tidy p (nodes k) c) (sym alone-size) (C-tidy p sound (s .before) c (s .set))
 
-      later-tidy : Tidy p (nodes (suc (p .jobs + i) + st .rest)) (f .both)
+      pub later-tidy : Tidy p (nodes (suc (p .jobs + i) + st .rest)) (f .both)
       later-tidy = subst (λ k. Tidy p (nodes k) (f .both)) (sym later-size) both-tidy
 
       alone-fits : suc i + st .rest ≤ p .jobs + p .jobs
       alone-fits = let a = alone-size in omega arith
 
-      later-fits : suc (p .jobs + i) + st .rest ≤ p .jobs + p .jobs
+      pub later-fits : suc (p .jobs + i) + st .rest ≤ p .jobs + p .jobs
       later-fits = let a = later-size in omega arith
 
       pub winning-allowed : (j : ℕ) → Well h j i (suc g) → (t : ℤ) → Winning h j g t → AllowedAt j i l h t

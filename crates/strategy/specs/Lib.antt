@@ -26,4 +26,5 @@ pub mod StageLaws
 pub mod OfferLaws
 pub mod GameLaws
 pub mod RunLaws
+pub mod ReachedLaws
 pub mod Theorems

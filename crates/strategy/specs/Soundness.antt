@@ -9,6 +9,7 @@ use Rattle.plan.specs.declared.Bound.{Bound}
 use Rattle.plan.specs.declared.EventName.{EventName}
 use Rattle.plan.specs.declared.Plan.{Plan}
 use Rattle.plan.specs.EventNames.{isNext}
+use Rattle.plan.specs.Limits.{mostJobs}
 use Rattle.plan.specs.PlanRead.{noJob}
 use Rattle.plan.specs.PlanWritten.{boundsOf}
 
@@ -25,5 +26,6 @@ pub record SoundBound (p : Plan) (d : Bound) : Type 0 where
 
 pub record Sound (p : Plan) : Type 0 where
   pub some-job : 0 < p .jobs
+  pub few-jobs : p .jobs ≤ mostJobs
   pub min-max : (i : ℕ) → i < p .jobs → getD (p .job) i noJob .min ≤ℤ getD (p .job) i noJob .max
   pub bounds : (d : Bound) → List·Memᴰ d (boundsOf p) → SoundBound p d

@@ -45,6 +45,12 @@ pub record Allowed (v : Rows) (k : ℕ) (X : ℕ → ℤ) (x : ℤ) : Type 0 whe
   pub row : (y : ℕ) → y < startNode k → Holds (at v (startNode k) y) (X y -ℤ x)
   pub column : (y : ℕ) → y < startNode k → Holds (at v y (startNode k)) (x -ℤ X y)
 
+-- the bounds of the start to and from the origin are there
+pub before-tidy : (p : Plan) → Sound p → (t : Rows) (k rest : ℕ) → suc k + rest ≤ p .jobs + p .jobs → Tidy p (nodes (suc k + rest)) t
+    → (stage : Stage p t k rest) → Tidy p (finishNode k) (stage .before)
+before-tidy p sound t k rest two tidy stage =
+    finish-tidy p k (stage .after) (elim-tidy p sound (suc k) rest t (stage .after) two tidy (stage .after-is)) (stage .before) (stage .before-is)
+
 module _ (p : Plan) (sound : Sound p) (t : Rows) (k rest : ℕ) (two : suc k + rest ≤ p .jobs + p .jobs) (tidy : Tidy p (nodes (suc k + rest)) t)
     (stage : Stage p t k rest) (u : History) (n : length u ≡ k) (old : Timely p u) where
   -- the rest of the game
@@ -143,7 +149,7 @@ module _ (p : Plan) where
       ap (λ x. thenTables x (λ u. thenTables (withoutStart p (p .jobs + count) u) (beforeStarts p count) ++ (u ∷ []))) e
       ∙ ap (λ x. thenTables x (beforeStarts p count) ++ (V₂ ∷ [])) f
 
-  length-tables : (count : ℕ) (B c : Rows) → eliminated p (p .jobs) count B ≡ bounds c → length (beforeStarts p count B) ≡ count
+  pub length-tables : (count : ℕ) (B c : Rows) → eliminated p (p .jobs) count B ≡ bounds c → length (beforeStarts p count B) ≡ count
   unfolding eliminated withoutPlace beforeStarts
   length-tables zero B c e = refl
   length-tables (suc count) B c e =

@@ -1,0 +1,436 @@
+-- Runs that kept to their offers. Such a run shows its history, and from it the game can still be won; so its offer is never empty, and t is on offer
+-- exactly if after a start at t strategies exist to the end of this window and of every later one.
+use Prim.Native.Nat.{ℕ, zero, suc, _+_, _*_, _-_, _%_, _≤_, _<_}
+use mathlib.Core.Path.{_≡_, refl, sym, ap, ap₂, subst, _∙_}
+use mathlib.Core.Logic.{_↔_, _⊎_, inl, inr, ⊎-elim}
+use mathlib.Core.Bool.{Bool, true, false, cond, _&&_}
+use mathlib.Core.List.{List, [], _∷_, _++_}
+use native.Mathlib.Nat.{mod-eq-of-lt}
+use native.Mathlib.Numerals.{add-one}
+use native.Mathlib.Omega.{arith}
+use lib.Dec.{ltb}
+use lib.IntN.{ℤ, pos, _+ℤ_, _-ℤ_, _*ℤ_}
+use lib.Signed.{_≤ℤ_, leZ, ltZ}
+use lib.ListN.{length, getD, set, length-set}
+use lib.Seq.{getD-set-same, getD-set-other}
+use borrow.Author.Tests.{lt-ltb, le-ltb}
+use Rattle.whole.specs.Rules.{wholes}
+use Rattle.text.specs.Numbers.{within}
+use Rattle.clock.specs.declared.RunTime.{RunTime}
+use Rattle.plan.specs.declared.Plan.{Plan}
+use Rattle.plan.specs.declared.Refusal.{Refusal}
+use Rattle.plan.specs.declared.Refusal.the-variants as refusal
+use Rattle.plan.specs.Limits.{mostJobs}
+use Rattle.plan.specs.PlanRead.{noJob}
+use Rattle.bounds.specs.Events.{startNode, finishNode}
+use Rattle.bounds.specs.Tables.{Cell, upto, Rows, at, bounds}
+use Rattle.bounds.specs.Elimination.{thenSet}
+use Rattle.rounds.specs.declared.Calendar.{Calendar}
+use Rattle.rounds.specs.Rounds.{C0, joined, Outcome, settled, outcome}
+use Rattle.rounds.specs.Calendars.{thenTables, beforeStarts, calendarOf, calendar}
+use Rattle.runs.specs.declared.Probe.{Probe}
+use Rattle.runs.specs.declared.Phase.{Phase}
+use Rattle.runs.specs.declared.Phase.the-variants.{Waiting, Running}
+use Rattle.runs.specs.declared.Run.{Run}
+use Rattle.runs.specs.declared.Offer.{Offer}
+use Rattle.runs.specs.declared.Opening.{Opening}
+use Rattle.runs.specs.declared.Opening.the-variants.{Open, Shut}
+use Rattle.runs.specs.declared.Choice.{Choice}
+use Rattle.runs.specs.declared.Choice.the-variants.{At, Auto}
+use Rattle.runs.specs.declared.Step.the-variants.{Start, Finish}
+use Rattle.runs.specs.declared.Answer.the-variants.{Started, Final, Refused}
+use Rattle.runs.specs.declared.Answered.{Answered}
+use Rattle.runs.specs.ValueLimits.{isTime}
+use Rattle.runs.specs.Offers.{noProbe, offerOf, opened, openingIn, opening}
+use Rattle.runs.specs.Steps.{noProbes, newRun, startedAt, startedBy, started, closed, finished, stepped}
+use Rattle.strategy.specs.Histories.{Ran, History, noRan, ranFor, turn}
+use Rattle.strategy.specs.Strategies.{ranIn, Kept, Strategy}
+use Rattle.strategy.specs.Reaching.{Reached, begun}
+use Rattle.strategy.specs.Reaching as reaching
+use Rattle.strategy.specs.CellLaws.{present}
+use Rattle.strategy.specs.EliminationLaws.{below-or-last}
+use Rattle.strategy.specs.Soundness.{Sound}
+use Rattle.strategy.specs.HistoryLaws.{ran-old, ran-new, length-more}
+use Rattle.strategy.specs.SeenLaws.{turn-seen}
+use Rattle.strategy.specs.KeptLaws.{kept-of}
+use Rattle.strategy.specs.VerdictLaws.{IsSettled, settled-is}
+use Rattle.strategy.specs.StageLaws.{Stages, before-tidy, length-tables}
+use Rattle.strategy.specs.OfferLaws.{OnOffer, Fitting, offer-fitting, fitting-offer}
+use Rattle.strategy.specs.GameLaws.{Settling, settling, Well, well-begin, WellAfter, well-more, Chosen, Winning, winning-chosen, chosen-winning, tables, some-winning, AllowedAt, winning-allowed, allowed-winning, later-tidy, later-fits}
+use Rattle.strategy.specs.RunLaws.{probeOf, ShowsPrevious, Shows, later-fitting, fitting-later, first-fitting, fitting-first}
+
+module _ (p : Plan) (sound : Sound p) (m : ℕ) (c : Rows) (s : IsSettled p sound m c) (f : Settling p sound m c s) where
+  abbrev ts : List Rows
+  ts = beforeStarts p (p .jobs) (f .both)
+
+  all-tables : length ts ≡ p .jobs
+  all-tables = length-tables p (p .jobs) (f .both) c (f .left-is)
+
+  calendar-is : calendar p c ≡ calendarOf p ts
+  unfolding calendar thenTables thenSet
+  calendar-is =
+      ap (λ x. calendarOf p (thenTables (thenSet x (λ c0. joined p c0 c)) (beforeStarts p (p .jobs)))) (f .own-is)
+      ∙ ap (λ x. calendarOf p (thenTables x (beforeStarts p (p .jobs)))) (f .both-is)
+
+  -- ---- the offer
+
+  module _ (r : Run) (h : History) (j i g : ℕ) (w : Well p sound m c s f h j i (suc g)) (sh : Shows p r h j i) where
+    low : i < p .jobs
+    low = let a = w .ig in omega arith
+
+    abbrev st : Stages p c (f .both) (p .jobs) i
+    st = tables p sound m c s f i low
+
+    lo : (x : ℤ) × (at (getD ts i []) (startNode (p .jobs + i)) 0 ≡ upto x)
+    lo =
+        let tidy = before-tidy p sound (f .both) (p .jobs + i) (st .rest) (later-fits p sound m c s f h i g low) (later-tidy p sound m c s f h i g low) (st .later) in
+        let q = present (at (st .later .before) (startNode (p .jobs + i)) 0) _ (tidy .anchored .below (startNode (p .jobs + i)) (omega arith) (omega arith)) in
+        (q .0, ap (λ v. at v (startNode (p .jobs + i)) 0) (st .listed) ∙ q .1)
+
+    hi : (x : ℤ) × (at (getD ts i []) 0 (startNode (p .jobs + i)) ≡ upto x)
+    hi =
+        let tidy = before-tidy p sound (f .both) (p .jobs + i) (st .rest) (later-fits p sound m c s f h i g low) (later-tidy p sound m c s f h i g low) (st .later) in
+        let q = present (at (st .later .before) 0 (startNode (p .jobs + i))) _ (tidy .anchored .above (startNode (p .jobs + i)) (omega arith) (omega arith)) in
+        (q .0, ap (λ v. at v 0 (startNode (p .jobs + i))) (st .listed) ∙ q .1)
+
+  module _ (r : Run) (h : History) (i g : ℕ) where
+    fits-allowed : (j : ℕ) (w : Well p sound m c s f h j i (suc g)) (sh : Shows p r h j i) (t : ℤ)
+        → Fitting p (sound .few-jobs) ts all-tables i (low r h j i g w sh) r j t → AllowedAt p sound m c s f j i (low r h j i g w sh) h t
+    fits-allowed zero w sh t a =
+        let l = low r h zero i g w sh in
+        let st = tables p sound m c s f i l in
+        fitting-first p (sound .few-jobs) ts all-tables i l r h t sh (st .later .before) (st .alone .before) (st .listed) (st .same) a
+    fits-allowed (suc j) w sh t a =
+        let l = low r h (suc j) i g w sh in
+        let st = tables p sound m c s f i l in
+        fitting-later p (sound .few-jobs) ts all-tables i l r h t j sh (w .size) (st .later .before) (st .listed) a
+
+    allowed-fits : (j : ℕ) (w : Well p sound m c s f h j i (suc g)) (sh : Shows p r h j i) (t : ℤ)
+        → AllowedAt p sound m c s f j i (low r h j i g w sh) h t → Fitting p (sound .few-jobs) ts all-tables i (low r h j i g w sh) r j t
+    allowed-fits zero w sh t a =
+        let l = low r h zero i g w sh in
+        let st = tables p sound m c s f i l in
+        first-fitting p (sound .few-jobs) ts all-tables i l r h t sh (st .later .before) (st .alone .before) (st .listed) (st .same) a
+    allowed-fits (suc j) w sh t a =
+        let l = low r h (suc j) i g w sh in
+        let st = tables p sound m c s f i l in
+        later-fitting p (sound .few-jobs) ts all-tables i l r h t j sh (w .size) (st .later .before) (st .listed) a
+
+    module _ (j : ℕ) (w : Well p sound m c s f h j i (suc g)) (sh : Shows p r h j i) where
+      abbrev pub offer : Offer
+      offer = offerOf p (calendar p c) r (suc j) (suc i)
+
+      offer-is : offer ≡ offerOf p (calendarOf p ts) r (suc j) (suc i)
+      offer-is = ap (λ c. offerOf p c r (suc j) (suc i)) calendar-is
+
+      pub offer-winning : (t : ℤ) → OnOffer offer t → Winning p sound m c s f h j g t
+      offer-winning t o =
+          let l = low r h j i g w sh in
+          allowed-winning p sound m c s f h i g l j w t
+          (fits-allowed j w sh t
+          (offer-fitting p (sound .few-jobs) ts all-tables i l r j t (lo r h j i g w sh .0) (lo r h j i g w sh .1) (hi r h j i g w sh .0) (hi r h j i g w sh .1)
+          (subst (λ o. OnOffer o t) offer-is o)))
+
+      pub winning-offer : (t : ℤ) → Winning p sound m c s f h j g t → OnOffer offer t
+      winning-offer t q =
+          let l = low r h j i g w sh in
+          subst (λ o. OnOffer o t) (sym offer-is)
+          (fitting-offer p (sound .few-jobs) ts all-tables i l r j t (lo r h j i g w sh .0) (lo r h j i g w sh .1) (hi r h j i g w sh .0) (hi r h j i g w sh .1)
+          (allowed-fits j w sh t (winning-allowed p sound m c s f h i g l j w t q)))
+
+      pub offer-some : offer .from .0 ≤ℤ offer .to .0
+      offer-some =
+          let q = some-winning p sound m c s f h j i g w in
+          let o = winning-offer (q .0) (q .1) in
+          let a = o .least in
+          let b = o .most in
+          omega wholes
+
+-- ---- accepted starts
+
+record Opens (p : Plan) (c : Calendar) (r : Run) (J I a b : ℕ) (o : Offer) : Type 0 where
+  window : J ≡ a
+  job : I ≡ b
+  offer : offerOf p c r J I ≡ o
+  some : o .from .0 ≤ℤ o .to .0
+
+opened-open : (J I a b : ℕ) (o q : Offer) (t : Bool) → ltZ (o .to .0) (o .from .0) ≡ t → cond t (Shut refusal.EmptyOffer) (Open J I o) ≡ Open a b q
+    → (J ≡ a) × (I ≡ b) × (o ≡ q) × (o .from .0 ≤ℤ o .to .0)
+opened-open J I a b o q true e h = absurd (let z : _≡_ {A = ℕ} 0 1 = cc in omega arith)
+opened-open J I a b o q false e h = (cc, cc, cc, omega wholes)
+
+waiting-open : (p : Plan) (c : Calendar) (r : Run) (J I a b : ℕ) (o q : Offer) (t : Bool) → offerOf p c r J I ≡ o
+    → cond t (Shut refusal.Over) (opened J I o) ≡ Open a b q → Opens p c r J I a b q
+waiting-open p c r J I a b o q true e h = absurd (let z : _≡_ {A = ℕ} 0 1 = cc in omega arith)
+waiting-open p c r J I a b o q false e h =
+    let x = opened-open J I a b o q _ refl h in
+    record { window = x .0; job = x .1; offer = e ∙ x .2; some = subst (λ (o : Offer). o .from .0 ≤ℤ o .to .0) (x .2) (x .3) }
+
+opening-open : (p : Plan) (c : Calendar) (r : Run) (J I a b : ℕ) (o : Offer) → r .phase ≡ Waiting J I → opening p c r ≡ Open a b o → Opens p c r J I a b o
+unfolding openingIn
+opening-open p c r J I a b o e h =
+    waiting-open p c r J I a b (offerOf p c r J I) o (ltb (p .last) J) refl (sym (ap (openingIn p c r) e) ∙ h)
+
+opening-running : (p : Plan) (c : Calendar) (r : Run) (J I : ℕ) (t : RunTime) → r .phase ≡ Running J I t → opening p c r ≡ Shut refusal.Running
+unfolding openingIn
+opening-running p c r J I t e = ap (openingIn p c r) e
+
+-- a start that was accepted: the time was on offer, and the run is running since then
+abbrev runningSince : Run → ℕ → ℕ → RunTime → Run
+runningSince r a b t = record { phase = Running a b t; «has_previous» = r .«has_previous»; previous = r .previous; present = r .present }
+
+record Taken (r : Run) (x : Opening) (after : Run) : Type 0 where
+  window : ℕ
+  job : ℕ
+  offer : Offer
+  time : RunTime
+  open-is : x ≡ Open window job offer
+  on : offer .from .0 ≤ℤ offer .to .0 → OnOffer offer (time .0)
+  after-is : after ≡ runningSince r window job time
+
+within-true : (lo hi z : ℤ) (a b : Bool) → leZ lo z ≡ a → leZ z hi ≡ b → a && b ≡ true → (lo ≤ℤ z) × (z ≤ℤ hi)
+within-true lo hi z true true e g h = (omega wholes, omega wholes)
+within-true lo hi z true false e g h = absurd (let z : _≡_ {A = ℕ} 0 1 = cc in omega arith)
+within-true lo hi z false b e g h = absurd (let z : _≡_ {A = ℕ} 0 1 = cc in omega arith)
+
+started-at : (r : Run) (a b : ℕ) (o : Offer) (t : RunTime) (j i : ℕ) (u : RunTime) (x : Bool) → within (o .from .0) (o .to .0) (t .0) ≡ x
+    → cond x (startedAt r a b t) (record { answer = Refused refusal.OutsideOffer; run = r }) .answer ≡ Started j i u
+    → Taken r (Open a b o) (cond x (startedAt r a b t) (record { answer = Refused refusal.OutsideOffer; run = r }) .run)
+started-at r a b o t j i u true e h =
+    let w = within-true (o .from .0) (o .to .0) (t .0) _ _ refl refl e in
+    record { window = a; job = b; offer = o; time = t; open-is = refl; on = λ s. record { least = w .0; most = w .1 }; after-is = refl }
+started-at r a b o t j i u false e h = absurd (let z : _≡_ {A = ℕ} 0 1 = cc in omega arith)
+
+started-auto : (r : Run) (a b : ℕ) (o : Offer) (j i : ℕ) (u : RunTime) (x : Bool) (q : Refusal)
+    → cond x (startedAt r a b (o .from)) (record { answer = Refused q; run = r }) .answer ≡ Started j i u
+    → Taken r (Open a b o) (cond x (startedAt r a b (o .from)) (record { answer = Refused q; run = r }) .run)
+started-auto r a b o j i u true q h =
+    record { window = a; job = b; offer = o; time = o .from; open-is = refl; on = λ s. record { least = omega wholes; most = s }; after-is = refl }
+started-auto r a b o j i u false q h = absurd (let z : _≡_ {A = ℕ} 0 1 = cc in omega arith)
+
+started-open : (r : Run) (choice : Choice) (x : Opening) (j i : ℕ) (t : RunTime) → started r choice x .answer ≡ Started j i t
+    → Taken r x (started r choice x .run)
+unfolding started
+started-open r (At u) (Open a b o) j i t h = started-at r a b o u j i t _ refl h
+started-open r Auto (Open a b o) j i t h = started-auto r a b o j i t (isTime (o .from)) _ h
+started-open r choice (Shut q) j i t h = absurd (let z : _≡_ {A = ℕ} 0 1 = cc in omega arith)
+
+-- ---- accepted finishes
+
+record Ended (p : Plan) (r : Run) (J I : ℕ) (s t : RunTime) (after : Run) : Type 0 where
+  least : (s .0 +ℤ getD (p .job) (I - 1) noJob .min) ≤ℤ t .0
+  most : t .0 ≤ℤ (s .0 +ℤ getD (p .job) (I - 1) noJob .max)
+  after-is : after ≡ closed p r J I (record { start = s; finish = t })
+
+ended-at : (p : Plan) (r : Run) (J I : ℕ) (s t : RunTime) (j i : ℕ) (u : RunTime) (x : Bool)
+    → within (s .0 +ℤ getD (p .job) (I - 1) noJob .min) (s .0 +ℤ getD (p .job) (I - 1) noJob .max) (t .0) ≡ x
+    → cond {A = Answered} x (record { answer = Final J I t; run = closed p r J I (record { start = s; finish = t }) })
+    (record { answer = Refused refusal.OutsideTimes; run = r }) .answer ≡ Final j i u
+    → Ended p r J I s t
+    (cond {A = Answered} x (record { answer = Final J I t; run = closed p r J I (record { start = s; finish = t }) })
+    (record { answer = Refused refusal.OutsideTimes; run = r }) .run)
+ended-at p r J I s t j i u true e h =
+    let w = within-true _ _ (t .0) _ _ refl refl e in
+    record { least = w .0; most = w .1; after-is = refl }
+ended-at p r J I s t j i u false e h = absurd (let z : _≡_ {A = ℕ} 0 1 = cc in omega arith)
+
+ended : (p : Plan) (r : Run) (J I : ℕ) (s t : RunTime) (j i : ℕ) (u : RunTime) → finished p r t (Running J I s) .answer ≡ Final j i u
+    → Ended p r J I s t (finished p r t (Running J I s) .run)
+unfolding finished
+ended p r J I s t j i u h = ended-at p r J I s t j i u _ refl h
+
+-- ---- what the run shows afterwards
+
+module _ (p : Plan) (r : Run) (h : History) (j i : ℕ) (sh : Shows p r h j i) (few : p .jobs ≤ mostJobs) (low : i < p .jobs) (size : length h ≡ j * p .jobs + i)
+    (q : Ran) where
+  abbrev h′ : History
+  h′ = h ++ (q ∷ [])
+
+  here : suc i - 1 ≡ i
+  here = omega arith
+
+  present-more : (k : ℕ) → k < suc i → getD (set (r .present) (suc i - 1) (probeOf q)) k noProbe ≡ probeOf (ranIn h′ (j * p .jobs + k))
+  present-more k l =
+      let places = sh .places in
+      ap (λ n. getD (set (r .present) n (probeOf q)) k noProbe) here
+      ∙ ⊎-elim
+      (λ (a : k < i).
+      getD-set-other (r .present) i k (probeOf q) noProbe (λ e. omega arith)
+      ∙ sh .present k a
+      ∙ ap probeOf (sym (ran-old h q (j * p .jobs + k) (omega arith))))
+      (λ (a : k ≡ i).
+      ap (λ k. getD (set (r .present) i (probeOf q)) k noProbe) a
+      ∙ getD-set-same (r .present) i (probeOf q) noProbe (omega arith)
+      ∙ ap probeOf (sym (ran-new h q (j * p .jobs + i) size))
+      ∙ ap (λ k. probeOf (ranIn h′ (j * p .jobs + k))) (sym a))
+      (below-or-last k i l)
+
+  previous-stays : (j′ : ℕ) → j ≡ j′ → ShowsPrevious p r h j′ → ShowsPrevious p r h′ j′
+  previous-stays zero e s = s
+  previous-stays (suc j′) e s = (
+    s .0,
+    λ k l.
+        let b : j * p .jobs ≡ suc j′ * p .jobs = ap (λ j. j * p .jobs) e in
+        s .1 k l ∙ ap probeOf (sym (ran-old h q (j′ * p .jobs + k) (omega arith))),
+  )
+
+  -- the window goes on
+  goes-on : suc i < p .jobs → (closed p r (suc j) (suc i) (probeOf q) .phase ≡ Waiting (suc j) (suc (suc i))) × Shows p (closed p r (suc j) (suc i) (probeOf q)) h′ j (suc i)
+  unfolding closed
+  goes-on l =
+      rw (lt-ltb (suc i) (p .jobs) l) (
+        ap (Waiting (suc j)) (add-one (suc i)),
+        record {
+          places = length-set (r .present) (suc i - 1) (probeOf q) ∙ sh .places;
+          present = present-more;
+          previous = previous-run j refl;
+        },
+      )
+    where
+      previous-run : (j′ : ℕ) → j ≡ j′
+          → ShowsPrevious p
+          (record { phase = Waiting (suc j) (suc i + 1); «has_previous» = r .«has_previous»; previous = r .previous; present = set (r .present) (suc i - 1) (probeOf q) }) h′ j′
+      previous-run zero e = previous-stays zero e (subst (ShowsPrevious p r h) e (sh .previous))
+      previous-run (suc j′) e = previous-stays (suc j′) e (subst (ShowsPrevious p r h) e (sh .previous))
+
+  -- the next window begins
+  next-begins : suc i ≡ p .jobs → (closed p r (suc j) (suc i) (probeOf q) .phase ≡ Waiting (suc (suc j)) 1) × Shows p (closed p r (suc j) (suc i) (probeOf q)) h′ (suc j) 0
+  unfolding closed
+  next-begins e =
+      rw (le-ltb (suc i) (p .jobs) (omega arith)) (
+        ap (λ j. Waiting j 1) (add-one (suc j)),
+        record {
+          places = refl;
+          present = λ k l. absurd (omega arith);
+          previous = (refl, λ k l. present-more k (omega arith));
+        },
+      )
+
+-- ---- every run that kept to its offers
+
+module _ (p : Plan) (sound : Sound p) (m : ℕ) (c : Rows) (s : IsSettled p sound m c) (f : Settling p sound m c s) where
+  -- it waits for the start of job i + 1 of window j + 1
+  pub record Waits (r : Run) (h : History) : Type 0 where
+    pub j : ℕ
+    pub i : ℕ
+    pub g : ℕ
+    pub phase : r .phase ≡ Waiting (suc j) (suc i)
+    pub well : Well p sound m c s f h j i (suc g)
+    pub shows : Shows p r h j i
+
+  -- it runs that job since a time from which the game can be won
+  pub record Runs (r : Run) (h : History) : Type 0 where
+    pub j : ℕ
+    pub i : ℕ
+    pub g : ℕ
+    pub since : RunTime
+    pub phase : r .phase ≡ Running (suc j) (suc i) since
+    pub well : Well p sound m c s f h j i (suc g)
+    pub shows : Shows p r h j i
+    pub winning : Winning p sound m c s f h j g (since .0)
+
+  begun-waits : Waits newRun []
+  begun-waits =
+      record {
+        j = 0;
+        i = 0;
+        g = p .jobs - 1;
+        phase = refl;
+        well = subst (Well p sound m c s f [] 0 0) (let a = sound .some-job in let e : p .jobs ≡ suc (p .jobs - 1) = omega arith in e) (well-begin p sound m c s f);
+        shows = record { places = refl; present = λ k l. absurd (omega arith); previous = refl };
+      }
+
+  shows-running : (r : Run) (h : History) (j i a b : ℕ) (t : RunTime) → Shows p r h j i → Shows p (runningSince r a b t) h j i
+  shows-running r h zero i a b t sh = record { places = sh .places; present = sh .present; previous = sh .previous }
+  shows-running r h (suc j) i a b t sh = record { places = sh .places; present = sh .present; previous = sh .previous }
+
+  started-runs : (r : Run) (h : History) → Waits r h → (x : Opening) → opening p (calendar p c) r ≡ x → (after : Run) → Taken r x after → Runs after h
+  started-runs r h w x e after t =
+      let o = opening-open p (calendar p c) r (suc (w .j)) (suc (w .i)) (t .window) (t .job) (t .offer) (w .phase) (e ∙ t .open-is) in
+      subst (λ r. Runs r h) (sym (t .after-is))
+      (record {
+        j = w .j;
+        i = w .i;
+        g = w .g;
+        since = t .time;
+        phase = ap₂ (λ a b. Running a b (t .time)) (sym (o .window)) (sym (o .job));
+        well = w .well;
+        shows = shows-running r h (w .j) (w .i) (t .window) (t .job) (t .time) (w .shows);
+        winning =
+            offer-winning p sound m c s f r h (w .i) (w .g) (w .j) (w .well) (w .shows) (t .time .0)
+            (subst (λ o. OnOffer o (t .time .0)) (sym (o .offer)) (t .on (o .some)));
+      })
+
+  turn-at : (h : History) (j i g : ℕ) → Well p sound m c s f h j i (suc g) → turn p (length h) ≡ getD (p .job) (suc i - 1) noJob
+  turn-at h j i g w =
+      let a = w .ig in
+      let low : i < p .jobs = omega arith in
+      ap (turn p) (w .size) ∙ turn-seen p j i ∙ ap (λ k. getD (p .job) k noJob) (mod-eq-of-lt low ∙ (let e : i ≡ suc i - 1 = omega arith in e))
+
+  module _ (r : Run) (h : History) (j i : ℕ) (since finish : RunTime) (sh : Shows p r h j i) where
+    abbrev q : Ran
+    q = record { start = since .0; finish = finish .0 }
+
+    abbrev after : Run
+    after = closed p r (suc j) (suc i) (record { start = since; finish = finish })
+
+    moves-on : (g : ℕ) (w : Well p sound m c s f h j i (suc g)) → WellAfter p sound m c s f j i g (h ++ (q ∷ [])) → Waits after (h ++ (q ∷ []))
+    moves-on zero w next =
+        let a = w .ig in
+        let b = next-begins p r h j i sh (sound .few-jobs) (omega arith) (w .size) q (omega arith) in
+        record {
+          j = suc j;
+          i = 0;
+          g = p .jobs - 1;
+          phase = b .0;
+          well = subst (Well p sound m c s f (h ++ (q ∷ [])) (suc j) 0) (let k = sound .some-job in let e : p .jobs ≡ suc (p .jobs - 1) = omega arith in e) next;
+          shows = b .1;
+        }
+    moves-on (suc g) w next =
+        let a = w .ig in
+        let b = goes-on p r h j i sh (sound .few-jobs) (omega arith) (w .size) q (omega arith) in
+        record { j = j; i = suc i; g = g; phase = b .0; well = next; shows = b .1 }
+
+  finish-is : (a b : ℤ) → a +ℤ (b -ℤ a) ≡ b
+  finish-is a b = omega wholes
+
+  finished-waits : (r : Run) (h : History) (w : Runs r h) (t : RunTime) (after : Run) → Ended p r (suc (w .j)) (suc (w .i)) (w .since) t after
+      → Waits after (h ++ (record { start = w .since .0; finish = t .0 } ∷ []))
+  finished-waits r h w t after e =
+      let n = turn-at h (w .j) (w .i) (w .g) (w .well) in
+      let lo = e .least in
+      let hi = e .most in
+      let ran = t .0 -ℤ w .since .0 in
+      let lo′ : turn p (length h) .min ≤ℤ (t .0 -ℤ w .since .0) = rw n (omega wholes) in
+      let hi′ : (t .0 -ℤ w .since .0) ≤ℤ turn p (length h) .max = rw n (omega wholes) in
+      let next = well-more p sound m c s f h (w .j) (w .i) (w .g) (w .well) (w .since .0) ran lo′ hi′ (w .winning ran lo′ hi′) in
+      subst (λ r. Waits r (h ++ (record { start = w .since .0; finish = t .0 } ∷ []))) (sym (e .after-is))
+      (moves-on r h (w .j) (w .i) (w .since) t (w .shows) (w .g) (w .well)
+      (subst (λ z. WellAfter p sound m c s f (w .j) (w .i) (w .g) (h ++ (record { start = w .since .0; finish = z } ∷ []))) (finish-is (w .since .0) (t .0)) next))
+
+  not-both : (r : Run) (a b d e : ℕ) (t : RunTime) → r .phase ≡ Waiting a b → r .phase ≡ Running d e t → ⊥
+  not-both r a b d e t x y = let z : _≡_ {A = ℕ} 0 1 = cc in omega arith
+
+  same-since : (r : Run) (a b d e : ℕ) (t u : RunTime) → r .phase ≡ Running a b t → r .phase ≡ Running d e u → t ≡ u
+  same-since r a b d e t u x y = cc
+
+  pub state : {r : Run} {h : History} → Reached p (calendar p c) r h → Waits r h ⊎ Runs r h
+  unfolding stepped
+  state begun = inl begun-waits
+  state (reaching.started {r = r} {h = h} before choice j i t e) =
+      ⊎-elim
+      (λ (w : Waits r h). inr (started-runs r h w (opening p (calendar p c) r) refl _ (started-open r choice (opening p (calendar p c) r) j i t e)))
+      (λ (w : Runs r h).
+      let o = opening-running p (calendar p c) r (suc (w .j)) (suc (w .i)) (w .since) (w .phase) in
+      let k = started-open r choice (opening p (calendar p c) r) j i t e in
+      let x = k .open-is in
+      absurd (let z : _≡_ {A = ℕ} 0 1 = cc in omega arith))
+      (state before)
+  state (reaching.finished {r = r} {h = h} before j i since t ph e) =
+      ⊎-elim (λ (w : Waits r h). absurd (not-both r _ _ j i since (w .phase) ph))
+      (λ (w : Runs r h).
+      let x = w .phase in
+      let k = ended p r (suc (w .j)) (suc (w .i)) (w .since) t j i t (subst (λ a. finished p r t a .answer ≡ Final j i t) x e) in
+      inl (subst (λ a. Waits (finished p r t (r .phase) .run) (h ++ (record { start = a .0; finish = t .0 } ∷ []))) (same-since r _ _ j i (w .since) since x ph)
+      (finished-waits r h w t (finished p r t (r .phase) .run) (subst (λ a. Ended p r (suc (w .j)) (suc (w .i)) (w .since) t (finished p r t a .run)) (sym x) k))))
+      (state before)
