@@ -3,13 +3,13 @@
 -- some time for s; the greatest lower bound is one, and there is one, since the bound to the origin is there.
 use Prim.Native.Nat.{ℕ, zero, suc, _+_, _*_, _≤_, _<_}
 use mathlib.Core.Path.{_≡_, refl, sym, ap, subst, _∙_}
-use mathlib.Core.Logic.{_⊎_, inl, inr, ⊎-elim}
+use mathlib.Core.Logic.{_↔_, _⊎_, inl, inr, ⊎-elim}
 use mathlib.Core.Bool.{Bool, true, false, cond}
 use native.Mathlib.Omega.{arith}
 use lib.Dec.{eqb, ltb}
 use lib.IntN.{ℤ, pos, negℤ, _+ℤ_, _-ℤ_}
 use lib.Signed.{_≤ℤ_, leZ}
-use borrow.Author.Tests.{eq-eqb, eqb-true, ltb-true, ltb-false}
+use borrow.Author.Tests.{eq-eqb, ne-eqb, eqb-true, ltb-true, ltb-false}
 use Rattle.whole.specs.SplitLaws.{split-neg}
 use Rattle.whole.specs.Rules.{wholes}
 use Rattle.whole.specs.Shape.{any, _⊕_, _⊖_, le}
@@ -52,6 +52,16 @@ keeps-more n f X old col row corner y z a b =
     subst (λ y. Holds (f y z) (X z -ℤ X y)) (sym c)
     (⊎-elim (λ d. row z d) (λ d. subst (λ z. Holds (f n z) (X z -ℤ X n)) (sym d) corner) (below-or-last z n b)))
     (below-or-last y n a)
+
+-- the times X, and x at node n
+abbrev pub setAt : (ℕ → ℤ) → ℕ → ℤ → ℕ → ℤ
+setAt X n x y = cond (eqb y n) x (X y)
+
+setAt-before : (X : ℕ → ℤ) (n : ℕ) (x : ℤ) (y : ℕ) → y < n → setAt X n x y ≡ X y
+setAt-before X n x y h = rw (ne-eqb y n (omega arith))
+
+setAt-same : (X : ℕ → ℤ) (n : ℕ) (x : ℤ) → setAt X n x n ≡ x
+setAt-same X n x = rw (eq-eqb n n refl)
 
 -- ---- Finish
 
@@ -139,6 +149,16 @@ module _ (p : Plan) (k : ℕ) (t : Rows) (X : ℕ → ℤ) where
           (holds-less (at t f z) ((X z -ℤ X y) -ℤ jobAt p k .min) (X z -ℤ (X s +ℤ jobAt p k .min))
           (shortest-from (X s) (X y) (X z) (jobAt p k .min) (ap X d))
           (rw (sameZ z b, shortest) at (keptZ f z (omega arith) (omega arith))))
+
+  pub finish-iff : at t f f ≡ off → jobAt p k .min ≤ℤ jobAt p k .max
+      → KeepsAt f (finishCell p k t) X
+      ↔ ((e : ℤ) → jobAt p k .min ≤ℤ e → e ≤ℤ jobAt p k .max → KeepsAt (suc f) (at t) (setAt X f (X s +ℤ e)))
+  finish-iff corner mm = (
+    λ kept e lo hi. finish-out corner kept (setAt X f (X s +ℤ e)) e (setAt-before X f (X s +ℤ e)) (setAt-same X f (X s +ℤ e)) lo hi,
+    λ all.
+        finish-in (setAt X f (X s +ℤ jobAt p k .max)) (setAt X f (X s +ℤ jobAt p k .min)) (setAt-before X f _) (setAt-before X f _)
+        (setAt-same X f _) (setAt-same X f _) (all (jobAt p k .max) mm (omega wholes)) (all (jobAt p k .min) (omega wholes) mm),
+  )
 
 -- ---- Start
 
@@ -254,3 +274,10 @@ module _ (k : ℕ) (t : Rows) (X : ℕ → ℤ) where
     where
       first : suc (2 * k) ≡ σ
       first = omega arith
+
+  pub start-iff : at t σ σ ≡ off → (w : ℤ) → at t σ 0 ≡ upto w
+      → KeepsAt σ (startCell k t) X ↔ ((τ : ℤ) × KeepsAt (suc σ) (at t) (setAt X σ τ))
+  start-iff corner w there = (
+    λ kept. let g = start-out corner w there kept in (g .0, g .1 (setAt X σ (g .0)) (setAt-before X σ (g .0)) (setAt-same X σ (g .0))),
+    λ r. start-in (setAt X σ (r .0)) (setAt-before X σ (r .0)) (r .1),
+  )

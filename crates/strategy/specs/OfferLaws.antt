@@ -32,6 +32,7 @@ use Rattle.rounds.specs.Calendars.{isOn, weight, fromBelow, fromAbove, eventsBe
 use Rattle.runs.specs.declared.Run.{Run}
 use Rattle.runs.specs.declared.Offer.{Offer}
 use Rattle.runs.specs.Offers.{timeOf, isInForce, greater, lesser, endFrom, offerOf}
+use Rattle.strategy.specs.Reaching.{OnOffer}
 use Rattle.strategy.specs.Keeping.{Holds}
 use Rattle.strategy.specs.EliminationLaws.{below-or-last}
 
@@ -281,11 +282,6 @@ upper-base t jw v w = (
   λ h. omega (shows le (any ⊖ (any ⊖ any) ⊖ any) any, wholes),
   λ h. omega (reads le (any ⊖ (any ⊖ any) ⊖ any) any, wholes),
 )
-
--- t is on offer
-pub record OnOffer (o : Offer) (t : ℤ) : Type 0 where
-  pub least : o .from .0 ≤ℤ t
-  pub most : t ≤ℤ o .to .0
 
 module _ (p : Plan) (few : p .jobs ≤ mostJobs) (ts : List Rows) (all : length ts ≡ p .jobs) (i : ℕ) (low : i < p .jobs) (r : Run) (J : ℕ) where
   abbrev table : Rows

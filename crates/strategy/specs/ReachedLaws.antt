@@ -42,10 +42,10 @@ use Rattle.runs.specs.declared.Answer.the-variants.{Started, Final, Refused}
 use Rattle.runs.specs.declared.Answered.{Answered}
 use Rattle.runs.specs.ValueLimits.{isTime}
 use Rattle.runs.specs.Offers.{noProbe, offerOf, opened, openingIn, opening}
-use Rattle.runs.specs.Steps.{noProbes, newRun, startedAt, startedBy, started, closed, finished, stepped}
+use Rattle.runs.specs.Steps.{noProbes, newRun, refusedWith, startedAt, startedBy, started, closed, finished, stepped}
 use Rattle.strategy.specs.Histories.{Ran, History, noRan, ranFor, turn}
-use Rattle.strategy.specs.Strategies.{ranIn, Kept, Strategy}
-use Rattle.strategy.specs.Reaching.{Reached, begun}
+use Rattle.strategy.specs.Strategies.{ranIn, Kept, Strategy, StrategyAfter}
+use Rattle.strategy.specs.Reaching.{OnOffer, Reached, begun}
 use Rattle.strategy.specs.Reaching as reaching
 use Rattle.strategy.specs.CellLaws.{present}
 use Rattle.strategy.specs.EliminationLaws.{below-or-last}
@@ -55,7 +55,7 @@ use Rattle.strategy.specs.SeenLaws.{turn-seen}
 use Rattle.strategy.specs.KeptLaws.{kept-of}
 use Rattle.strategy.specs.VerdictLaws.{IsSettled, settled-is}
 use Rattle.strategy.specs.StageLaws.{Stages, before-tidy, length-tables}
-use Rattle.strategy.specs.OfferLaws.{OnOffer, Fitting, offer-fitting, fitting-offer}
+use Rattle.strategy.specs.OfferLaws.{Fitting, offer-fitting, fitting-offer}
 use Rattle.strategy.specs.GameLaws.{Settling, settling, Well, well-begin, WellAfter, well-more, Chosen, Winning, winning-chosen, chosen-winning, tables, some-winning, AllowedAt, winning-allowed, allowed-winning, later-tidy, later-fits}
 use Rattle.strategy.specs.RunLaws.{probeOf, ShowsPrevious, Shows, later-fitting, fitting-later, first-fitting, fitting-first}
 
@@ -434,3 +434,113 @@ module _ (p : Plan) (sound : Sound p) (m : ℕ) (c : Rows) (s : IsSettled p soun
       inl (subst (λ a. Waits (finished p r t (r .phase) .run) (h ++ (record { start = a .0; finish = t .0 } ∷ []))) (same-since r _ _ j i (w .since) since x ph)
       (finished-waits r h w t (finished p r t (r .phase) .run) (subst (λ a. Ended p r (suc (w .j)) (suc (w .i)) (w .since) t (finished p r t a .run)) (sym x) k))))
       (state before)
+
+-- ---- the offers of such a run
+
+module _ (p : Plan) (sound : Sound p) (m : ℕ) (c : Rows) (accepted : outcome p ≡ settled m c) where
+  abbrev s : IsSettled p sound m c
+  s = settled-is p sound m c accepted
+
+  abbrev f : Settling p sound m c s
+  f = settling p sound m c s
+
+  module _ (r : Run) (h : History) (reached : Reached p (calendar p c) r h) where
+    run-held : Waits p sound m c s f r h ⊎ Runs p sound m c s f r h → Kept p h
+    run-held (inl w) = kept-of p h (w .well .held)
+    run-held (inr w) = kept-of p h (w .well .held)
+
+    pub reached-kept : Kept p h
+    reached-kept = run-held (state p sound m c s f reached)
+
+    module _ (J I : ℕ) (phase : r .phase ≡ Waiting J I) where
+      abbrev offered : Offer
+      offered = offerOf p (calendar p c) r J I
+
+      -- where the run waits, as its history has it
+      pub record Turn : Type 0 where
+        pub waits : Waits p sound m c s f r h
+        pub window : suc (waits .j) ≡ J
+        pub job : suc (waits .i) ≡ I
+
+      turn-of : Waits p sound m c s f r h ⊎ Runs p sound m c s f r h → Turn
+      turn-of (inl w) = let e = w .phase in record { waits = w; window = cc; job = cc }
+      turn-of (inr w) = let e = w .phase in absurd (let z : _≡_ {A = ℕ} 0 1 = cc in omega arith)
+
+      at-turn : Turn
+      at-turn = turn-of (state p sound m c s f reached)
+
+      offer-at : (t : Turn) → offerOf p (calendar p c) r (suc (t .waits .j)) (suc (t .waits .i)) ≡ offered
+      offer-at t = ap₂ (offerOf p (calendar p c) r) (t .window) (t .job)
+
+      pub reached-some : offered .from .0 ≤ℤ offered .to .0
+      reached-some =
+          let t = at-turn in
+          let w = t .waits in
+          subst (λ o. o .from .0 ≤ℤ o .to .0) (offer-at t) (offer-some p sound m c s f r h (w .i) (w .g) (w .j) (w .well) (w .shows))
+
+      left-is : (t : Turn) → t .waits .g ≡ p .jobs - I
+      left-is t = let a = t .waits .well .ig in let b = t .job in omega arith
+
+      pub reached-offer : (t : ℤ) → OnOffer offered t ↔ ((k : ℕ) → StrategyAfter p h t ((p .jobs - I) + k * p .jobs))
+      reached-offer t =
+          let n = at-turn in
+          let w = n .waits in (
+            λ o k.
+                subst (λ g. StrategyAfter p h t (g + k * p .jobs)) (left-is n)
+                (winning-chosen p sound m c s f h (w .j) (w .i) (w .g) (w .well) t
+                (offer-winning p sound m c s f r h (w .i) (w .g) (w .j) (w .well) (w .shows) t (subst (λ o. OnOffer o t) (sym (offer-at n)) o)) k),
+            λ q.
+                subst (λ o. OnOffer o t) (offer-at n)
+                (winning-offer p sound m c s f r h (w .i) (w .g) (w .j) (w .well) (w .shows) t
+                (chosen-winning p sound m c s f h (w .j) (w .i) (w .g) (w .well) t
+                (λ k. subst (λ g. StrategyAfter p h t (g + k * p .jobs)) (sym (left-is n)) (q k)))),
+          )
+
+    -- 11 is never given
+    shut-waiting : (J I : ℕ) (o : Offer) (b d : Bool) → o .from .0 ≤ℤ o .to .0 → ltZ (o .to .0) (o .from .0) ≡ d
+        → cond b (Shut refusal.Over) (cond d (Shut refusal.EmptyOffer) (Open J I o)) ≡ Shut refusal.EmptyOffer → ⊥
+    shut-waiting J I o true d some e h = let z : _≡_ {A = ℕ} 0 1 = cc in omega arith
+    shut-waiting J I o false true some e h = omega wholes
+    shut-waiting J I o false false some e h = let z : _≡_ {A = ℕ} 0 1 = cc in omega arith
+
+    never-empty : Waits p sound m c s f r h ⊎ Runs p sound m c s f r h → opening p (calendar p c) r ≡ Shut refusal.EmptyOffer → ⊥
+    unfolding openingIn
+    never-empty (inl w) e =
+        shut-waiting (suc (w .j)) (suc (w .i)) (offerOf p (calendar p c) r (suc (w .j)) (suc (w .i))) (ltb (p .last) (suc (w .j))) _
+        (reached-some (suc (w .j)) (suc (w .i)) (w .phase)) refl (sym (ap (openingIn p (calendar p c) r) (w .phase)) ∙ e)
+    never-empty (inr w) e =
+        let o = opening-running p (calendar p c) r (suc (w .j)) (suc (w .i)) (w .since) (w .phase) in
+        let z : _≡_ {A = ℕ} 0 1 = cc in
+        omega arith
+
+    pub reached-never-empty : opening p (calendar p c) r ≡ Shut refusal.EmptyOffer → ⊥
+    reached-never-empty e = never-empty (state p sound m c s f reached) e
+
+    -- while the run lasts it is open, and its lower end can be taken
+    opened-as : (J I : ℕ) (o : Offer) → o .from .0 ≤ℤ o .to .0 → opened J I o ≡ Open J I o
+    opened-as J I o h = go (ltZ (o .to .0) (o .from .0)) refl
+      where
+        go : (b : Bool) → ltZ (o .to .0) (o .from .0) ≡ b → cond b (Shut refusal.EmptyOffer) (Open J I o) ≡ Open J I o
+        go true e = absurd (omega wholes)
+        go false e = refl
+
+    module _ (J I : ℕ) (phase : r .phase ≡ Waiting J I) (lasts : J ≤ p .last) where
+      pub reached-open : opening p (calendar p c) r ≡ Open J I (offerOf p (calendar p c) r J I)
+      unfolding openingIn
+      reached-open =
+          ap (openingIn p (calendar p c) r) phase
+          ∙ ap (λ b. cond b (Shut refusal.Over) (opened J I (offerOf p (calendar p c) r J I))) (le-ltb (p .last) J lasts)
+          ∙ opened-as J I (offerOf p (calendar p c) r J I) (reached-some J I phase)
+
+      pub reached-auto : stepped p (calendar p c) r (Start (At (offerOf p (calendar p c) r J I .from))) .answer
+          ≡ Started J I (offerOf p (calendar p c) r J I .from)
+      unfolding stepped started
+      reached-auto =
+          let o = offerOf p (calendar p c) r J I in
+          ap (λ x. started r (At (o .from)) x .answer) reached-open
+          ∙ ap (λ b. cond b (startedAt r J I (o .from)) (refusedWith r refusal.OutsideOffer) .answer) (lower-inside (o .from .0) (o .to .0) (reached-some J I phase) _ _ refl refl)
+        where
+          lower-inside : (a b : ℤ) → a ≤ℤ b → (x y : Bool) → leZ a a ≡ x → leZ a b ≡ y → x && y ≡ true
+          lower-inside a b h true true e g = refl
+          lower-inside a b h true false e g = absurd (omega wholes)
+          lower-inside a b h false y e g = absurd (omega wholes)

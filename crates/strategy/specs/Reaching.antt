@@ -1,18 +1,26 @@
--- Runs that kept to their offers: those that come from the beginning by starts and finishes that were accepted, with the history of their finished jobs.
+-- Offers, and runs that kept to them: those that come from the beginning by starts and finishes that were accepted, with the history of their finished jobs.
 -- A step that is refused, and an ask, leave the run as it is.
 use Prim.Native.Nat.{ℕ}
 use mathlib.Core.Path.{_≡_}
 use mathlib.Core.List.{[], _∷_, _++_}
+use lib.IntN.{ℤ}
+use lib.Signed.{_≤ℤ_}
 use Rattle.clock.specs.declared.RunTime.{RunTime}
 use Rattle.plan.specs.declared.Plan.{Plan}
 use Rattle.rounds.specs.declared.Calendar.{Calendar}
 use Rattle.runs.specs.declared.Phase.the-variants.{Running}
 use Rattle.runs.specs.declared.Run.{Run}
+use Rattle.runs.specs.declared.Offer.{Offer}
 use Rattle.runs.specs.declared.Choice.{Choice}
 use Rattle.runs.specs.declared.Step.the-variants.{Start, Finish}
 use Rattle.runs.specs.declared.Answer.the-variants.{Started, Final}
 use Rattle.runs.specs.Steps.{newRun, stepped}
 use Rattle.strategy.specs.Histories.{Ran, History}
+
+-- 'both ends included'
+pub record OnOffer (o : Offer) (t : ℤ) : Type 0 where
+  pub least : o .from .0 ≤ℤ t
+  pub most : t ≤ℤ o .to .0
 
 pub data Reached (p : Plan) (c : Calendar) : Run → History → Type 0 where
   begun : Reached p c newRun []

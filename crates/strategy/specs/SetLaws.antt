@@ -3,7 +3,7 @@
 -- to and from the origin are never left out, and they say it.
 use Prim.Native.Nat.{ℕ, zero, suc, _+_, _*_, _-_, _≤_, _<_, _%_}
 use mathlib.Core.Path.{_≡_, refl, sym, ap, subst, _∙_}
-use mathlib.Core.Logic.{_⊎_}
+use mathlib.Core.Logic.{_↔_, _⊎_}
 use mathlib.Core.Bool.{Bool, true, false, cond}
 use native.Mathlib.Omega.{arith}
 use native.Mathlib.Nat.{mod-eq-of-lt, mod-eq-sub-mod}
@@ -239,6 +239,9 @@ module _ (p : Plan) (k : ℕ) (f : ℕ → ℕ → Cell) (anchored : Anchored p 
       let fit = fits p k (at t) u (judged-anchored t h) kept s r in
       cell-back p u y z (f y z) (judgedSet-sound p k f t h y z a b) (fit y a) (fit z b)
       (rw (judgedSet-at p k f t h y z a b) at (kept y z a b))
+
+  pub judged-iff : (t : Rows) → judgedSet p k f ≡ bounds t → (u : History) → Sized p k u → Timely p u → Keeps k f u ↔ Keeps k (at t) u
+  judged-iff t h u s r = (judged-keeps t h u, judged-back t h u s r)
 
   pub judged-none : judgedSet p k f ≡ contradiction
       → (long : Bool) × ((u : History) → Sized p k u → Extreme p long u → Keeps k f u → ⊥)

@@ -62,6 +62,10 @@ Forced p Q (suc g) h =
 abbrev pub Strategy : Plan → History → ℕ → Type 0
 Strategy p h g = Forced p (Kept p) g h
 
+-- after a start of the next job at t, whatever its running time
+abbrev pub StrategyAfter : Plan → History → ℤ → ℕ → Type 0
+StrategyAfter p h t g = (e : ℤ) → turn p (length h) .min ≤ℤ e → e ≤ℤ turn p (length h) .max → Strategy p (ranFor h t e) g
+
 -- Definition 3: 'Schedulability' of k windows, from the beginning
 abbrev pub StrategyFor : Plan → ℕ → Type 0
 StrategyFor p k = Strategy p [] (k * p .jobs)

@@ -1,34 +1,80 @@
--- Demand 3 as theorems: what the verdict says of strategies. Each proof cites where the work was done.
-use Prim.Native.Nat.{ℕ, suc, _*_, _<_}
+-- Demand 3 as theorems. A plan of which the laws use what acceptance gives (`Sound`); its outcome, its calendar and its runs are document 01's, and what
+-- they are held against is `Strategies` alone. Each proof cites where the work was done.
+use Prim.Native.Nat.{ℕ, suc, _+_, _*_, _-_, _≤_, _<_}
 use mathlib.Core.Path.{_≡_, refl}
 use mathlib.Core.Logic.{_↔_}
 use native.Mathlib.Omega.{arith}
+use lib.IntN.{ℤ, _+ℤ_}
+use lib.Signed.{_≤ℤ_}
 use lib.ListN.{length}
 use Rattle.plan.specs.declared.Plan.{Plan}
-use Rattle.bounds.specs.Events.{nodes}
-use Rattle.bounds.specs.Tables.{Rows, at, bounds}
+use Rattle.plan.specs.declared.Refusal.the-variants as refusal
+use Rattle.bounds.specs.Events.{jobAt, startNode, finishNode, nodes}
+use Rattle.bounds.specs.Tables.{Cell, off, upto, Rows, at, Set, contradiction, bounds, judgedSet}
+use Rattle.bounds.specs.Elimination.{finishCell, startCell}
 use Rattle.rounds.specs.declared.Verdict.{Verdict}
 use Rattle.rounds.specs.declared.Verdict.the-variants.{Settled, NoStrategy, Unsettled}
 use Rattle.rounds.specs.Rounds.{Outcome, settled, noStrategy, unsettled, outcome, verdictOf, verdict}
+use Rattle.rounds.specs.Calendars.{calendar}
+use Rattle.runs.specs.declared.Phase.the-variants.{Waiting}
+use Rattle.runs.specs.declared.Run.{Run}
+use Rattle.runs.specs.declared.Opening.the-variants.{Shut}
+use Rattle.runs.specs.declared.Choice.the-variants.{At}
+use Rattle.runs.specs.declared.Step.the-variants.{Start}
+use Rattle.runs.specs.declared.Answer.the-variants.{Started}
+use Rattle.runs.specs.Offers.{offerOf, opening}
+use Rattle.runs.specs.Steps.{stepped}
 use Rattle.strategy.specs.Histories.{History, seenFrom}
-use Rattle.strategy.specs.Strategies.{Kept, Strategy, StrategyFor, StrategyForAll}
-use Rattle.strategy.specs.Keeping.{Keeps, Timely}
+use Rattle.strategy.specs.Strategies.{Kept, Strategy, StrategyAfter, StrategyFor, StrategyForAll}
+use Rattle.strategy.specs.Reaching.{OnOffer, Reached}
+use Rattle.strategy.specs.Keeping.{Keeps, Timely, Extreme, Anchored, Sized}
 use Rattle.strategy.specs.Soundness.{Sound}
+use Rattle.strategy.specs.SetLaws.{judged-iff, judged-none}
+use Rattle.strategy.specs.EliminationLaws.{KeepsAt, setAt, finish-iff, start-iff}
 use Rattle.strategy.specs.KeptLaws.{Punctual}
 use Rattle.strategy.specs.RoundLaws.{C, strategy-kept, strategy-keeps, keeps-strategy}
 use Rattle.strategy.specs.VerdictLaws.{IsSettled, settled-is, settled-strategy, Hopeless, none-is}
+use Rattle.strategy.specs.GameLaws.{fewer-windows}
+use Rattle.strategy.specs.ReachedLaws.{reached-kept, reached-some, reached-offer, reached-never-empty, reached-open, reached-auto}
+
+-- ---- elimination
+
+-- Judgement. Times keep a judged set exactly if they keep the set before; range is no premise, since the set's bounds to and from the origin say it.
+pub judgement-law : (p : Plan) (k : ℕ) (f : ℕ → ℕ → Cell) → Anchored p k f → (t : Rows) → judgedSet p k f ≡ bounds t
+    → (u : History) → Sized p k u → Timely p u → Keeps k f u ↔ Keeps k (at t) u
+judgement-law p k f a t e u s old = judged-iff p k f a t e u s old
+
+-- A contradiction is kept by no times, if every job runs as long as it can, or if every job runs as short.
+pub contradiction-law : (p : Plan) (k : ℕ) (f : ℕ → ℕ → Cell) → Anchored p k f → judgedSet p k f ≡ contradiction
+    → (long : _) × ((u : History) → Sized p k u → Extreme p long u → Keeps k f u → ⊥)
+contradiction-law p k f a e = judged-none p k f a e
+
+-- 002's Lemma 1: times keep the cells without a finish exactly if with every running time after the start they keep the table.
+pub lemma-1 : (p : Plan) (k : ℕ) (t : Rows) (X : ℕ → ℤ) → at t (finishNode k) (finishNode k) ≡ off → jobAt p k .min ≤ℤ jobAt p k .max
+    → KeepsAt (finishNode k) (finishCell p k t) X
+    ↔ ((e : ℤ) → jobAt p k .min ≤ℤ e → e ≤ℤ jobAt p k .max → KeepsAt (suc (finishNode k)) (at t) (setAt X (finishNode k) (X (startNode k) +ℤ e)))
+lemma-1 p k t X corner mm = finish-iff p k t X corner mm
+
+-- 002's Lemma 2: times keep the cells without a start exactly if with some time for the start they keep the table.
+pub lemma-2 : (k : ℕ) (t : Rows) (X : ℕ → ℤ) → at t (startNode k) (startNode k) ≡ off → (w : ℤ) → at t (startNode k) 0 ≡ upto w
+    → KeepsAt (startNode k) (startCell k t) X ↔ ((s : ℤ) × KeepsAt (suc (startNode k)) (at t) (setAt X (startNode k) s))
+lemma-2 k t X corner w there = start-iff k t X corner w there
 
 module _ (p : Plan) (sound : Sound p) where
   -- ---- rounds
 
-  -- The round theorem. After j + 1 whole windows there is a strategy for m windows more exactly if the history keeps the plan's bounds and its last
-  -- window keeps C(m). Every job so far ran between min and max, and every start left room for the longest run: as in any game that is won.
-  pub rounds : (m : ℕ) (c : Rows) → C p m ≡ bounds c → (j : ℕ) (h : History) → length h ≡ suc j * p .jobs → Timely p h → Punctual p h
+  -- After j + 1 whole windows there is a strategy for m windows more exactly if the history keeps the plan's bounds and its last window keeps C(m).
+  -- Every job so far ran between min and max, and every start left room for the longest run: as in any game that is won.
+  pub round-theorem : (m : ℕ) (c : Rows) → C p m ≡ bounds c → (j : ℕ) (h : History) → length h ≡ suc j * p .jobs → Timely p h → Punctual p h
       → Strategy p h (m * p .jobs) ↔ (Kept p h × Keeps (nodes (p .jobs)) (at c) (seenFrom p j h))
-  rounds m c e j h n old room = (
+  round-theorem m c e j h n old room = (
     λ s. (strategy-kept p sound (m * p .jobs) h s, strategy-keeps p sound m c e j h n old room s),
     λ k. keeps-strategy p sound m c e j h n old room (k .0) (k .1),
   )
+
+  -- 002's Proposition 2: fewer windows follow from more.
+  pub fewer : (h : History) (g k a : ℕ) → Strategy p h (g + (a + k) * p .jobs) → Strategy p h (g + k * p .jobs)
+  fewer h g k a s = fewer-windows p sound h g k a s
 
   -- ---- the verdict
 
@@ -37,7 +83,7 @@ module _ (p : Plan) (sound : Sound p) where
   settled-by m (noStrategy K) e h = absurd (let z : _≡_ {A = ℕ} 0 1 = cc in omega arith)
   settled-by m unsettled e h = absurd (let z : _≡_ {A = ℕ} 0 1 = cc in omega arith)
 
-  -- 'settled': from the beginning a strategy exists for every number of windows
+  -- 'settled': from the beginning a strategy exists for every number of windows.
   pub settled-means : (m : ℕ) → verdict p ≡ Settled m → StrategyForAll p
   settled-means m h = settled-by m (outcome p) refl h
 
@@ -46,6 +92,32 @@ module _ (p : Plan) (sound : Sound p) where
   none-by K (noStrategy k) e h = none-is p sound K (let g : outcome p ≡ noStrategy K = cc in g)
   none-by K unsettled e h = absurd (let z : _≡_ {A = ℕ} 0 1 = cc in omega arith)
 
-  -- 'no strategy', K: none for K windows, and one for every smaller number
+  -- 'no strategy', K: none for K windows, and one for every smaller number. Unsettled says neither.
   pub no-strategy-means : (K : ℕ) → verdict p ≡ NoStrategy K → (StrategyFor p K → ⊥) × ((k : ℕ) → k < K → StrategyFor p k)
   no-strategy-means K h = let r = none-by K (outcome p) refl h in (r .none, r .fewer)
+
+  -- ---- offers: of an accepted plan, in any run that kept to its offers
+
+  module _ (m : ℕ) (c : Rows) (accepted : outcome p ≡ settled m c) (r : Run) (h : History) (reached : Reached p (calendar p c) r h) where
+    -- The run waits for job i of window j; `last` is no premise.
+    module _ (j i : ℕ) (waits : r .phase ≡ Waiting j i) where
+      -- The offer is not empty.
+      pub offer-not-empty : offerOf p (calendar p c) r j i .from .0 ≤ℤ offerOf p (calendar p c) r j i .to .0
+      offer-not-empty = reached-some p sound m c accepted r h reached j i waits
+
+      -- t is on offer if and only if, after starting there, for this window (k = 0) and for each later one there is a strategy up to that window's end.
+      pub offer-exact : (t : ℤ) → OnOffer (offerOf p (calendar p c) r j i) t ↔ ((k : ℕ) → StrategyAfter p h t ((p .jobs - i) + k * p .jobs))
+      offer-exact t = reached-offer p sound m c accepted r h reached j i waits t
+
+      -- While the run lasts, the lower end of the offer, which is what `start=auto` takes, can be taken.
+      pub auto-taken : j ≤ p .last → stepped p (calendar p c) r (Start (At (offerOf p (calendar p c) r j i .from))) .answer
+          ≡ Started j i (offerOf p (calendar p c) r j i .from)
+      auto-taken lasts = reached-auto p sound m c accepted r h reached j i waits lasts
+
+    -- Refusal 11 is never given.
+    pub never-11 : opening p (calendar p c) r ≡ Shut refusal.EmptyOffer → ⊥
+    never-11 = reached-never-empty p sound m c accepted r h reached
+
+    -- The run has kept every bound.
+    pub all-kept : Kept p h
+    all-kept = reached-kept p sound m c accepted r h reached
