@@ -130,6 +130,11 @@ unfolding hasEvent
 hasEvent-shift zero k s = rw (zero-add, div-one)
 hasEvent-shift (suc gap) k s = rw (suc-add) (hasEvent-shift gap k (s / 2) ∙ rw (shift-suc))
 
+-- a bit that the code reads
+pub hasEvent-bit : (e s : ℕ) → hasEvent e s ≡ eqb (s / 2 ^ e % 2) 1
+unfolding hasEvent
+hasEvent-bit e s = ap (λ (k : ℕ). hasEvent k s) (sym (add-zero e)) ∙ hasEvent-shift e 0 s
+
 module _ (qs : List Probe) (cs : List ℤ) (at set e count : ℕ) (t : TermsFit qs set cs at e (count - e)) (l : e + trailingZeros 64 set < count) where
   pub termIn-fits : 0 < set → set < 2 ^ 64 → SFits w64 (termIn qs cs at (e + trailingZeros 64 set))
   termIn-fits p h =

@@ -9,4 +9,5 @@ pub mod Due
 pub mod EndLaws
 pub mod DueLaws
 pub mod StepLaws
+pub mod LimitLaws
 pub mod OfferLaws

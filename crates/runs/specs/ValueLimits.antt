@@ -61,16 +61,22 @@ isRun p r =
 abbrev pub isC : ℤ → Bool
 isC c = within leastC greatestC c
 
+-- event e is named, and its c is none of a bound
+abbrev pub isOut : ℕ → ℕ → ℤ → Bool
+isOut set e c = hasEvent e set && not (isC c)
+
 -- one side of job i: 'its bits name events of the previous window or of earlier jobs only', and each c that they name is a bound's
 unfoldable pub isSide : Plan → ℕ → ℕ → List ℤ → Bool
 isSide p i set cs =
     ltb set (2 ^ eventsBefore p i)
-    && not (anyBelow (eventsBefore p i) (λ e. hasEvent e set && not (isC (getD cs (i * mostEvents + e) (pos 0)))))
+    && not (anyBelow (eventsBefore p i) (λ e. isOut set e (getD cs (i * mostEvents + e) (pos 0))))
 
-unfoldable pub areTerms : Plan → Calendar → ℕ → Bool
-areTerms p c i =
-    let t = getD (c .terms) i noTerms in
-    isC (t .low .0) && isC (t .high .0) && isSide p i (t .below .0) (c .«at_least») && isSide p i (t .above .0) (c .«at_most»)
+-- the terms of job i, with the c of both sides
+unfoldable pub areTermsOf : Plan → ℕ → Terms → List ℤ → List ℤ → Bool
+areTermsOf p i t cs ds = isC (t .low .0) && isC (t .high .0) && isSide p i (t .below .0) cs && isSide p i (t .above .0) ds
+
+abbrev pub areTerms : Plan → Calendar → ℕ → Bool
+areTerms p c i = areTermsOf p i (getD (c .terms) i noTerms) (c .«at_least») (c .«at_most»)
 
 -- 'a calendar's low, high and c lie in the range of a bound's c', for each job of the plan
 unfoldable pub isCalendar : Plan → Calendar → Bool

@@ -1,9 +1,22 @@
-// The limits of what is handed over as a value.
+// The limits of a time, a run and a calendar that are handed over as values.
 
 use crate::LAST_TIME;
+use crate::MOST_TERMS;
+use crate::Phase;
+use crate::Probe;
+use crate::Run;
+use crate::Step;
 use clock::RunTime;
+use plan::MOST_JOBS;
+use plan::Plan;
+use rounds::Calendar;
+use rounds::MOST_EVENTS;
+use rounds::Terms;
 ghost use mathlib.Core.Path.{_≡_};
-ghost use Rattle.runs.specs.ValueLimits.{isTime};
+ghost use Prim.Native.Nat.{_-_, _≤_, _<_};
+ghost use lib.ListN.{take};
+ghost use Rattle.runs.specs.ValueLimits.{isTime, areTimes, isTurn, isPhase, jobOfPhase, isRun, isC, isOut, isSide, areTermsOf, isCalendar};
+ghost use Rattle.runs.specs.Steps.{isStep};
 
 // Whether a time is in 0..100,000,000,000,000,000.
 pub fn is_time(t: RunTime) -> bool
@@ -12,4 +25,236 @@ pub fn is_time(t: RunTime) -> bool
     let first = RunTime(0);
     let last = RunTime(LAST_TIME);
     clock::is_between(first, last, t)
+}
+
+// Whether the first count probes have times inside the limits.
+fn are_times(seen: [Probe; MOST_JOBS], count: usize) -> bool
+    ensures { λ r. ⌜ r ≡ areTimes (take count seen) ⌝ }
+{
+    let mut i: usize = 0;
+    while i < count {
+        if MOST_JOBS <= i {
+            return true;
+        }
+        let q = seen[i];
+        let start = q.start;
+        let finish = q.finish;
+        if !is_time(start) {
+            return false;
+        }
+        if !is_time(finish) {
+            return false;
+        }
+        i += 1;
+    }
+    true
+}
+
+// Whether window j and job i are those of a turn of the plan.
+fn is_turn(p: Plan, j: u64, i: usize) -> bool
+    ensures { λ r. ⌜ r ≡ isTurn p j i ⌝ }
+{
+    if j < 1 {
+        return false;
+    }
+    if p.last < j {
+        return false;
+    }
+    if i < 1 {
+        return false;
+    }
+    if p.jobs < i {
+        return false;
+    }
+    true
+}
+
+// Whether a phase is one of the plan's: at a turn, or waiting for job 1 past the last window.
+fn is_phase(p: Plan, phase: Phase) -> bool
+    ensures { λ r. ⌜ r ≡ isPhase p phase ⌝ }
+{
+    match phase {
+        Phase::Waiting { window, job } => {
+            if is_turn(p, window, job) {
+                return true;
+            }
+            if window < 1 {
+                return false;
+            }
+            let before = window - 1;
+            if before != p.last {
+                return false;
+            }
+            if job != 1 {
+                return false;
+            }
+            true
+        }
+        Phase::Running { window, job, start } => {
+            if is_turn(p, window, job) {
+                return is_time(start);
+            }
+            false
+        }
+    }
+}
+
+// How many jobs the present window has finished in a phase.
+fn jobs_done(phase: Phase) -> usize
+    ensures { λ r. ⌜ r ≡ jobOfPhase phase - 1 ⌝ }
+{
+    match phase {
+        Phase::Waiting { window: _, job } => {
+            if job < 1 {
+                return 0;
+            }
+            job - 1
+        }
+        Phase::Running {
+            window: _,
+            job,
+            start: _,
+        } => {
+            if job < 1 {
+                return 0;
+            }
+            job - 1
+        }
+    }
+}
+
+// Whether a run is one of the plan's: its phase, and every time that it has seen.
+pub fn is_run(p: Plan, run: Run) -> bool
+    ensures { λ r. ⌜ r ≡ isRun p run ⌝ }
+{
+    let phase = run.phase;
+    let present = run.present;
+    if !is_phase(p, phase) {
+        return false;
+    }
+    let done = jobs_done(phase);
+    if run.has_previous {
+        let previous = run.previous;
+        if !are_times(previous, p.jobs) {
+            return false;
+        }
+        return are_times(present, done);
+    }
+    are_times(present, done)
+}
+
+// Whether the time that a step brings with it is inside the limits.
+pub fn is_step(st: Step) -> bool
+    ensures { λ r. ⌜ r ≡ isStep st ⌝ }
+{
+    match st {
+        Step::Ask => true,
+        Step::Start(choice) => match choice {
+            crate::Choice::At(t) => is_time(t),
+            crate::Choice::Auto => true,
+        },
+        Step::Finish(t) => is_time(t),
+    }
+}
+
+// Whether a number is in the range of a bound's c.
+fn is_c(c: i64) -> bool
+    ensures { λ r. ⌜ r ≡ isC c ⌝ }
+{
+    if c < -1_000_000_000 {
+        return false;
+    }
+    if 1_000_000_000 < c {
+        return false;
+    }
+    true
+}
+
+// Whether event e is in the set and its c is in no bound's range.
+fn is_out(set: u64, e: usize, c: i32) -> bool
+    requires { ⌜ e < 64 ⌝ }
+    ensures { λ r. ⌜ r ≡ isOut set e c ⌝ }
+{
+    let rest = set >> e;
+    if rest % 2 != 1 {
+        return false;
+    }
+    let wide = c as i64;
+    if is_c(wide) {
+        return false;
+    }
+    true
+}
+
+// Whether one side of the job at place i names events before its start only, each with a c in range.
+fn is_side(p: Plan, i: usize, set: u64, cs: &[i32; MOST_TERMS]) -> bool
+    requires { ⌜ p .jobs ≤ 9 ⌝ }
+    requires { ⌜ i < 9 ⌝ }
+    ensures { λ r. ⌜ r ≡ isSide p i set (now (cs .entry)) ⌝ }
+{
+    let places = p.jobs + i;
+    let count = 2 * places;
+    let row = i * MOST_EVENTS;
+    let past = set >> count;
+    if past != 0 {
+        return false;
+    }
+    let mut e: usize = 0;
+    while e < count {
+        let place = row + e;
+        let c = cs[place];
+        if is_out(set, e, c) {
+            return false;
+        }
+        e += 1;
+    }
+    true
+}
+
+// Whether the terms of the job at place i are inside the limits, with the c of both sides.
+fn are_terms(
+    p: Plan,
+    i: usize,
+    t: Terms,
+    least: &[i32; MOST_TERMS],
+    most: &[i32; MOST_TERMS],
+) -> bool
+    requires { ⌜ p .jobs ≤ 9 ⌝ }
+    requires { ⌜ i < 9 ⌝ }
+    ensures { λ r. ⌜ r ≡ areTermsOf p i t (now (least .entry)) (now (most .entry)) ⌝ }
+{
+    let low = t.low;
+    let high = t.high;
+    let below = t.below;
+    let above = t.above;
+    if !is_c(low.0) {
+        return false;
+    }
+    if !is_c(high.0) {
+        return false;
+    }
+    if !is_side(p, i, below.0, least) {
+        return false;
+    }
+    is_side(p, i, above.0, most)
+}
+
+// Whether a calendar is inside the limits, for each job of the plan.
+pub fn is_calendar(p: Plan, c: Calendar) -> bool
+    requires { ⌜ p .jobs ≤ 9 ⌝ }
+    ensures { λ r. ⌜ r ≡ isCalendar p c ⌝ }
+{
+    let jobs = p.jobs;
+    let terms = c.terms;
+    let least = c.at_least;
+    let most = c.at_most;
+    let mut i: usize = 0;
+    while i < jobs {
+        let t = terms[i];
+        if !are_terms(p, i, t, &least, &most) {
+            return false;
+        }
+        i += 1;
+    }
+    true
 }

@@ -1,0 +1,206 @@
+-- The limits as the code looks at them, one place after the other.
+use Prim.Native.Nat.{ℕ, zero, suc, _+_, _*_, _-_, _/_, _^_, _≤_, _<_}
+use mathlib.Core.Path.{_≡_, refl, sym, ap, ap₂, _∙_}
+use mathlib.Core.Bool.{Bool, true, false, not, cond, _&&_, _||_}
+use mathlib.Core.List.{List, [], _∷_}
+use native.Mathlib.Nat.{div-eq-of-lt, le-div-iff-mul-le, add-zero, add-suc, suc-add, zero-add}
+use native.Mathlib.Numerals.{add-one}
+use native.Mathlib.Omega.{arith}
+use lib.Dec.{eqb, leb, ltb}
+use lib.IntN.{ℤ, pos}
+use lib.ListN.{getD, take, drop, length, drop-of-length-le}
+use lib.Pow.{pow-pos}
+use lib.Signed.{_≤ℤ_, _<ℤ_, leZ}
+use lib.Seq.{drop-cons, take-nil}
+use borrow.Author.Tests.{lt-ltb, le-ltb, leb-true, leb-false}
+use Rattle.whole.specs.Rules.{whole}
+use Rattle.clock.specs.declared.RunTime.{RunTime}
+use Rattle.bounds.specs.Tables.{anyBelow}
+use Rattle.plan.specs.declared.Plan.{Plan}
+use Rattle.plan.specs.Limits.{leastC, greatestC}
+use Rattle.rounds.specs.declared.Terms.{Terms}
+use Rattle.rounds.specs.declared.Calendar.{Calendar}
+use Rattle.rounds.specs.Calendars.{eventsBefore, mostEvents, noTerms}
+use Rattle.runs.specs.declared.Phase.{Phase}
+use Rattle.runs.specs.declared.Phase.the-variants.{Waiting, Running}
+use Rattle.runs.specs.declared.Probe.{Probe}
+use Rattle.runs.specs.declared.Run.{Run}
+use Rattle.runs.specs.Offers.{noProbe}
+use Rattle.runs.specs.ValueLimits.{isTime, areTimes, isTurn, isPhase, jobOfPhase, isRun, isC, isOut, isSide, areTermsOf, isCalendar}
+
+-- ---- times
+
+pub areTimes-more : (qs : List Probe) (count i : ℕ) → i < count → i < length qs
+    → areTimes (take (count - i) (drop i qs))
+    ≡ (isTime (getD qs i noProbe .start) && isTime (getD qs i noProbe .finish) && areTimes (take (count - (i + 1)) (drop (i + 1) qs)))
+unfolding areTimes
+areTimes-more qs count i h l =
+    let left : count - i ≡ suc (count - suc i) = omega arith in rw (left, drop-cons qs i noProbe l, add-one i)
+
+pub areTimes-past : (qs : List Probe) (n i : ℕ) → length qs ≤ i → areTimes (take n (drop i qs)) ≡ true
+unfolding areTimes
+areTimes-past qs n i h = rw (drop-of-length-le qs h, take-nil n)
+
+pub areTimes-none : (qs : List Probe) → areTimes (take 0 qs) ≡ true
+unfolding areTimes
+areTimes-none [] = refl
+areTimes-none (q ∷ qs) = refl
+
+-- ---- the phase
+
+or-no : (a b : Bool) → a ≡ false → (a || b) ≡ b
+or-no true b e = let z : _≡_ {A = ℕ} 0 1 = cc in absurd (omega arith)
+or-no false b e = refl
+
+or-yes : (a b : Bool) → a ≡ true → (a || b) ≡ true
+or-yes true b e = refl
+or-yes false b e = let z : _≡_ {A = ℕ} 0 1 = cc in absurd (omega arith)
+
+and-no : (a b : Bool) → a ≡ false → (a && b) ≡ false
+and-no true b e = let z : _≡_ {A = ℕ} 0 1 = cc in absurd (omega arith)
+and-no false b e = refl
+
+and-yes : (a b : Bool) → a ≡ true → (a && b) ≡ b
+and-yes true b e = refl
+and-yes false b e = let z : _≡_ {A = ℕ} 0 1 = cc in absurd (omega arith)
+
+module _ (p : Plan) (f : Phase) (j i : ℕ) where
+  pub isPhase-turn : f ≡ Waiting j i → isTurn p j i ≡ true → isPhase p f ≡ true
+  unfolding isPhase
+  isPhase-turn e h = rw (e) (or-yes (isTurn p j i) _ h)
+
+  pub isPhase-over : f ≡ Waiting j i → isTurn p j i ≡ false → isPhase p f ≡ (eqb j (p .last + 1) && eqb i 1)
+  unfolding isPhase
+  isPhase-over e h = rw (e) (or-no (isTurn p j i) _ h)
+
+  pub isPhase-running : (t : RunTime) → f ≡ Running j i t → isTurn p j i ≡ true → isPhase p f ≡ isTime t
+  unfolding isPhase
+  isPhase-running t e h = rw (e) (and-yes (isTurn p j i) _ h)
+
+  pub isPhase-never : (t : RunTime) → f ≡ Running j i t → isTurn p j i ≡ false → isPhase p f ≡ false
+  unfolding isPhase
+  isPhase-never t e h = rw (e) (and-no (isTurn p j i) _ h)
+
+-- ---- the run
+
+module _ (p : Plan) (r : Run) where
+  pub isRun-phase : isPhase p (r .phase) ≡ false → isRun p r ≡ false
+  unfolding isRun
+  isRun-phase h = rw (h)
+
+  pub isRun-first : isPhase p (r .phase) ≡ true → r .«has_previous» ≡ false
+      → isRun p r ≡ areTimes (take (jobOfPhase (r .phase) - 1) (r .present))
+  unfolding isRun
+  isRun-first h y = rw (h, y)
+
+  pub isRun-previous : isPhase p (r .phase) ≡ true → r .«has_previous» ≡ true → areTimes (take (p .jobs) (r .previous)) ≡ false → isRun p r ≡ false
+  unfolding isRun
+  isRun-previous h y n = rw (h, y, n)
+
+  pub isRun-later : isPhase p (r .phase) ≡ true → r .«has_previous» ≡ true → areTimes (take (p .jobs) (r .previous)) ≡ true
+      → isRun p r ≡ areTimes (take (jobOfPhase (r .phase) - 1) (r .present))
+  unfolding isRun
+  isRun-later h y n = rw (h, y, n)
+
+-- ---- whether some place below a number
+
+unfoldable pub anyFrom : (ℕ → Bool) → ℕ → ℕ → Bool
+anyFrom f e zero = false
+anyFrom f e (suc n) = f e || anyFrom f (suc e) n
+
+anyBelow-same : (n : ℕ) (f g : ℕ → Bool) → ((k : ℕ) → f k ≡ g k) → anyBelow n f ≡ anyBelow n g
+unfolding anyBelow
+anyBelow-same zero f g h = refl
+anyBelow-same (suc n) f g h = ap₂ (λ (a b : Bool). a || b) (h 0) (anyBelow-same n (λ k. f (suc k)) (λ k. g (suc k)) (λ k. h (suc k)))
+
+anyBelow-from : (f : ℕ → Bool) (n e : ℕ) → anyBelow n (λ k. f (e + k)) ≡ anyFrom f e n
+unfolding anyBelow anyFrom
+anyBelow-from f zero e = refl
+anyBelow-from f (suc n) e =
+    ap₂ (λ (a b : Bool). a || b) (ap f (add-zero e))
+    (anyBelow-same n (λ k. f (e + suc k)) (λ k. f (suc e + k)) (λ k. ap f (add-suc e k ∙ sym (suc-add e k))) ∙ anyBelow-from f n (suc e))
+
+pub anyFrom-is : (f : ℕ → Bool) (n : ℕ) → anyBelow n f ≡ anyFrom f 0 n
+anyFrom-is f n = anyBelow-same n f (λ k. f (0 + k)) (λ k. ap f (sym (zero-add k))) ∙ anyBelow-from f n 0
+
+module _ (f : ℕ → Bool) where
+  pub anyFrom-more : (n e : ℕ) → e < n → f e ≡ false → anyFrom f e (n - e) ≡ anyFrom f (e + 1) (n - (e + 1))
+  unfolding anyFrom
+  anyFrom-more n e h y = let left : n - e ≡ suc (n - suc e) = omega arith in rw (left, add-one e, y)
+
+  pub anyFrom-found : (n e : ℕ) → e < n → f e ≡ true → anyFrom f e (n - e) ≡ true
+  unfolding anyFrom
+  anyFrom-found n e h y = let left : n - e ≡ suc (n - suc e) = omega arith in rw (left, y)
+
+  pub anyFrom-none : (n e : ℕ) → n ≤ e → anyFrom f e (n - e) ≡ false
+  unfolding anyFrom
+  anyFrom-none n e h = let left : n - e ≡ 0 = omega arith in rw (left)
+
+-- ---- one side of a job
+
+module _ (c : ℤ) where
+  pub isC-low : c <ℤ leastC → isC c ≡ false
+  isC-low h = let l : leZ leastC c ≡ false = omega whole in rw (l)
+
+  pub isC-high : leastC ≤ℤ c → greatestC <ℤ c → isC c ≡ false
+  isC-high g h = let l : leZ leastC c ≡ true = omega whole in let k : leZ c greatestC ≡ false = omega whole in rw (l, k)
+
+  pub isC-in : leastC ≤ℤ c → c ≤ℤ greatestC → isC c ≡ true
+  isC-in g h = let l : leZ leastC c ≡ true = omega whole in let k : leZ c greatestC ≡ true = omega whole in rw (l, k)
+
+-- a set that has a bit past so many events
+pub shift-some : (set count : ℕ) → (set / 2 ^ count ≡ 0 → ⊥) → 2 ^ count ≤ set
+shift-some set count h = go (leb (2 ^ count) set) refl
+  where
+    go : (b : Bool) → leb (2 ^ count) set ≡ b → 2 ^ count ≤ set
+    go true e = leb-true (2 ^ count) set e
+    go false e = absurd (h (div-eq-of-lt (leb-false (2 ^ count) set e)))
+
+pub shift-none : (set count : ℕ) → set / 2 ^ count ≡ 0 → set < 2 ^ count
+shift-none set count h = go (leb (2 ^ count) set) refl
+  where
+    go : (b : Bool) → leb (2 ^ count) set ≡ b → set < 2 ^ count
+    go true e = let p : 1 ≤ set / 2 ^ count = le-div-iff-mul-le (pow-pos count) .1 (omega (arith, leb-true (2 ^ count) set e)) in absurd (omega arith)
+    go false e = leb-false (2 ^ count) set e
+
+-- whether something is wrong with event e
+abbrev pub outAt : ℕ → ℕ → List ℤ → ℕ → Bool
+outAt i set cs e = isOut set e (getD cs (i * mostEvents + e) (pos 0))
+
+module _ (p : Plan) (i set : ℕ) (cs : List ℤ) where
+  pub isSide-past : 2 ^ eventsBefore p i ≤ set → isSide p i set cs ≡ false
+  unfolding isSide
+  isSide-past h = rw (le-ltb set (2 ^ eventsBefore p i) h)
+
+  pub isSide-walk : set < 2 ^ eventsBefore p i → (b : Bool) → anyFrom (outAt i set cs) 0 (eventsBefore p i) ≡ b → isSide p i set cs ≡ not b
+  unfolding isSide
+  isSide-walk h b e = rw (lt-ltb set (2 ^ eventsBefore p i) h, anyFrom-is (outAt i set cs) (eventsBefore p i) ∙ e)
+
+-- ---- the calendar
+
+module _ (p : Plan) (i : ℕ) (t : Terms) (cs ds : List ℤ) where
+  pub areTermsOf-low : isC (t .low .0) ≡ false → areTermsOf p i t cs ds ≡ false
+  unfolding areTermsOf
+  areTermsOf-low a = rw (a)
+
+  pub areTermsOf-high : isC (t .low .0) ≡ true → isC (t .high .0) ≡ false → areTermsOf p i t cs ds ≡ false
+  unfolding areTermsOf
+  areTermsOf-high a b = rw (a, b)
+
+  pub areTermsOf-below : isC (t .low .0) ≡ true → isC (t .high .0) ≡ true → isSide p i (t .below .0) cs ≡ false → areTermsOf p i t cs ds ≡ false
+  unfolding areTermsOf
+  areTermsOf-below a b k = rw (a, b, k)
+
+  pub areTermsOf-above : isC (t .low .0) ≡ true → isC (t .high .0) ≡ true → isSide p i (t .below .0) cs ≡ true
+      → areTermsOf p i t cs ds ≡ isSide p i (t .above .0) ds
+  unfolding areTermsOf
+  areTermsOf-above a b k = rw (a, b, k)
+
+-- whether the terms of job i are outside the limits
+abbrev pub termsOut : Plan → List Terms → List ℤ → List ℤ → ℕ → Bool
+termsOut p ts cs ds i = not (areTermsOf p i (getD ts i noTerms) cs ds)
+
+pub isCalendar-walk : (p : Plan) (c : Calendar) (b : Bool) → anyFrom (termsOut p (c .terms) (c .«at_least») (c .«at_most»)) 0 (p .jobs) ≡ b
+    → isCalendar p c ≡ not b
+unfolding isCalendar
+isCalendar-walk p c b e = rw (anyFrom-is (termsOut p (c .terms) (c .«at_least») (c .«at_most»)) (p .jobs) ∙ e)
