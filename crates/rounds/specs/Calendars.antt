@@ -51,9 +51,12 @@ fromBelow t s e = at t s (nodeOfEvent e)
 abbrev pub fromAbove : Rows → ℕ → ℕ → Cell
 fromAbove t s e = at t (nodeOfEvent e) s
 
--- how many events come before the start at a place of the next window
+-- how many events come before the start at a place of the next window, by the count of jobs
+abbrev pub eventsAhead : ℕ → ℕ → ℕ
+eventsAhead jobs i = 2 * (jobs + i)
+
 abbrev pub eventsBefore : Plan → ℕ → ℕ
-eventsBefore p i = 2 * (p .jobs + i)
+eventsBefore p i = eventsAhead (p .jobs) i
 
 -- the terms of job i: the origin's bounds are put back on the window's own clock
 unfoldable pub termsOf : Plan → ℕ → Rows → Terms

@@ -9,3 +9,5 @@ pub mod CalendarText
 -- ---- laws
 pub mod SameLaws
 pub mod BitsLaws
+pub mod LeftLaws
+pub mod CalendarTextLaws

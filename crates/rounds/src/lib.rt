@@ -36,3 +36,6 @@ pub struct Calendar {
 }
 
 mod bits;
+mod print;
+
+pub use print::put_calendar;
