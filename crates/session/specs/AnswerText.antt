@@ -8,6 +8,7 @@ use Rattle.text.specs.Bytes.{bytes}
 use Rattle.text.specs.Lines.{LF, comma}
 use Rattle.text.specs.Numbers.{decimal, digits}
 use Rattle.plan.specs.Refusals.{refusedLine, ends}
+use Rattle.runs.specs.declared.Offer.{Offer}
 use Rattle.runs.specs.declared.Answer.{Answer}
 use Rattle.runs.specs.declared.Answer.the-variants.{Offered, Started, Final, Refused}
 
@@ -15,8 +16,12 @@ use Rattle.runs.specs.declared.Answer.the-variants.{Offered, Started, Final, Re
 abbrev pub turnText : ℕ → ℕ → ℤ → List ℕ
 turnText j i t = digits j ++ (comma ∷ (digits i ++ (comma ∷ (decimal t ++ (LF ∷ [])))))
 
+-- an offer's two ends
+abbrev pub offerLine : Offer → List ℕ
+offerLine o = bytes "offer=" ++ (decimal (o .from .0) ++ (comma ∷ (decimal (o .to .0) ++ (LF ∷ []))))
+
 unfoldable pub answerLine : Answer → List ℕ
-answerLine (Offered o) = bytes "offer=" ++ (decimal (o .from .0) ++ (comma ∷ (decimal (o .to .0) ++ (LF ∷ []))))
+answerLine (Offered o) = offerLine o
 answerLine (Started j i t) = bytes "started=" ++ turnText j i (t .0)
 answerLine (Final j i t) = bytes "final=" ++ turnText j i (t .0)
 answerLine (Refused x) = refusedLine x

@@ -1,5 +1,8 @@
 -- Sessions, as document 01 has them. In reading order: steps read, answers printed, and the dispatch program's output. These files are
--- definitions alone.
+-- definitions alone; the laws stand after them.
 pub mod StepRead
 pub mod AnswerText
 pub mod Sessions
+-- ---- laws
+pub mod StepReadLaws
+pub mod AnswerTextLaws

@@ -38,13 +38,21 @@ timed f (number.Bad x) = Bad x
 abbrev pub timeIn : List ℕ → Number
 timeIn s = numberIn (pos 0) lastTime s
 
+-- what follows `finish=`
+unfoldable pub finishIn : List ℕ → StepLine
+finishIn s = timed Finish (timeIn s)
+
 unfoldable pub finishStep : Option (List ℕ) → StepLine
 finishStep none = Bad fault.Form
-finishStep (some s) = timed Finish (timeIn s)
+finishStep (some s) = finishIn s
+
+-- what follows `start=`
+unfoldable pub startIn : List ℕ → StepLine
+startIn s = cond (isText (bytes "auto") s) (Value (Start Auto)) (timed (λ t. Start (At t)) (timeIn s))
 
 unfoldable pub startStep : List ℕ → Option (List ℕ) → StepLine
 startStep l none = finishStep (afterKey (bytes "finish=") l)
-startStep l (some s) = cond (isText (bytes "auto") s) (Value (Start Auto)) (timed (λ t. Start (At t)) (timeIn s))
+startStep l (some s) = startIn s
 
 unfoldable pub stepIn : List ℕ → StepLine
 stepIn l = cond (isText (bytes "ask=offer") l) (Value Ask) (startStep l (afterKey (bytes "start=") l))

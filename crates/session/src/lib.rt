@@ -3,8 +3,16 @@
 use runs::Step;
 use text::Fault;
 
+// The last time that a step can name.
+const LAST_TIME: i64 = 100_000_000_000_000_000;
+
 // A step line as it was read: the step, or what the line lacks.
 pub enum StepLine {
     Value(Step),
     Bad(Fault),
 }
+
+mod print;
+mod read;
+
+pub use read::read_step;

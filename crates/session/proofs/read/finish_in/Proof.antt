@@ -1,0 +1,30 @@
+-- `finish_in`: by `timed-value` and `timed-bad`.
+use mathlib.Core.Path.{sym, _∙_}
+use denote.Ref.{now}
+use Rattle.runs.specs.declared.Step.the-variants.{Finish}
+use Rattle.session.specs.StepRead.{finishIn}
+use Rattle.session.specs.StepReadLaws.{timed-value, timed-bad}
+use borrow.Author.Needs.{needs}
+use Rattle.session.proofs.read.finish_in.Statement.{statement}
+use Rattle.session.proofs.read.finish_in.Tie as tie
+
+read-number-requires : tie.Need-read-number-requires
+read-number-requires c κs = search needs
+
+enum-known-n : tie.Need-enum-known-n
+enum-known-n c = search needs
+
+enum-known-n-2 : tie.Need-enum-known-n-2
+enum-known-n-2 c = search needs
+
+returns : tie.Need-returns
+unfolding finishIn
+returns c = sym (timed-value Finish (now (c .before .before .before .before .before .args .s)) _ (sym (c .before .before .before .read-number .ensures) ∙ c .before .n .given .1))
+
+returns-2 : tie.Need-returns-2
+unfolding finishIn
+returns-2 c = sym (timed-bad Finish (now (c .before .before .before .before .before .args .s)) _ (sym (c .before .before .before .read-number .ensures) ∙ c .before .n2 .given .1))
+
+pub finish-in-spec : {M : Type 1} → statement M
+finish-in-spec =
+    tie.close (tie.spec read-number-requires enum-known-n enum-known-n-2 returns returns-2)

@@ -1,0 +1,75 @@
+// Answer lines, written into a lent slice: each writer stores its line from a place on, as far as there is room, and answers the place behind it.
+use clock::RunTime;
+use runs::Offer;
+ghost use mathlib.Core.Path.{_≡_};
+ghost use mathlib.Core.List.{[], _∷_, _++_};
+ghost use Prim.Native.Nat.{_+_, _^_, _≤_};
+ghost use Rattle.text.specs.Bytes.{bytes};
+ghost use Rattle.text.specs.Numbers.{digits, decimal};
+ghost use Rattle.text.specs.Lent.{Stored};
+ghost use Rattle.session.specs.AnswerText.{turnText, offerLine};
+
+// The digits of n, and the byte behind them.
+fn put_ended_count(out: &mut [u8], at: usize, n: u64, end: u8) -> usize
+    requires { ⌜ at ≤ 2 ^ 61 ⌝ }
+    ensures { λ r. ⌜ Stored (now (out .entry)) at (digits n ++ (end ∷ [])) (now (out .exit)) r ⌝ }
+    ensures { λ r. ⌜ r ≤ at + 21 ⌝ }
+{
+    let behind = text::put_count(out, at, n);
+    text::put_byte(out, behind, end)
+}
+
+// A time, and the byte behind it.
+fn put_ended_time(out: &mut [u8], at: usize, t: RunTime, end: u8) -> usize
+    requires { ⌜ at ≤ 2 ^ 61 ⌝ }
+    ensures { λ r. ⌜ Stored (now (out .entry)) at (decimal (t .0) ++ (end ∷ [])) (now (out .exit)) r ⌝ }
+    ensures { λ r. ⌜ r ≤ at + 21 ⌝ }
+{
+    let time = t.0;
+    let behind = text::put_number(out, at, time);
+    text::put_byte(out, behind, end)
+}
+
+// Window, job and time, up to the line's end.
+fn put_turn(out: &mut [u8], at: usize, j: u64, i: usize, t: RunTime) -> usize
+    requires { ⌜ at ≤ 2 ^ 60 ⌝ }
+    ensures { λ r. ⌜ Stored (now (out .entry)) at (turnText j i (t .0)) (now (out .exit)) r ⌝ }
+    ensures { λ r. ⌜ r ≤ at + 63 ⌝ }
+{
+    let job = put_ended_count(out, at, j, b',');
+    let time = put_ended_count(out, job, i as u64, b',');
+    put_ended_time(out, time, t, b'\n')
+}
+
+// The line of an offer.
+fn put_offered(out: &mut [u8], at: usize, o: Offer) -> usize
+    requires { ⌜ at ≤ 2 ^ 60 ⌝ }
+    ensures { λ r. ⌜ Stored (now (out .entry)) at (offerLine o) (now (out .exit)) r ⌝ }
+    ensures { λ r. ⌜ r ≤ at + 71 ⌝ }
+{
+    let from = o.from;
+    let to = o.to;
+    let first = text::put_bytes(out, at, b"offer=");
+    let second = put_ended_time(out, first, from, b',');
+    put_ended_time(out, second, to, b'\n')
+}
+
+// The line of a start.
+fn put_started(out: &mut [u8], at: usize, j: u64, i: usize, t: RunTime) -> usize
+    requires { ⌜ at ≤ 2 ^ 59 ⌝ }
+    ensures { λ r. ⌜ Stored (now (out .entry)) at (bytes "started=" ++ turnText j i (t .0)) (now (out .exit)) r ⌝ }
+    ensures { λ r. ⌜ r ≤ at + 71 ⌝ }
+{
+    let turn = text::put_bytes(out, at, b"started=");
+    put_turn(out, turn, j, i, t)
+}
+
+// The line of a finish.
+fn put_final(out: &mut [u8], at: usize, j: u64, i: usize, t: RunTime) -> usize
+    requires { ⌜ at ≤ 2 ^ 59 ⌝ }
+    ensures { λ r. ⌜ Stored (now (out .entry)) at (bytes "final=" ++ turnText j i (t .0)) (now (out .exit)) r ⌝ }
+    ensures { λ r. ⌜ r ≤ at + 71 ⌝ }
+{
+    let turn = text::put_bytes(out, at, b"final=");
+    put_turn(out, turn, j, i, t)
+}

@@ -1,0 +1,61 @@
+// A step line, read.
+use crate::LAST_TIME;
+use crate::StepLine;
+use clock::RunTime;
+use runs::Choice;
+use runs::Step;
+use text::Fault;
+use text::Number;
+ghost use mathlib.Core.Path.{_≡_};
+ghost use Rattle.session.specs.StepRead.{isText, startIn, finishIn, stepIn};
+
+// Whether l is just the text t.
+fn is_text(l: &[u8], t: &[u8]) -> bool
+    ensures { λ r. ⌜ r ≡ isText (now (t .entry)) (now (l .entry)) ⌝ }
+{
+    if l.len() == t.len() {
+        return text::has_key(l, t);
+    }
+    false
+}
+
+// What follows `start=`: `auto`, or a time.
+fn start_in(s: &[u8]) -> StepLine
+    ensures { λ r. ⌜ r ≡ startIn (now (s .entry)) ⌝ }
+{
+    if is_text(s, b"auto") {
+        return StepLine::Value(Step::Start(Choice::Auto));
+    }
+    let n = text::read_number(s, 0, LAST_TIME);
+    match n {
+        Number::Value(t) => StepLine::Value(Step::Start(Choice::At(RunTime(t)))),
+        Number::Bad(f) => StepLine::Bad(f),
+    }
+}
+
+// What follows `finish=`: a time.
+fn finish_in(s: &[u8]) -> StepLine
+    ensures { λ r. ⌜ r ≡ finishIn (now (s .entry)) ⌝ }
+{
+    let n = text::read_number(s, 0, LAST_TIME);
+    match n {
+        Number::Value(t) => StepLine::Value(Step::Finish(RunTime(t))),
+        Number::Bad(f) => StepLine::Bad(f),
+    }
+}
+
+// The step that l is the line of, without its LF.
+pub fn read_step(l: &[u8]) -> StepLine
+    ensures { λ r. ⌜ r ≡ stepIn (now (l .entry)) ⌝ }
+{
+    if is_text(l, b"ask=offer") {
+        return StepLine::Value(Step::Ask);
+    }
+    if text::has_key(l, b"start=") {
+        return start_in(&l[6..]);
+    }
+    if text::has_key(l, b"finish=") {
+        return finish_in(&l[7..]);
+    }
+    StepLine::Bad(Fault::Form)
+}
