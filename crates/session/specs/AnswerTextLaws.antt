@@ -1,5 +1,6 @@
 -- The laws of answers, printed.
--- A line is stored part by part: window, job and time (`turnText-stored`), an offer's two ends (`offerLine-stored`). A number of 64 bits and the byte behind it
+-- A line is stored part by part: window, job and time (`turnText-stored`), an offer's two ends (`offerLine-stored`), a refusal's two
+-- numbers (`refusedLine-stored`). A number of 64 bits and the byte behind it
 -- move the place by at most 21 (`count-near`, `time-near`).
 
 use Prim.Native.Nat.{ℕ, _+_, _^_, _≤_, _<_}
@@ -17,6 +18,8 @@ use Rattle.text.specs.DigitLaws.{digits-short}
 use Rattle.text.specs.NumberLaws.{decimal-short}
 use Rattle.text.specs.Lent.{Stored}
 use Rattle.text.specs.LentLaws.{stored-append}
+use Rattle.plan.specs.declared.Refusal.{Refusal}
+use Rattle.plan.specs.Refusals.{number, value, refusedLine}
 use Rattle.runs.specs.declared.Offer.{Offer}
 use Rattle.session.specs.AnswerText.{turnText, offerLine}
 
@@ -44,3 +47,11 @@ module _ {out out′ out″ out‴ : List ℕ} {at at′ at″ at‴ : ℕ} wher
   offerLine-stored o p q r =
       let e : (decimal (o .from .0) ++ (comma ∷ [])) ++ (decimal (o .to .0) ++ (LF ∷ [])) ≡ decimal (o .from .0) ++ (comma ∷ (decimal (o .to .0) ++ (LF ∷ []))) = simp append-assoc in
       stored-append p (rw e at (stored-append q r))
+
+  pub refusedLine-stored : (x : Refusal) {n d : ℕ} → n ≡ number x → d ≡ value x
+      → Stored out at (bytes "refused=") out′ at′ → Stored out′ at′ (digits n ++ (comma ∷ [])) out″ at″ → Stored out″ at″ (digits d ++ (LF ∷ [])) out‴ at‴
+      → Stored out at (refusedLine x) out‴ at‴
+  unfolding refusedLine
+  refusedLine-stored x {n} {d} a b p q r =
+      let e : (digits n ++ (comma ∷ [])) ++ (digits d ++ (LF ∷ [])) ≡ digits n ++ (comma ∷ (digits d ++ (LF ∷ []))) = simp append-assoc in
+      rw (← a, ← b) (stored-append p (rw e at (stored-append q r)))

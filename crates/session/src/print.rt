@@ -1,5 +1,7 @@
 // Answer lines, written into a lent slice: each writer stores its line from a place on, as far as there is room, and answers the place behind it.
 use clock::RunTime;
+use plan::Refusal;
+use runs::Answer;
 use runs::Offer;
 ghost use mathlib.Core.Path.{_≡_};
 ghost use mathlib.Core.List.{[], _∷_, _++_};
@@ -7,7 +9,8 @@ ghost use Prim.Native.Nat.{_+_, _^_, _≤_};
 ghost use Rattle.text.specs.Bytes.{bytes};
 ghost use Rattle.text.specs.Numbers.{digits, decimal};
 ghost use Rattle.text.specs.Lent.{Stored};
-ghost use Rattle.session.specs.AnswerText.{turnText, offerLine};
+ghost use Rattle.plan.specs.Refusals.{refusedLine};
+ghost use Rattle.session.specs.AnswerText.{turnText, offerLine, answerLine, endsSession};
 
 // The digits of n, and the byte behind them.
 fn put_ended_count(out: &mut [u8], at: usize, n: u64, end: u8) -> usize
@@ -72,4 +75,55 @@ fn put_final(out: &mut [u8], at: usize, j: u64, i: usize, t: RunTime) -> usize
 {
     let turn = text::put_bytes(out, at, b"final=");
     put_turn(out, turn, j, i, t)
+}
+
+// The line of a refusal.
+pub fn put_refused(out: &mut [u8], at: usize, x: Refusal) -> usize
+    requires { ⌜ at ≤ 2 ^ 59 ⌝ }
+    ensures { λ r. ⌜ Stored (now (out .entry)) at (refusedLine x) (now (out .exit)) r ⌝ }
+    ensures { λ r. ⌜ r ≤ at + 71 ⌝ }
+{
+    let number = plan::number(x);
+    let value = plan::value(x);
+    let first = text::put_bytes(out, at, b"refused=");
+    let second = put_ended_count(out, first, number, b',');
+    put_ended_count(out, second, value, b'\n')
+}
+
+// The line of an answer.
+pub fn put_answer(out: &mut [u8], at: usize, a: Answer) -> usize
+    requires { ⌜ at ≤ 2 ^ 59 ⌝ }
+    ensures { λ r. ⌜ Stored (now (out .entry)) at (answerLine a) (now (out .exit)) r ⌝ }
+    ensures { λ r. ⌜ r ≤ at + 71 ⌝ }
+{
+    match a {
+        Answer::Offered(o) => put_offered(out, at, o),
+        Answer::Started { window, job, start } => put_started(out, at, window, job, start),
+        Answer::Final {
+            window,
+            job,
+            finish,
+        } => put_final(out, at, window, job, finish),
+        Answer::Refused(x) => put_refused(out, at, x),
+    }
+}
+
+// Whether an answer is the last one of its session.
+pub fn ends_session(a: Answer) -> bool
+    ensures { λ r. ⌜ r ≡ endsSession a ⌝ }
+{
+    match a {
+        Answer::Offered(_) => false,
+        Answer::Started {
+            window: _,
+            job: _,
+            start: _,
+        } => false,
+        Answer::Final {
+            window: _,
+            job: _,
+            finish: _,
+        } => false,
+        Answer::Refused(x) => plan::ends(x),
+    }
 }
