@@ -1,7 +1,7 @@
 -- The laws of a bound line as the code takes it apart. A name up to its comma (`nameTo-bare`, `nameTo-read`), at a place in the line (`nameTo-fits`); the
--- two names and the number are the line's parts (`namesIn-parts`); the judgement, test by test (`judgedBound-range`, `-pair`, `-value`).
-use mathlib.Core.Path.{_≡_, refl, sym, _∙_, ap}
-use mathlib.Core.Bool.{Bool, true, false, cond, _&&_}
+-- two names and the number are the line's parts (`namesIn-parts`); the judgement, test by test (`judgedBound-range`, `-pair`, `-value`), and of the whole line (`boundOf-bare`, `-value`, `-fault`).
+use mathlib.Core.Path.{_≡_, refl, sym, _∙_, ap, subst}
+use mathlib.Core.Bool.{Bool, true, false, not, cond, _&&_}
 use mathlib.Core.List.{List}
 use mathlib.Core.Option.{Option, none, some}
 use Prim.Native.Nat.{ℕ, _+_, _≤_, _<_}
@@ -12,8 +12,12 @@ use lib.Seq.{drop-drop}
 use native.Mathlib.Nat.{add-assoc}
 use Rattle.text.specs.Bytes.{bytes}
 use Rattle.text.specs.Lines.{comma, lenTo, before, has, after, afterKey, hasKey}
-use Rattle.text.specs.LineLaws.{hasKey-true, hasKey-false}
-use Rattle.text.specs.Numbers.{within}
+use Rattle.text.specs.LineLaws.{hasKey-true, hasKey-false, hasKey-fits}
+use Rattle.text.specs.NumberLaws.{decimal-form, decimal-back, numberIn-value}
+use lib.IntN.{ℤ}
+use Rattle.text.specs.Numbers.{within, isNumber, numberValue, numberIn, numberWithin, decimal}
+use Rattle.text.specs.declared.Fault.{Fault}
+use Rattle.text.specs.declared.Number.the-variants as number
 use Rattle.text.specs.declared.Fault.the-variants as fault
 use Rattle.plan.specs.declared.EventName.{EventName}
 use Rattle.plan.specs.declared.NameRead.{NameRead}
@@ -26,7 +30,7 @@ use Rattle.plan.specs.declared.Bound.{Bound}
 use Rattle.plan.specs.declared.BoundLine.the-variants as boundLine
 use Rattle.plan.specs.Limits.{leastC, greatestC}
 use Rattle.plan.specs.EventNames.{eventName, nameRead}
-use Rattle.plan.specs.PlanRead.{BoundParts, partsOf, boundParts, isJob, judgedBound}
+use Rattle.plan.specs.PlanRead.{BoundParts, partsOf, boundParts, isJob, judgedBound, boundOf}
 use Rattle.plan.specs.BoundNames.{partNamed, nameTo, withSecond, withFirst, namesIn}
 
 -- ---- a name up to its comma
@@ -126,3 +130,59 @@ module _ (jobs : ℕ) (isWrong : EventName → EventName → Bool) (d : Bound) w
 
   pub judgedBound-value : isJob jobs (d .a .job) && isJob jobs (d .b .job) && within leastC greatestC (d .c) ≡ true → isWrong (d .a) (d .b) ≡ false → judgedBound jobs isWrong d ≡ boundLine.Value d
   judgedBound-value h w = rw (h, w)
+
+-- ---- the line, way by way
+
+pub namesIn-fits : (l : List ℕ) {a b : EventName} {at : ℕ} → namesIn l ≡ boundNames.Value a b at → at ≤ length l
+unfolding namesIn bytes
+namesIn-fits l {a} {b} {at} e = by-key (hasKey (bytes "bound=") l) refl e
+  where
+    by-second : (x : EventName) (k : ℕ) → k ≤ length l → (m : NamePart) → nameTo l k ≡ m → withSecond x m ≡ boundNames.Value a b at → at ≤ length l
+    by-second x k h (namePart.Value y i) p d = let q : i ≡ at = cc in subst (λ n. n ≤ length l) q (nameTo-fits l k h p)
+    by-second x k h namePart.Bad p d = absurd (let z : _≡_ {A = ℕ} 0 1 = cc in omega arith)
+
+    by-first : 6 ≤ length l → (m : NamePart) → nameTo l 6 ≡ m → withFirst l m ≡ boundNames.Value a b at → at ≤ length l
+    by-first h (namePart.Value x k) p d = by-second x k (nameTo-fits l 6 h p) (nameTo l k) refl d
+    by-first h namePart.Bad p d = absurd (let z : _≡_ {A = ℕ} 0 1 = cc in omega arith)
+
+    by-key : (t : Bool) → hasKey (bytes "bound=") l ≡ t → cond t (withFirst l (nameTo l 6)) boundNames.Bad ≡ boundNames.Value a b at → at ≤ length l
+    by-key true h d = by-first (hasKey-fits (bytes "bound=") l h) (nameTo l 6) refl d
+    by-key false h d = absurd (let z : _≡_ {A = ℕ} 0 1 = cc in omega arith)
+
+module _ (jobs : ℕ) (isWrong : EventName → EventName → Bool) (l : List ℕ) where
+  pub boundOf-bare : namesIn l ≡ boundNames.Bad → boundOf jobs isWrong (boundParts (afterKey (bytes "bound=") l)) ≡ boundLine.Bad fault.Form
+  unfolding boundOf
+  boundOf-bare e = ap (boundOf jobs isWrong) (namesIn-parts l ∙ ap (partsFrom l) e)
+
+  module _ {a b : EventName} {at : ℕ} (e : namesIn l ≡ boundNames.Value a b at) where
+    pub boundOf-value : {z : ℤ} → numberIn leastC greatestC (drop at l) ≡ number.Value z → boundOf jobs isWrong (boundParts (afterKey (bytes "bound=") l)) ≡ judgedBound jobs isWrong (record { a = a; b = b; c = z })
+    unfolding boundOf
+    boundOf-value {z} d =
+        let w = numberIn-value leastC greatestC z (drop at l) d .1 in
+        ap (boundOf jobs isWrong) (namesIn-parts l ∙ ap (partsFrom l) e ∙ ap (partsOf (some a) (some b)) w ∙ formed)
+        ∙ ap (λ (c : ℤ). judgedBound jobs isWrong (record { a = a; b = b; c = c })) (decimal-back z)
+      where
+        formed : partsOf (some a) (some b) (decimal z) ≡ some (record { a = a; b = b; c = decimal z })
+        formed = rw (decimal-form z)
+
+    pub boundOf-fault : {f : Fault} → numberIn leastC greatestC (drop at l) ≡ number.Bad f → boundOf jobs isWrong (boundParts (afterKey (bytes "bound=") l)) ≡ boundLine.Bad f
+    unfolding boundOf numberIn
+    boundOf-fault {f} d = ap (boundOf jobs isWrong) (namesIn-parts l ∙ ap (partsFrom l) e) ∙ by-form (isNumber (drop at l)) refl d
+      where
+        c : List ℕ
+        c = drop at l
+
+        none-in : (x y : Bool) → not (x && y && false) ≡ true
+        none-in true true = refl
+        none-in true false = refl
+        none-in false y = refl
+
+        by-range : (t : Bool) → within leastC greatestC (numberValue c) ≡ t → cond t (number.Value (numberValue c)) (number.Bad fault.Range) ≡ number.Bad f
+            → judgedBound jobs isWrong (record { a = a; b = b; c = numberValue c }) ≡ boundLine.Bad f
+        by-range true h g = absurd (let z : _≡_ {A = ℕ} 0 1 = cc in omega arith)
+        by-range false h g = rw (h, none-in (isJob jobs (a .job)) (isJob jobs (b .job))) (ap boundLine.Bad {x = fault.Range} {y = f} (cc))
+
+        by-form : (t : Bool) → isNumber c ≡ t → cond t (numberWithin leastC greatestC (numberValue c)) (number.Bad fault.Form) ≡ number.Bad f
+            → boundOf jobs isWrong (cond t (some (record { a = a; b = b; c = c })) none) ≡ boundLine.Bad f
+        by-form true h g = by-range (within leastC greatestC (numberValue c)) refl g
+        by-form false h g = ap boundLine.Bad {x = fault.Form} {y = f} (cc)

@@ -1,6 +1,6 @@
 -- The loop over the jobs' lines: `JobsPassed` is what holds after i jobs, at the beginning (`JobsPassed-start`), after one more (`-past`), at a fault (`-stop`) and at
 -- the end (`-end`).
-use mathlib.Core.Path.{_≡_, refl, sym, _∙_, ap, subst}
+use mathlib.Core.Path.{_≡_, refl, sym, _∙_, ap}
 use mathlib.Core.List.{List, [], _∷_, _++_}
 use Prim.Native.Nat.{ℕ, suc, _+_, _*_, _-_, _≤_, _<_}
 use native.Mathlib.Nat.{sub-zero}
@@ -11,7 +11,7 @@ use lib.Seq.{take-suc-set}
 use Rattle.plan.specs.declared.Job.{Job}
 use Rattle.plan.specs.declared.Faulty.{Faulty}
 use Rattle.plan.specs.Limits.{mostJobs}
-use Rattle.plan.specs.Reading.{read, refused, next}
+use Rattle.plan.specs.Reading.{read, next}
 use Rattle.plan.specs.PlanRead.{jobLines, jobsAfter, noJob, filled}
 use Rattle.plan.specs.ReadAt.{faultyIn}
 use Rattle.plan.specs.ListLaws.{Filling, Filling-start, Filling-more, Filling-end}

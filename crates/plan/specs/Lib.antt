@@ -20,3 +20,4 @@ pub mod ReadingLaws
 pub mod PlanLaws
 pub mod ReadAtLaws
 pub mod JobsLoop
+pub mod BoundsLoop

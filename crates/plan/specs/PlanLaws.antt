@@ -135,7 +135,7 @@ pub record BoundRead (jobs : ℕ) (given : List Bound) (l : List ℕ) (d : Bound
   pub accepted : BoundAccepted jobs d
   pub pair : isWrongPair (d .a) (d .b) given ≡ false
 
-isJob-range : (jobs i : ℕ) → isJob jobs i ≡ true → (1 ≤ i) × (i ≤ jobs)
+pub isJob-range : (jobs i : ℕ) → isJob jobs i ≡ true → (1 ≤ i) × (i ≤ jobs)
 isJob-range jobs i e = by-tests (leb 1 i) (leb i jobs) refl refl e
   where
     by-tests : (a b : Bool) → leb 1 i ≡ a → leb i jobs ≡ b → a && b ≡ true → (1 ≤ i) × (i ≤ jobs)

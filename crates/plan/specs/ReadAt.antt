@@ -2,6 +2,9 @@
 use Prim.Native.Nat.{ℕ, _+_, _*_}
 use mathlib.Core.Path.{_≡_}
 use mathlib.Core.List.{List}
+use mathlib.Core.Bool.{Bool}
+use Rattle.text.specs.Bytes.{bytes}
+use Rattle.text.specs.Lines.{afterKey}
 use lib.IntN.{ℤ}
 use lib.ListN.{take, drop}
 use Rattle.plan.specs.declared.Faulty.{Faulty}
@@ -10,13 +13,18 @@ use Rattle.plan.specs.declared.NumberLine.the-variants as numberLine
 use Rattle.plan.specs.declared.Job.{Job}
 use Rattle.plan.specs.declared.JobLines.{JobLines}
 use Rattle.plan.specs.declared.JobLines.the-variants as jobLines
+use Rattle.plan.specs.declared.EventName.{EventName}
+use Rattle.plan.specs.declared.Bound.{Bound}
+use Rattle.plan.specs.declared.BoundRead.{BoundRead}
+use Rattle.plan.specs.declared.BoundRead.the-variants as boundRead
+use Rattle.plan.specs.declared.Bounds.{Bounds}
 use Rattle.plan.specs.declared.Went.{Went}
 use Rattle.plan.specs.declared.Went.the-variants as went
 use Rattle.plan.specs.declared.Jobs.{Jobs}
 use Rattle.plan.specs.declared.Refusal.the-variants.{Form}
-use Rattle.plan.specs.Limits.{mostJobs}
-use Rattle.plan.specs.PlanRead.{noJob, filled}
-use Rattle.plan.specs.Reading.{Reading, read, refused}
+use Rattle.plan.specs.Limits.{mostJobs, mostBounds}
+use Rattle.plan.specs.PlanRead.{boundParts, boundOf, linedBound, noJob, noBound, filled}
+use Rattle.plan.specs.Reading.{Lined, Reading, read, refused}
 
 abbrev pub faultyIn : {A : Type 0} → List ℕ → Faulty → Reading A
 faultyIn s f = refused (f .refusal) (drop (f .at) s)
@@ -74,3 +82,25 @@ jobsFilled jobs r = IfOn (r .went) (r .job ≡ filled mostJobs noJob (take jobs 
 abbrev pub wentFault : Went → Faulty
 wentFault (went.On at) = noFault
 wentFault (went.Bad f) = f
+
+-- a bound line by itself, with the pairs that are wrong after the bounds before it
+abbrev pub boundLined : ℕ → (EventName → EventName → Bool) → List ℕ → Lined Bound
+boundLined jobs isWrong l = linedBound (boundOf jobs isWrong (boundParts (afterKey (bytes "bound=") l)))
+
+abbrev pub boundTold : List ℕ → ℕ → BoundRead → Reading Bound
+boundTold s n (boundRead.Value d at) = read d (drop at s) n
+boundTold s n (boundRead.Bad f) = faultyIn s f
+
+abbrev pub boundPlace : BoundRead → ℕ
+boundPlace (boundRead.Value d at) = at
+boundPlace (boundRead.Bad f) = f .at
+
+abbrev pub boundFault : BoundRead → Faulty
+boundFault (boundRead.Value d at) = noFault
+boundFault (boundRead.Bad f) = f
+
+abbrev pub boundsTold : List ℕ → ℕ → ℕ → Bounds → Reading (List Bound)
+boundsTold s n bounds r = wentTold s (take bounds (r .bound)) (n + bounds) (r .went)
+
+abbrev pub boundsFilled : ℕ → Bounds → Type 0
+boundsFilled bounds r = IfOn (r .went) (r .bound ≡ filled mostBounds noBound (take bounds (r .bound)))

@@ -21,7 +21,10 @@ use Rattle.plan.specs.declared.NumberLine.the-variants as numberLine
 use Rattle.plan.specs.declared.Job.{Job}
 use Rattle.plan.specs.declared.JobLines.{JobLines}
 use Rattle.plan.specs.declared.JobLines.the-variants as jobLines
-use Rattle.plan.specs.ReadAt.{jobTold, jobPlace, jobFault, faultyIn, numberTold, numberPlace, numberFault}
+use Rattle.plan.specs.declared.Bound.{Bound}
+use Rattle.plan.specs.declared.BoundRead.{BoundRead}
+use Rattle.plan.specs.declared.BoundRead.the-variants as boundRead
+use Rattle.plan.specs.ReadAt.{boundTold, boundPlace, boundFault, jobTold, jobPlace, jobFault, faultyIn, numberTold, numberPlace, numberFault}
 use Rattle.plan.specs.Limits.{longestRunning, latestDeadline}
 use Rattle.plan.specs.Refusals.{faultAt}
 use Rattle.plan.specs.Reading.{Lined, value, bad, Reading, read, refused, next, lined, line, numberLine}
@@ -75,6 +78,20 @@ module _ (r : JobLines) (k : ℕ) (fits : jobPlace r ≤ k) where
 
   pub job-faulty-fits : {f g : Faulty} → r ≡ jobLines.Bad f → g ≡ jobFault r → g .at ≤ k
   job-faulty-fits e d = subst (λ x. x .at ≤ k) (sym (d ∙ ap jobFault e)) (subst (λ x. jobPlace x ≤ k) e fits)
+
+module _ (s : List ℕ) (n : ℕ) {m : Reading Bound} (r : BoundRead) (told : m ≡ boundTold s n r) where
+  pub bound-value : {d : Bound} {at : ℕ} → r ≡ boundRead.Value d at → m ≡ read d (drop at s) n
+  bound-value e = told ∙ ap (boundTold s n) e
+
+  pub bound-faulty : {f g : Faulty} → r ≡ boundRead.Bad f → g ≡ boundFault r → m ≡ faultyIn s g
+  bound-faulty e d = told ∙ ap (boundTold s n) e ∙ ap (faultyIn s) (sym (d ∙ ap boundFault e))
+
+module _ (r : BoundRead) (k : ℕ) (fits : boundPlace r ≤ k) where
+  pub bound-value-fits : {d : Bound} {at : ℕ} → r ≡ boundRead.Value d at → at ≤ k
+  bound-value-fits e = subst (λ x. boundPlace x ≤ k) e fits
+
+  pub bound-faulty-fits : {f g : Faulty} → r ≡ boundRead.Bad f → g ≡ boundFault r → g .at ≤ k
+  bound-faulty-fits e d = subst (λ x. x .at ≤ k) (sym (d ∙ ap boundFault e)) (subst (λ x. boundPlace x ≤ k) e fits)
 
 -- ---- the lines of a job
 

@@ -97,3 +97,21 @@ pub fn judge_bound(d: Bound, jobs: usize, given: &[u32; MOST_BOUNDS], n: usize) 
     }
     BoundLine::Value(d)
 }
+
+// A bound line without its LF, after n bounds whose pairs are given by their numbers.
+pub fn read_bound(line: &[u8], jobs: usize, given: &[u32; MOST_BOUNDS], n: usize) -> BoundLine
+    requires { ⌜ (n ≤ 64) × (n ≤ length (now given)) ⌝ }
+    ensures { λ r. ⌜ r ≡ boundOf jobs (isWrongNumbered (take n (now (given .entry)))) (boundParts (afterKey (bytes "bound=") (now (line .entry)))) ⌝ }
+{
+    let BoundNames::Value(a, b, at) = bound_names(line) else {
+        return BoundLine::Bad(Fault::Form);
+    };
+    let number = text::read_number(&line[at..], -1_000_000_000, 1_000_000_000);
+    match number {
+        Number::Value(z) => {
+            let d = Bound { a, b, c: narrow(z) };
+            judge_bound(d, jobs, given, n)
+        }
+        Number::Bad(f) => BoundLine::Bad(f),
+    }
+}

@@ -129,6 +129,12 @@ pub enum JobLines {
     Bad(Faulty),
 }
 
+// A bound line at its place: the bound and where the next line begins, or the fault.
+pub enum BoundRead {
+    Value(Bound, usize),
+    Bad(Faulty),
+}
+
 // Where a group of lines ended: the place of the next line, or the first fault.
 pub enum Went {
     On(usize),
@@ -141,7 +147,15 @@ pub struct Jobs {
     pub went: Went,
 }
 
+// The bounds of a plan as they were read; on a fault what was read before it.
+pub struct Bounds {
+    pub bound: [Bound; MOST_BOUNDS],
+    pub went: Went,
+}
+
+mod bound_at;
 mod bound_line;
+mod bounds_lines;
 mod job_lines;
 mod jobs_lines;
 mod names;

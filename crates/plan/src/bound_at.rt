@@ -1,0 +1,61 @@
+// A bound line at a place of the text.
+use crate::BoundLine;
+use crate::BoundRead;
+use crate::Faulty;
+use crate::MOST_BOUNDS;
+use crate::Refusal;
+use crate::bound_line::read_bound;
+use crate::refusals::fault_at;
+ghost use mathlib.Core.Path.{_≡_};
+ghost use Prim.Native.Nat.{_+_, _≤_};
+ghost use lib.ListN.{length, take, drop};
+ghost use Rattle.plan.specs.Reading.{line};
+ghost use Rattle.plan.specs.Pairs.{isWrongNumbered};
+ghost use Rattle.plan.specs.ReadAt.{boundLined, boundTold, boundPlace, boundFault};
+
+// The bound of the line that begins at a place, and where the next line begins.
+pub fn read_bound_at(
+    s: &[u8],
+    at: usize,
+    number: usize,
+    jobs: usize,
+    given: &[u32; MOST_BOUNDS],
+    n: usize,
+) -> BoundRead
+    requires { ⌜ (at ≤ length (now s)) × ((n ≤ 64) × (n ≤ length (now given))) ⌝ }
+    ensures { λ r. ⌜ line (boundLined jobs (isWrongNumbered (take n (now (given .entry))))) (drop at (now (s .entry))) number ≡ boundTold (now (s .entry)) (number + 1) r ⌝ }
+    ensures { λ r. ⌜ boundPlace r ≤ length (now (s .entry)) ⌝ }
+{
+    let rest = &s[at..];
+    let len = text::len_to(rest, b'\n');
+    if rest.len() <= len {
+        return BoundRead::Bad(Faulty {
+            refusal: Refusal::Form(number),
+            at,
+        });
+    }
+    let found = read_bound(&rest[..len], jobs, given, n);
+    match found {
+        BoundLine::Value(d) => {
+            let next = at + len + 1;
+            BoundRead::Value(d, next)
+        }
+        BoundLine::Bad(f) => {
+            let refusal = fault_at(number, f);
+            BoundRead::Bad(Faulty { refusal, at })
+        }
+    }
+}
+
+// The fault of a line that is faulty.
+pub fn bound_fault(l: BoundRead) -> Faulty
+    ensures { λ r. ⌜ r ≡ boundFault l ⌝ }
+{
+    match l {
+        BoundRead::Value(_, _) => Faulty {
+            refusal: Refusal::Form(0),
+            at: 0,
+        },
+        BoundRead::Bad(f) => f,
+    }
+}
