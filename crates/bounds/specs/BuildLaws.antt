@@ -1,10 +1,11 @@
--- What stands in a table that was built: `at (build k f) y z` is f y z below k, and nothing past it. A test of `anyBelow` that holds, holds
--- somewhere; one that does not, holds nowhere. Events and nodes are one to one.
+-- What stands in a table that was built: `at (build k f) y z` is f y z below k, and nothing past it. What two tests joined say of each. A test
+-- of `anyBelow` that holds, holds somewhere; one that does not, holds nowhere. Events and nodes are one to one, and a node is the origin, a start or a
+-- finish (`byNode`).
 use Prim.Native.Nat.{ℕ, zero, suc, _+_, _*_, _/_, _%_, _≤_, _<_}
-use mathlib.Core.Path.{_≡_, refl, sym, ap, subst, _∙_}
+use mathlib.Core.Path.{_≡_, refl, ap, subst, _∙_}
 use mathlib.Core.Logic.{_⊎_, inl, inr, ⊎-elim}
-use mathlib.Core.Bool.{Bool, true, false, cond, _||_}
-use mathlib.Core.List.{List, [], _∷_}
+use mathlib.Core.Bool.{Bool, true, false, cond, _&&_, _||_}
+use mathlib.Core.List.{[]}
 use native.Mathlib.Omega.{arith}
 use lib.Dec.{eqb, ltb}
 use lib.ListN.{length, getD}
@@ -12,7 +13,7 @@ use borrow.Author.Tests.{eq-eqb, ne-eqb, ltb-true, ltb-false}
 use Rattle.bounds.specs.declared.Event.{Event}
 use Rattle.bounds.specs.declared.Event.the-variants.{Origin, Start, Finish}
 use Rattle.bounds.specs.Events.{startNode, finishNode, nodeOf, eventOf}
-use Rattle.bounds.specs.Tables.{Cell, off, Rows, at, listed, build, anyBelow}
+use Rattle.bounds.specs.Tables.{Cell, off, at, listed, build, anyBelow}
 
 -- ---- lists that are listed
 
@@ -58,13 +59,17 @@ at-build-past k f y z h = past-at k f y z (ltb y k) refl h
 
 -- ---- tests
 
-or-some : (b c : Bool) → b || c ≡ true → (b ≡ true) ⊎ (c ≡ true)
-or-some true c h = inl refl
-or-some false c h = inr h
+pub both-true : (b c : Bool) → b && c ≡ true → (b ≡ true) × (c ≡ true)
+both-true true c h = (refl, h)
+both-true false c h = absurd (let z : _≡_ {A = ℕ} 0 1 = cc in omega arith)
 
-or-none : (b c : Bool) → b || c ≡ false → (b ≡ false) × (c ≡ false)
-or-none true c h = absurd (let z : _≡_ {A = ℕ} 0 1 = cc in omega arith)
-or-none false c h = (refl, h)
+pub either-true : (b c : Bool) → b || c ≡ true → (b ≡ true) ⊎ (c ≡ true)
+either-true true c h = inl refl
+either-true false c h = inr h
+
+pub neither-true : (b c : Bool) → b || c ≡ false → (b ≡ false) × (c ≡ false)
+neither-true true c h = absurd (let z : _≡_ {A = ℕ} 0 1 = cc in omega arith)
+neither-true false c h = (refl, h)
 
 pub anyBelow-some : (k : ℕ) (f : ℕ → Bool) → anyBelow k f ≡ true → (i : ℕ) × (i < k) × (f i ≡ true)
 unfolding anyBelow
@@ -72,14 +77,14 @@ anyBelow-some zero f h = absurd (let z : _≡_ {A = ℕ} 0 1 = cc in omega arith
 anyBelow-some (suc k) f h =
     ⊎-elim (λ e. (0, omega arith, e))
     (λ e. let r = anyBelow-some k (λ i. f (suc i)) e in (suc (r .0), omega arith, r .2))
-    (or-some (f 0) (anyBelow k (λ i. f (suc i))) h)
+    (either-true (f 0) (anyBelow k (λ i. f (suc i))) h)
 
 pub anyBelow-none : (k : ℕ) (f : ℕ → Bool) → anyBelow k f ≡ false → (i : ℕ) → i < k → f i ≡ false
 unfolding anyBelow
 anyBelow-none zero f h i p = absurd (omega arith)
-anyBelow-none (suc k) f h zero p = or-none (f 0) (anyBelow k (λ i. f (suc i))) h .0
+anyBelow-none (suc k) f h zero p = neither-true (f 0) (anyBelow k (λ i. f (suc i))) h .0
 anyBelow-none (suc k) f h (suc i) p =
-    anyBelow-none k (λ i. f (suc i)) (or-none (f 0) (anyBelow k (λ i. f (suc i))) h .1) i (omega arith)
+    anyBelow-none k (λ i. f (suc i)) (neither-true (f 0) (anyBelow k (λ i. f (suc i))) h .1) i (omega arith)
 
 -- ---- events and nodes
 

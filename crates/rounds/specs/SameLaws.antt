@@ -1,17 +1,13 @@
 -- Two tables that the test for 'C(m) = C(m-1)' finds the same are equal.
 use Prim.Native.Nat.{ℕ}
 use mathlib.Core.Path.{_≡_, refl, ap, ap₂}
-use mathlib.Core.Bool.{Bool, true, false, _&&_}
+use mathlib.Core.Bool.{true}
 use mathlib.Core.List.{List, [], _∷_}
 use native.Mathlib.Omega.{arith}
-use Rattle.whole.specs.Split.{eqZ}
 use Rattle.whole.specs.Order.{eqZ-true-iff}
 use Rattle.bounds.specs.Tables.{Cell, off, upto, Rows}
+use Rattle.bounds.specs.BuildLaws.{both-true}
 use Rattle.rounds.specs.Rounds.{sameCell, sameRow, sameRows}
-
-both-true : (a b : Bool) → a && b ≡ true → (a ≡ true) × (b ≡ true)
-both-true true b h = (refl, h)
-both-true false b h = absurd (let z : _≡_ {A = ℕ} 0 1 = cc in omega arith)
 
 pub sameCell-unique : (c d : Cell) → sameCell c d ≡ true → c ≡ d
 unfolding sameCell

@@ -1,29 +1,25 @@
 -- One window alone: among the origin and the next window's nodes, a round's elimination is cell for cell the elimination of that window alone, moved by
 -- `window`. So where a round gives no contradiction, one window alone gives none, and the first window's tables are the later ones.
-use Prim.Native.Nat.{ℕ, zero, suc, _+_, _*_, _-_, _≤_, _<_}
-use mathlib.Core.Path.{_≡_, refl, sym, ap, ap₂, subst, _∙_}
-use mathlib.Core.Logic.{_⊎_, inl, inr, ⊎-elim}
-use mathlib.Core.Bool.{Bool, true, false, cond, _||_}
-use mathlib.Core.List.{List, [], _∷_, List·Memᴰ}
-use native.Mathlib.Nat.{add-suc, zero-add}
+use Prim.Native.Nat.{ℕ, zero, suc, _+_, _≤_, _<_}
+use mathlib.Core.Path.{_≡_, refl, sym, ap, ap₂, _∙_}
+use mathlib.Core.Bool.{Bool, true, false, cond}
+use native.Mathlib.Nat.{zero-add}
 use native.Mathlib.Omega.{arith}
-use lib.Dec.{eqb, leb, ltb}
+use lib.Dec.{eqb}
 use lib.IntN.{ℤ, pos, negℤ, _+ℤ_, _-ℤ_}
-use lib.Signed.{_≤ℤ_, ltZ, leZ}
-use lib.ListN.{length}
-use borrow.Author.Tests.{eq-eqb, ne-eqb, eqb-true, eqb-false}
-use Rattle.whole.specs.SplitLaws.{split-neg, split-add, split-sub, ltZ-true-split-iff, ltZ-false-split-iff}
+use lib.Signed.{ltZ, leZ}
+use borrow.Author.Tests.{ne-eqb, eqb-true, eqb-false}
 use Rattle.whole.specs.Rules.{wholes}
-use Rattle.whole.specs.Shape.{any, _⊕_, _⊖_, le, eq, le-is}
+use Rattle.whole.specs.Shape.{any, _⊕_, _⊖_, eq, le-true, le-false}
 use Rattle.whole.specs.ShapeLaws.{reads, shows}
 use Rattle.plan.specs.declared.Plan.{Plan}
 use Rattle.bounds.specs.declared.Event.{Event}
 use Rattle.bounds.specs.declared.Event.the-variants.{Origin, Start, Finish}
 use Rattle.bounds.specs.declared.Judgement.{Judgement}
 use Rattle.bounds.specs.declared.Judgement.the-variants.{Contradiction, LeftOut, Kept}
-use Rattle.bounds.specs.Events.{jobAt, shift, earliest, latest, eventOf, nodeOf, startNode, finishNode, nodes}
-use Rattle.bounds.specs.Judgements.{judged, judgedSame, judgedRunning, judgedReverse, judgedOrigin, judgedApart, atLeast}
-use Rattle.bounds.specs.Tables.{Cell, off, upto, least, plus, join, Rows, at, leastOf, Between, judgement, isContradiction, keptCell, Set, contradiction, bounds, judgedSet}
+use Rattle.bounds.specs.Events.{jobAt, earliest, latest, eventOf, startNode, finishNode, nodes}
+use Rattle.bounds.specs.Judgements.{judged, judgedSame, judgedOrigin, judgedApart, atLeast}
+use Rattle.bounds.specs.Tables.{Cell, off, upto, least, plus, join, Rows, at, judgement, isContradiction, keptCell, Set, contradiction, bounds, judgedSet}
 use Rattle.bounds.specs.Elimination.{onlyIf, finishCell, startCell, withoutFinish, withoutStart, thenSet, withoutPlace, eliminated}
 use Rattle.bounds.specs.BuildLaws.{eventOf-start, eventOf-finish, byNode}
 use Rattle.rounds.specs.Rounds.{ownNodes, moved}
@@ -200,8 +196,8 @@ lesser-plus : (w v d : ℤ) (b c : Bool) → leZ (w +ℤ d) (v +ℤ d) ≡ b →
 unfolding plus
 lesser-plus w v d true true e f = refl
 lesser-plus w v d false false e f = refl
-lesser-plus w v d true false e f = absurd (omega (reads (le-is true) (any ⊕ any) (any ⊕ any), wholes))
-lesser-plus w v d false true e f = absurd (omega (reads (le-is false) (any ⊕ any) (any ⊕ any), wholes))
+lesser-plus w v d true false e f = absurd (omega (reads le-true (any ⊕ any) (any ⊕ any), wholes))
+lesser-plus w v d false true e f = absurd (omega (reads le-false (any ⊕ any) (any ⊕ any), wholes))
 
 least-plus : (c e : Cell) (d : ℤ) → least (plus c d) (plus e d) ≡ plus (least c e) d
 unfolding least plus

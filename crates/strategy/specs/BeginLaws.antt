@@ -1,24 +1,24 @@
 -- From the beginning: a contradiction in round m + 1 leaves no strategy for m + 2 windows, one window alone that fails with C(m) none for m + 1, and
 -- where it does not fail there is one. A contradiction in C(0) leaves none for one window. Fewer windows follow from more.
-use Prim.Native.Nat.{ℕ, zero, suc, _+_, _*_, _-_, _≤_, _<_}
-use mathlib.Core.Path.{_≡_, refl, sym, ap, subst, _∙_}
-use mathlib.Core.Logic.{_⊎_, inl, inr, ⊎-elim}
-use mathlib.Core.Bool.{Bool, true, false}
-use mathlib.Core.List.{List, [], _∷_, _++_}
-use native.Mathlib.Nat.{zero-mul, zero-add}
+use Prim.Native.Nat.{ℕ, suc, _+_, _*_, _≤_}
+use mathlib.Core.Path.{_≡_, refl, sym, subst}
+use mathlib.Core.Logic.{⊎-elim}
+use mathlib.Core.Bool.{Bool}
+use mathlib.Core.List.{[]}
+use native.Mathlib.Nat.{zero-add}
 use native.Mathlib.Omega.{arith}
 use lib.ListN.{length}
 use Rattle.plan.specs.declared.Plan.{Plan}
-use Rattle.bounds.specs.Events.{eventOf, nodes}
-use Rattle.bounds.specs.Tables.{Cell, off, upto, Rows, at, Set, contradiction, bounds}
-use Rattle.bounds.specs.Elimination.{thenSet, eliminated}
+use Rattle.bounds.specs.Events.{nodes}
+use Rattle.bounds.specs.Tables.{Rows, at, contradiction, bounds}
+use Rattle.bounds.specs.Elimination.{eliminated}
 use Rattle.rounds.specs.Rounds.{C0, joined, round}
 use Rattle.rounds.specs.Given.{ownBounds}
-use Rattle.strategy.specs.Histories.{Ran, History, seenFrom}
+use Rattle.strategy.specs.Histories.{History, seenFrom}
 use Rattle.strategy.specs.Strategies.{Kept, Forced, Strategy, StrategyFor}
-use Rattle.strategy.specs.Keeping.{Holds, gap, Keeps, Timely, Extreme, Anchored}
+use Rattle.strategy.specs.Keeping.{Keeps, Timely, Extreme, Anchored}
 use Rattle.strategy.specs.Soundness.{Sound}
-use Rattle.strategy.specs.HistoryLaws.{Follows, forced-map, forced-split, forced-join, Fails, fails-before, fails-map}
+use Rattle.strategy.specs.HistoryLaws.{forced-map, forced-split, forced-join, Fails, fails-before, fails-map}
 use Rattle.strategy.specs.PlaceLaws.{Tidy, thenSet-none, elim-tidy, elim-back, elim-none}
 use Rattle.strategy.specs.GivenLaws.{All, BetweenKept}
 use Rattle.strategy.specs.WindowLaws.{Held, held-own}

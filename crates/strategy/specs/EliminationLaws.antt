@@ -1,22 +1,22 @@
 -- Lemmas 1 and 2 of 002 for our tables, over any times X of the nodes. Finish: times keep the cells without f exactly if for every running time
 -- between min and max they keep the table with f that much after s. Start: times keep the cells without s exactly if they keep the table with
 -- some time for s; the greatest lower bound is one, and there is one, since the bound to the origin is there.
-use Prim.Native.Nat.{ℕ, zero, suc, _+_, _*_, _≤_, _<_}
-use mathlib.Core.Path.{_≡_, refl, sym, ap, subst, _∙_}
+use Prim.Native.Nat.{ℕ, zero, suc, _*_, _<_}
+use mathlib.Core.Path.{_≡_, refl, sym, ap, subst}
 use mathlib.Core.Logic.{_↔_, _⊎_, inl, inr, ⊎-elim}
 use mathlib.Core.Bool.{Bool, true, false, cond}
 use native.Mathlib.Omega.{arith}
 use lib.Dec.{eqb, ltb}
-use lib.IntN.{ℤ, pos, negℤ, _+ℤ_, _-ℤ_}
+use lib.IntN.{ℤ, negℤ, _+ℤ_, _-ℤ_}
 use lib.Signed.{_≤ℤ_, leZ}
 use borrow.Author.Tests.{eq-eqb, ne-eqb, eqb-true, ltb-true, ltb-false}
 use Rattle.whole.specs.SplitLaws.{split-neg}
 use Rattle.whole.specs.Rules.{wholes}
 use Rattle.whole.specs.Shape.{any, _⊕_, _⊖_, le}
-use Rattle.whole.specs.ShapeLaws.{reads, shows}
+use Rattle.whole.specs.ShapeLaws.{shows}
 use Rattle.plan.specs.declared.Plan.{Plan}
 use Rattle.bounds.specs.Events.{jobAt, startNode, finishNode}
-use Rattle.bounds.specs.Tables.{Cell, off, upto, least, plus, join, Rows, at}
+use Rattle.bounds.specs.Tables.{Cell, off, upto, plus, join, Rows, at}
 use Rattle.bounds.specs.Elimination.{onlyIf, finishCell, startCell}
 use Rattle.strategy.specs.Keeping.{Holds}
 use Rattle.strategy.specs.CellLaws.{least-iff, plus-iff, join-keeps, join-back, holds-onlyIf}

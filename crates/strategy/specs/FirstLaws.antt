@@ -1,32 +1,33 @@
 -- The set that a round starts with, among the origin and the next window's nodes, is C(m-1) moved by `window`: the bounds between windows name
 -- this window too, and C(m-1) was judged already. So where round m gives no contradiction, one window alone, with C(m-1), gives none.
-use Prim.Native.Nat.{ℕ, zero, suc, _+_, _*_, _-_, _≤_, _<_}
+use Prim.Native.Nat.{ℕ, zero, suc, _+_, _-_, _≤_, _<_}
 use mathlib.Core.Path.{_≡_, refl, sym, ap, ap₂, subst, _∙_}
-use mathlib.Core.Logic.{_⊎_, inl, inr, ⊎-elim}
-use mathlib.Core.Bool.{Bool, true, false, cond, _&&_, _||_}
+use mathlib.Core.Logic.{inl, inr}
+use mathlib.Core.Bool.{Bool, true, false, cond, _&&_}
 use mathlib.Core.List.{List, [], _∷_}
 use native.Mathlib.Omega.{arith}
 use lib.Dec.{eqb}
-use lib.IntN.{ℤ, _-ℤ_}
+use lib.IntN.{_-ℤ_}
 use borrow.Author.Tests.{eqb-true}
 use Rattle.plan.specs.declared.Kind.{Kind}
 use Rattle.plan.specs.declared.Kind.the-variants as kind
 use Rattle.plan.specs.declared.Bound.{Bound}
 use Rattle.plan.specs.declared.Plan.{Plan}
 use Rattle.plan.specs.EventNames.{isNext}
-use Rattle.bounds.specs.declared.Event.the-variants.{Origin, Start, Finish}
+use Rattle.bounds.specs.declared.Event.the-variants.{Start, Finish}
 use Rattle.bounds.specs.declared.Judgement.{Judgement}
 use Rattle.bounds.specs.declared.Judgement.the-variants.{Contradiction, LeftOut, Kept}
 use Rattle.bounds.specs.Events.{nodeOf, startNode, finishNode, nodes}
-use Rattle.bounds.specs.Tables.{Cell, off, upto, least, plus, Rows, at, leastOf, Between, judgement, keptCell, Set, contradiction, bounds, judgedSet}
-use Rattle.bounds.specs.Elimination.{startCell, withoutFinish, withoutStart, thenSet, withoutPlace, eliminated}
+use Rattle.bounds.specs.Tables.{Cell, off, upto, least, Rows, at, leastOf, Between, judgement, keptCell, bounds, judgedSet}
+use Rattle.bounds.specs.BuildLaws.{both-true}
+use Rattle.bounds.specs.Elimination.{startCell, withoutFinish, withoutStart, withoutPlace, eliminated}
 use Rattle.rounds.specs.Given.{placeOf, eventAt, betweenBounds}
 use Rattle.rounds.specs.Rounds.{C0, ownNodes, moved, onNext, joined}
 use Rattle.strategy.specs.Soundness.{Sound}
 use Rattle.strategy.specs.SetLaws.{judgedSet-at}
 use Rattle.strategy.specs.PlaceLaws.{thenSet-bounds}
-use Rattle.strategy.specs.GivenLaws.{All, AcrossAll, across-all, all-first, all-others}
-use Rattle.strategy.specs.WindowLaws.{place-this, either}
+use Rattle.strategy.specs.GivenLaws.{All, across-all, all-first, all-others}
+use Rattle.strategy.specs.WindowLaws.{place-this}
 use Rattle.strategy.specs.JoinedLaws.{C0-tidy, C0-past, nextNode, next-later, onNext-next, joinedCell}
 use Rattle.strategy.specs.RoundLaws.{C, Round, round-parts}
 use Rattle.strategy.specs.AloneLaws.{Shifted, shifted, next-below, judgement-next, kept-plus, elim-shifted}
@@ -41,12 +42,8 @@ skipped : (y z : ℕ) (b : Between) (c : Cell) (t : Bool) → (eqb (nodeOf (b .y
     → cond t (least (upto (b .w)) c) c ≡ c
 skipped y z b c false e h = refl
 skipped y z b c true e h =
-    let r = both (eqb (nodeOf (b .y)) y) (eqb (nodeOf (b .z)) z) e in
+    let r = both-true (eqb (nodeOf (b .y)) y) (eqb (nodeOf (b .z)) z) e in
     absurd (h (eqb-true (nodeOf (b .y)) y (r .0)) (eqb-true (nodeOf (b .z)) z (r .1)))
-  where
-    both : (a b : Bool) → a && b ≡ true → (a ≡ true) × (b ≡ true)
-    both true b h = (refl, h)
-    both false b h = absurd (let z : _≡_ {A = ℕ} 0 1 = cc in omega arith)
 
 leastOf-off : (y z : ℕ) (bs : List Between) → All (Elsewhere y z) bs → leastOf bs y z ≡ off
 unfolding leastOf

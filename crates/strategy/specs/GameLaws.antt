@@ -1,36 +1,35 @@
 -- A run of a settled plan, by its history alone. The game of a window is that of the table that a round starts with; in the first window that of the
 -- settled set alone. While the game can be won (`Well`), strategies exist to the end of this window and of every later one, a next start is allowed
 -- exactly if they exist after it, and one is allowed.
-use Prim.Native.Nat.{ℕ, zero, suc, _+_, _*_, _-_, _≤_, _<_}
+use Prim.Native.Nat.{ℕ, zero, suc, _+_, _*_, _≤_, _<_}
 use mathlib.Core.Path.{_≡_, refl, sym, ap, subst, _∙_}
-use mathlib.Core.Logic.{_⊎_, inl, inr, ⊎-elim}
-use mathlib.Core.Bool.{Bool, true, false}
-use mathlib.Core.List.{List, [], _∷_, _++_}
+use mathlib.Core.Bool.{true}
+use mathlib.Core.List.{[]}
 use native.Mathlib.Omega.{arith}
 use lib.IntN.{ℤ, pos, _+ℤ_, _-ℤ_, _*ℤ_}
 use lib.Signed.{_≤ℤ_}
-use lib.ListN.{length, getD}
+use lib.ListN.{length}
 use Rattle.whole.specs.Rules.{wholes}
 use Rattle.plan.specs.declared.Plan.{Plan}
 use Rattle.bounds.specs.Events.{eventOf, nodes}
-use Rattle.bounds.specs.Tables.{Rows, at, Set, contradiction, bounds}
-use Rattle.bounds.specs.Elimination.{thenSet, eliminated}
+use Rattle.bounds.specs.Tables.{Rows, at, bounds}
+use Rattle.bounds.specs.Elimination.{eliminated}
 use Rattle.rounds.specs.Rounds.{C0, joined, round}
-use Rattle.strategy.specs.Histories.{Ran, History, ranFor, turn, seenFrom}
+use Rattle.strategy.specs.Histories.{History, ranFor, turn, seenFrom}
 use Rattle.strategy.specs.Strategies.{Kept, Forced, Strategy}
-use Rattle.strategy.specs.Keeping.{Holds, when, Keeps, Timely}
+use Rattle.strategy.specs.Keeping.{when, Keeps, Timely}
 use Rattle.strategy.specs.Soundness.{Sound}
-use Rattle.strategy.specs.HistoryLaws.{length-more, each-more, timely-more, turn-min-max, Follows, follows-more, forced-map, forced-split, forced-play}
+use Rattle.strategy.specs.HistoryLaws.{length-more, each-more, timely-more, turn-min-max, follows-more, forced-map, forced-split, forced-play}
 use Rattle.strategy.specs.PlaceLaws.{Tidy, thenSet-bounds, elim-back}
 use Rattle.strategy.specs.WindowLaws.{Held}
 use Rattle.strategy.specs.SeenLaws.{length-seen, timely-seen, seen-ranFor, forced-seen, seen-forced, seen-next, seen-all, turn-after}
-use Rattle.strategy.specs.KeptLaws.{Always, held-none, held-one, held-all-before, PunctualAt, Punctual, held-of, punctual-of, kept-of, starts-punctual}
+use Rattle.strategy.specs.KeptLaws.{Always, held-none, held-one, held-all-before, PunctualAt, Punctual, punctual-of, kept-of, starts-punctual}
 use Rattle.strategy.specs.JoinedLaws.{Both, joined-tidy, joined-back}
-use Rattle.strategy.specs.RoundLaws.{C, strategy-kept, Round, round-parts, C-tidy, strategy-keeps, keeps-strategy, strategy-both, both-strategy, held-both, both-keeps, keeps-both}
+use Rattle.strategy.specs.RoundLaws.{strategy-kept, Round, round-parts, C-tidy, strategy-keeps, keeps-strategy, strategy-both, both-strategy, held-both, both-keeps, keeps-both}
 use Rattle.strategy.specs.BeginLaws.{nothing-timely, begin-game, first-held, first-strategy, strategy-first}
 use Rattle.strategy.specs.FirstLaws.{C-judged, joined-shifted, round-alone}
 use Rattle.strategy.specs.VerdictLaws.{C-next, IsSettled, settled-after}
-use Rattle.strategy.specs.StageLaws.{Stage, Allowed, allowed-rest, rest-allowed, Stages, stages}
+use Rattle.strategy.specs.StageLaws.{Allowed, allowed-rest, rest-allowed, Stages, stages}
 
 -- fewer windows follow from more
 pub fewer-windows : (p : Plan) → Sound p → (h : History) (g k a : ℕ) → Strategy p h (g + (a + k) * p .jobs) → Strategy p h (g + k * p .jobs)

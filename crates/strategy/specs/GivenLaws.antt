@@ -1,40 +1,27 @@
 -- The bounds of a plan before they are judged, and what they say of times: a window's own bounds and those between windows are kept exactly if
 -- the plan's bounds are, where each start leaves its job the longest running time before the deadline (that is the start's latest).
-use Prim.Native.Nat.{ℕ, zero, suc, _+_, _*_, _-_, _≤_, _<_}
+use Prim.Native.Nat.{ℕ, zero, suc, _-_, _<_}
 use mathlib.Core.Path.{_≡_, refl, sym, ap, subst, _∙_}
-use mathlib.Core.Logic.{_⊎_, inl, inr, ⊎-elim}
-use mathlib.Core.Bool.{Bool, true, false, cond, _&&_, _||_}
+use mathlib.Core.Logic.{⊎-elim}
+use mathlib.Core.Bool.{Bool, true, false, cond, _&&_}
 use mathlib.Core.List.{List, [], _∷_, _++_, List·Memᴰ, List·Memᴰ·head, List·Memᴰ·tail, List·Memᴰ·not-nil, List·Memᴰ·cases-cons}
 use native.Mathlib.Omega.{arith}
-use lib.Dec.{eqb, ltb}
-use lib.IntN.{ℤ, pos, negℤ, _+ℤ_, _-ℤ_}
+use lib.Dec.{eqb}
+use lib.IntN.{ℤ, _-ℤ_}
 use lib.Signed.{_≤ℤ_}
-use lib.ListN.{length, getD}
-use borrow.Author.Tests.{eq-eqb, eqb-true, lt-ltb}
-use Rattle.whole.specs.SplitLaws.{split-neg, split-add, split-sub}
-use Rattle.whole.specs.Rules.{wholes}
-use Rattle.plan.specs.declared.Letter.{Letter}
-use Rattle.plan.specs.declared.Letter.the-variants.{This, Next}
-use Rattle.plan.specs.declared.Kind.{Kind}
-use Rattle.plan.specs.declared.Kind.the-variants as kind
-use Rattle.plan.specs.declared.EventName.{EventName}
+use borrow.Author.Tests.{eq-eqb, eqb-true}
 use Rattle.plan.specs.declared.Bound.{Bound}
 use Rattle.plan.specs.declared.Plan.{Plan}
-use Rattle.plan.specs.EventNames.{isNext}
 use Rattle.plan.specs.PlanWritten.{boundsOf}
-use Rattle.bounds.specs.declared.Event.{Event}
-use Rattle.bounds.specs.declared.Event.the-variants.{Origin, Start, Finish}
-use Rattle.bounds.specs.Events.{isThis, jobAt, shift, earliest, latest, eventOf, nodeOf, startNode, finishNode, nodes}
-use Rattle.bounds.specs.Tables.{Cell, off, upto, least, Between, leastOf}
-use Rattle.bounds.specs.BuildLaws.{eventOf-nodeOf}
-use Rattle.rounds.specs.Given.{placeOf, eventAt, named, meant, hasNext, givenBounds, upTo, downTo, inOrder, ranges, orders, ownBounds, betweenBounds}
-use Rattle.strategy.specs.Histories.{Ran, History, turn}
-use Rattle.strategy.specs.Strategies.{ranIn, placeIn, kindIn, timeIn, GivenKept, KeptIn}
-use Rattle.strategy.specs.Keeping.{Holds, when, gap, Keeps, RunsWithin, Timely}
+use Rattle.bounds.specs.declared.Event.the-variants.{Start, Finish}
+use Rattle.bounds.specs.Events.{eventOf, nodeOf}
+use Rattle.bounds.specs.Tables.{Cell, upto, least, Between, leastOf}
+use Rattle.bounds.specs.BuildLaws.{both-true, eventOf-nodeOf}
+use Rattle.rounds.specs.Given.{meant, hasNext, givenBounds, upTo, downTo, inOrder, ranges, orders, ownBounds, betweenBounds}
+use Rattle.strategy.specs.Histories.{History}
+use Rattle.strategy.specs.Keeping.{Holds, when, gap, Keeps}
 use Rattle.strategy.specs.CellLaws.{least-iff}
-use Rattle.strategy.specs.SetLaws.{jobAt-turn}
 use Rattle.strategy.specs.EliminationLaws.{below-or-last}
-use Rattle.strategy.specs.Soundness.{NamesJob, SoundBound, Sound}
 
 -- ---- what holds of all bounds of a list
 
@@ -67,10 +54,6 @@ all-right P (a ∷ xs) bs f = all-right P xs bs (all-others P a (xs ++ bs) f)
 
 -- ---- the least weight of a list
 
-and-true : (a b : Bool) → a && b ≡ true → (a ≡ true) × (b ≡ true)
-and-true true b h = (refl, h)
-and-true false b h = absurd (let z : _≡_ {A = ℕ} 0 1 = cc in omega arith)
-
 module _ (y z : ℕ) (x : ℤ) where
   -- b says something of the pair y, z, and x keeps it
   abbrev pub Says : Between → Type 0
@@ -90,7 +73,7 @@ module _ (y z : ℕ) (x : ℤ) where
   first-says : (b : Between) (c : Cell) (t : Bool) → (eqb (nodeOf (b .y)) y && eqb (nodeOf (b .z)) z) ≡ t
       → Says b → Holds c x → Holds (cond t (least (upto (b .w)) c) c) x
   first-says b c true e s h =
-      let r = and-true (eqb (nodeOf (b .y)) y) (eqb (nodeOf (b .z)) z) e in
+      let r = both-true (eqb (nodeOf (b .y)) y) (eqb (nodeOf (b .z)) z) e in
       least-iff (upto (b .w)) c x .1 (s (eqb-true (nodeOf (b .y)) y (r .0)) (eqb-true (nodeOf (b .z)) z (r .1)), h)
   first-says b c false e s h = h
 

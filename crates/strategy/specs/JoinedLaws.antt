@@ -3,38 +3,35 @@
 use Prim.Native.Nat.{ℕ, zero, suc, _+_, _*_, _-_, _≤_, _<_}
 use mathlib.Core.Path.{_≡_, refl, sym, ap, ap₂, subst, _∙_}
 use mathlib.Core.Logic.{_⊎_, inl, inr, ⊎-elim}
-use mathlib.Core.Bool.{Bool, true, false, cond, _&&_, _||_}
-use mathlib.Core.List.{List, [], _∷_, _++_}
+use mathlib.Core.Bool.{true, false, cond, or-true}
 use native.Mathlib.Omega.{arith}
-use lib.Dec.{eqb, leb, ltb}
+use lib.Dec.{eqb}
 use lib.IntN.{ℤ, pos, negℤ, _+ℤ_, _-ℤ_, _*ℤ_}
 use lib.Signed.{_≤ℤ_}
 use lib.ListN.{length}
 use borrow.Author.Tests.{ne-eqb, le-leb, lt-leb, le-ltb}
-use Rattle.whole.specs.SplitLaws.{split-mul, split-neg, split-add, split-sub}
+use Rattle.whole.specs.SplitLaws.{split-mul, split-neg, split-add}
 use Rattle.whole.specs.Rules.{wholes}
 use Rattle.whole.specs.Shape.{any, _⊕_, _⊖_, le, eq}
 use Rattle.whole.specs.ShapeLaws.{reads, shows}
 use Rattle.plan.specs.declared.Plan.{Plan}
-use Rattle.bounds.specs.declared.Event.{Event}
-use Rattle.bounds.specs.declared.Event.the-variants.{Origin, Start, Finish}
-use Rattle.bounds.specs.Events.{isThis, jobAt, shift, earliest, latest, eventOf, nodeOf, startNode, finishNode, nodes}
-use Rattle.bounds.specs.Tables.{Cell, off, upto, least, plus, Rows, at, leastOf, Set, contradiction, bounds, judgedSet}
+use Rattle.bounds.specs.declared.Event.the-variants.{Start, Finish}
+use Rattle.bounds.specs.Events.{jobAt, shift, earliest, latest, eventOf, nodeOf, startNode, finishNode, nodes}
+use Rattle.bounds.specs.Tables.{Cell, off, least, plus, Rows, at, leastOf, contradiction, bounds}
 use Rattle.bounds.specs.BuildLaws.{eventOf-start, eventOf-finish, byNode}
 use Rattle.rounds.specs.Given.{ownBounds, betweenBounds}
 use Rattle.rounds.specs.Rounds.{C0, ownNodes, isOwn, moved, onNext, joined}
-use Rattle.strategy.specs.Histories.{Ran, History, since, seenFrom, turn}
+use Rattle.strategy.specs.Histories.{History, since, seenFrom, turn}
 use Rattle.strategy.specs.Strategies.{ranIn}
-use Rattle.strategy.specs.Keeping.{Holds, when, gap, Keeps, Timely, Extreme, Anchored, Sized}
+use Rattle.strategy.specs.Keeping.{Holds, when, gap, Keeps, Timely, Anchored, Sized}
 use Rattle.strategy.specs.CellLaws.{least-iff, plus-iff}
 use Rattle.strategy.specs.SetLaws.{jobAt-turn, judgedSet-past, judged-keeps, judged-back, judged-none}
-use Rattle.strategy.specs.EliminationLaws.{holds-less}
 use Rattle.strategy.specs.Soundness.{Sound}
 use Rattle.strategy.specs.HistoryLaws.{Fails}
-use Rattle.strategy.specs.PlaceLaws.{Tidy, anchored-less, judged-tidy}
+use Rattle.strategy.specs.PlaceLaws.{Tidy, judged-tidy}
 use Rattle.strategy.specs.GivenLaws.{All, BetweenKept, leastOf-says, leastOf-kept, kept-leastOf, Says, all-own}
 use Rattle.strategy.specs.WindowLaws.{own-below, across-below, this-shift}
-use Rattle.strategy.specs.SeenLaws.{at-most-or-above, length-seen, ran-seen, turn-seen}
+use Rattle.strategy.specs.SeenLaws.{at-most-or-above, ran-seen, turn-seen}
 
 -- ---- C(0)
 
@@ -141,14 +138,10 @@ module _ (p : Plan) where
       (ap₂ (λ a b. plus (at t a b) (moved p (nextNode p z) -ℤ moved p (nextNode p y))) (next-back y) (next-back z)
       ∙ ap₂ (λ a b. plus (at t y z) (a -ℤ b)) (moved-next z) (moved-next y))
 
-  or-right : (a : Bool) → a || true ≡ true
-  or-right true = refl
-  or-right false = refl
-
   onNext-own : (t : Rows) (y z : ℕ) → (isOwn p y ≡ true) ⊎ (isOwn p z ≡ true) → onNext p t y z ≡ off
   unfolding onNext
   onNext-own t y z (inl h) = rw h
-  onNext-own t y z (inr h) = rw (h, or-right (isOwn p y))
+  onNext-own t y z (inr h) = rw (h, or-true (isOwn p y))
 
 -- ---- times of the next window
 

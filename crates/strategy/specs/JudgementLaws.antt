@@ -2,11 +2,11 @@
 -- none in range, if every job runs as long as it can, or if every job runs as short: for the start and the finish of one job it takes one of
 -- these (in P13 the made f - s <= 6 is kept by a short run), and for every other pair either will do.
 use Prim.Native.Nat.{ℕ}
-use mathlib.Core.Path.{_≡_, refl, sym, ap, subst}
+use mathlib.Core.Path.{_≡_, refl}
 use mathlib.Core.Bool.{Bool, true, false, cond}
 use native.Mathlib.Omega.{arith}
 use lib.Dec.{eqb}
-use lib.IntN.{ℤ, pos, negℤ, _+ℤ_, _-ℤ_}
+use lib.IntN.{ℤ, pos, negℤ, _-ℤ_}
 use lib.Signed.{_≤ℤ_, _<ℤ_, ltZ, leZ}
 use borrow.Author.Tests.{eqb-true}
 use Rattle.whole.specs.SplitLaws.{split-neg}
@@ -14,11 +14,10 @@ use Rattle.whole.specs.Rules.{wholes}
 use Rattle.plan.specs.declared.Plan.{Plan}
 use Rattle.bounds.specs.declared.Event.{Event}
 use Rattle.bounds.specs.declared.Event.the-variants.{Origin, Start, Finish}
-use Rattle.bounds.specs.declared.Judgement.{Judgement}
 use Rattle.bounds.specs.declared.Judgement.the-variants.{Contradiction, LeftOut, Kept}
 use Rattle.bounds.specs.Events.{jobAt, earliest, latest}
 use Rattle.bounds.specs.Judgements.{judged, judgedSame, judgedRunning, judgedReverse, judgedOrigin, judgedApart, atLeast}
-use Rattle.strategy.specs.Histories.{Ran, History}
+use Rattle.strategy.specs.Histories.{History}
 use Rattle.strategy.specs.Strategies.{ranIn}
 use Rattle.strategy.specs.Keeping.{when, RunsWithin, InRange, extreme}
 

@@ -1,27 +1,22 @@
 -- Histories that keep the plan's bounds. What holds of every window of a history holds of every window of its beginnings, and for a history that is
 -- one window longer it follows from its last two windows. In a game that ends with the bounds kept, every start leaves room for the longest run.
-use Prim.Native.Nat.{ℕ, zero, suc, _+_, _*_, _-_, _≤_, _<_}
+use Prim.Native.Nat.{ℕ, zero, suc, _+_, _*_, _≤_, _<_}
 use mathlib.Core.Path.{_≡_, refl, sym, ap, subst, _∙_}
-use mathlib.Core.Logic.{_⊎_, inl, inr, ⊎-elim}
-use mathlib.Core.Bool.{Bool, true, false, cond}
-use mathlib.Core.List.{List, [], _∷_, _++_, List·Memᴰ}
-use native.Mathlib.Nat.{mul-le-mul-right, suc-mul, zero-mul}
+use mathlib.Core.Logic.{⊎-elim}
+use mathlib.Core.Bool.{true}
+use mathlib.Core.List.{[], _++_}
+use native.Mathlib.Nat.{mul-le-mul-right, suc-mul}
 use native.Mathlib.Omega.{arith}
 use lib.IntN.{ℤ, pos, _+ℤ_, _-ℤ_, _*ℤ_}
 use lib.Signed.{_≤ℤ_}
 use lib.ListN.{length, length-append, List·getD-append}
 use Rattle.whole.specs.Rules.{wholes}
-use Rattle.whole.specs.Shape.{any, _⊕_, _⊖_, le}
-use Rattle.whole.specs.ShapeLaws.{reads, shows}
-use Rattle.plan.specs.declared.Bound.{Bound}
 use Rattle.plan.specs.declared.Plan.{Plan}
-use Rattle.plan.specs.PlanWritten.{boundsOf}
 use Rattle.strategy.specs.Histories.{Ran, History, noRan, ranFor, turn, since, seenFrom}
-use Rattle.strategy.specs.Strategies.{ranIn, placeIn, kindIn, timeIn, GivenKept, KeptIn, Kept, Forced}
-use Rattle.strategy.specs.Keeping.{Timely}
+use Rattle.strategy.specs.Strategies.{ranIn, placeIn, KeptIn, Kept, Forced}
 use Rattle.strategy.specs.EliminationLaws.{below-or-last}
 use Rattle.strategy.specs.Soundness.{Sound}
-use Rattle.strategy.specs.HistoryLaws.{length-more, ran-new, each-more, turn-min-max, Follows, forced-play}
+use Rattle.strategy.specs.HistoryLaws.{length-more, ran-new, each-more, turn-min-max, forced-play}
 use Rattle.strategy.specs.WindowLaws.{Held, place-two}
 use Rattle.strategy.specs.SeenLaws.{at-most-or-above, length-seen, ran-seen, seen-more, seen-none}
 

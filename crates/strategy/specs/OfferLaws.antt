@@ -3,30 +3,27 @@
 -- t is on offer exactly if these hold at t, for the events in force.
 use Prim.Native.Nat.{ℕ, zero, suc, _+_, _*_, _-_, _/_, _%_, _≤_, _<_}
 use mathlib.Core.Path.{_≡_, refl, sym, ap, ap₂, subst, _∙_}
-use mathlib.Core.Logic.{_↔_, _⊎_, inl, inr, ⊎-elim}
-use mathlib.Core.Bool.{Bool, true, false, cond, _&&_, _||_}
+use mathlib.Core.Logic.{_↔_, ⊎-elim}
+use mathlib.Core.Bool.{Bool, true, false, cond, _&&_}
 use mathlib.Core.List.{List, [], _∷_, _++_}
 use native.Mathlib.Omega.{arith}
-use lib.Dec.{eqb, leb, ltb}
+use lib.Dec.{eqb}
 use lib.IntN.{ℤ, pos, negℤ, _+ℤ_, _-ℤ_, _*ℤ_}
 use lib.Signed.{_≤ℤ_, ltZ}
 use lib.ListN.{length, getD, length-append, length-replicate, replicate, List·getD-append}
 use lib.Seq.{getD-append-add}
 use borrow.Author.Tests.{eq-eqb, ne-eqb}
-use Rattle.whole.specs.SplitLaws.{split-neg, split-mul}
+use Rattle.whole.specs.SplitLaws.{split-neg}
 use Rattle.whole.specs.Rules.{wholes}
-use Rattle.whole.specs.Shape.{any, _⊕_, _⊖_, le}
+use Rattle.whole.specs.Shape.{any, _⊖_, le}
 use Rattle.whole.specs.ShapeLaws.{reads, shows}
-use Rattle.clock.specs.declared.RunTime.{RunTime}
-use Rattle.clock.specs.Clock.{beginsAt, onRun}
 use Rattle.plan.specs.declared.Plan.{Plan}
 use Rattle.plan.specs.Limits.{mostJobs}
 use Rattle.plan.specs.PlanRead.{filled}
 use Rattle.bounds.specs.Events.{startNode}
 use Rattle.bounds.specs.Tables.{Cell, off, upto, Rows, at, listed}
-use Rattle.bounds.specs.BuildLaws.{getD-listed, length-listed}
+use Rattle.bounds.specs.BuildLaws.{both-true, getD-listed, length-listed}
 use Rattle.rounds.specs.declared.Terms.{Terms}
-use Rattle.rounds.specs.declared.Calendar.{Calendar}
 use Rattle.rounds.specs.Bits.{hasEvent, eventSet}
 use Rattle.rounds.specs.Calendars.{isOn, weight, fromBelow, fromAbove, eventsBefore, termsOf, leastCs, mostCs, mostEvents, noTerms, allTerms, allCs, calendarOf}
 use Rattle.runs.specs.declared.Run.{Run}
@@ -54,10 +51,6 @@ hasEvent-eventSet zero (b ∷ bs) = bit-first b (eventSet bs)
 hasEvent-eventSet (suc e) (b ∷ bs) = ap (hasEvent e) (bit-others b (eventSet bs)) ∙ hasEvent-eventSet e bs
 
 -- ---- one end
-
-and-true : (a b : Bool) → a && b ≡ true → (a ≡ true) × (b ≡ true)
-and-true true b h = (refl, h)
-and-true false b h = absurd (let z : _≡_ {A = ℕ} 0 1 = cc in omega arith)
 
 module _ (pick : ℤ → ℤ → ℤ) (R : ℤ → Type 0) (law : (a b : ℤ) → R (pick a b) ↔ (R a × R b)) (p : Plan) (r : Run) (set : ℕ) (cs : List ℤ) (row : ℕ) where
   -- the term of event k bounds
@@ -253,7 +246,7 @@ module _ (p : Plan) (r : Run) (J count : ℕ) (pick : ℤ → ℤ → ℤ) (R : 
       bounds-end pick R law p r events cs row count 0 _
       (subst (λ a. R ((pos J *ℤ p .window) +ℤ (a -ℤ p .window))) (sym base-is) (base-law w₀ .1 (rw there at (f 0 (omega arith) tt))))
       (λ k lo hi b.
-      let q = and-true (hasEvent k events) (isInForce p r k) b in
+      let q = both-true (hasEvent k events) (isInForce p r k) b in
       let on = isOn-upto (cell (suc k)) (sym (has k (omega arith)) ∙ q .0) in
       subst (λ a. R (timeOf p r k +ℤ a)) (sym (cs-is k (omega arith) ∙ ap (λ x. c (weight x)) (on .1)))
       (term-law (timeOf p r k) (on .0) .1 (rw (on .1) at (f (suc k) (omega arith) (q .1)))))

@@ -1,31 +1,29 @@
 -- The elimination of a job and of several jobs in a row, read as a game. Timely times keep what is left exactly if the jobs that were eliminated
 -- can be started so that the table from before is kept; a contradiction fails.
-use Prim.Native.Nat.{ℕ, zero, suc, _+_, _*_, _-_, _≤_, _<_}
+use Prim.Native.Nat.{ℕ, zero, suc, _+_, _≤_, _<_}
 use mathlib.Core.Path.{_≡_, refl, sym, ap, subst, _∙_}
 use mathlib.Core.Logic.{_⊎_, inl, inr, ⊎-elim}
-use mathlib.Core.Bool.{Bool, true, false, cond}
-use mathlib.Core.List.{List, [], _∷_, _++_}
+use mathlib.Core.List.{[], _∷_, _++_}
 use native.Mathlib.Numerals.{add-one}
 use native.Mathlib.Nat.{add-suc, add-zero}
 use native.Mathlib.Omega.{arith}
-use lib.IntN.{ℤ, pos, _+ℤ_, _-ℤ_}
+use lib.IntN.{ℤ, pos, _+ℤ_}
 use lib.Signed.{_≤ℤ_}
 use lib.ListN.{length}
 use Rattle.whole.specs.Rules.{wholes}
 use Rattle.plan.specs.declared.Plan.{Plan}
-use Rattle.bounds.specs.declared.Event.the-variants.{Origin, Start, Finish}
-use Rattle.bounds.specs.Events.{jobAt, earliest, latest, eventOf, startNode, finishNode, nodes}
-use Rattle.bounds.specs.Tables.{Cell, off, upto, Rows, at, Set, contradiction, bounds, judgedSet}
+use Rattle.bounds.specs.Events.{jobAt, eventOf, startNode, finishNode, nodes}
+use Rattle.bounds.specs.Tables.{Cell, off, Rows, at, Set, contradiction, bounds, judgedSet}
 use Rattle.bounds.specs.Elimination.{finishCell, startCell, withoutFinish, withoutStart, thenSet, withoutPlace, eliminated}
 use Rattle.bounds.specs.BuildLaws.{eventOf-start, eventOf-finish, byNode}
-use Rattle.strategy.specs.Histories.{Ran, History, noRan, ranFor, turn}
-use Rattle.strategy.specs.Strategies.{ranIn, Forced}
-use Rattle.strategy.specs.Keeping.{Holds, when, gap, Keeps, Timely, extreme, Extreme, Anchored, Sized}
+use Rattle.strategy.specs.Histories.{Ran, History, ranFor, turn}
+use Rattle.strategy.specs.Strategies.{Forced}
+use Rattle.strategy.specs.Keeping.{Holds, when, gap, Keeps, Timely, extreme, Anchored}
 use Rattle.strategy.specs.CellLaws.{present}
 use Rattle.strategy.specs.SetLaws.{jobAt-turn, judged-anchored, judged-keeps, judged-back, judged-none, judged-diagonal}
 use Rattle.strategy.specs.EliminationLaws.{without-f, without-s, finish-out, finish-in, start-out, start-in, below-or-last}
 use Rattle.strategy.specs.Soundness.{Sound}
-use Rattle.strategy.specs.HistoryLaws.{length-more, ran-old, ran-new, timely-more, extreme-more, extreme-least, extreme-most, extreme-timely, turn-min-max, Follows, forced-map, forced-split, forced-join, forced-play, Fails, fails-before, fails-map}
+use Rattle.strategy.specs.HistoryLaws.{length-more, ran-old, ran-new, timely-more, extreme-more, turn-min-max, forced-map, forced-split, forced-join, Fails, fails-before, fails-map}
 
 -- ---- the times of one job more
 

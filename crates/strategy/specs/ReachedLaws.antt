@@ -1,15 +1,16 @@
 -- Runs that kept to their offers. Such a run shows its history, and from it the game can still be won; so its offer is never empty, and t is on offer
 -- exactly if after a start at t strategies exist to the end of this window and of every later one.
-use Prim.Native.Nat.{ℕ, zero, suc, _+_, _*_, _-_, _%_, _≤_, _<_}
+use Prim.Native.Nat.{ℕ, zero, suc, _+_, _*_, _-_, _≤_, _<_}
 use mathlib.Core.Path.{_≡_, refl, sym, ap, ap₂, subst, _∙_}
 use mathlib.Core.Logic.{_↔_, _⊎_, inl, inr, ⊎-elim}
 use mathlib.Core.Bool.{Bool, true, false, cond, _&&_}
 use mathlib.Core.List.{List, [], _∷_, _++_}
 use native.Mathlib.Nat.{mod-eq-of-lt}
 use native.Mathlib.Numerals.{add-one}
+use mathlib.Core.Option.{Option, none, some}
 use native.Mathlib.Omega.{arith}
 use lib.Dec.{ltb}
-use lib.IntN.{ℤ, pos, _+ℤ_, _-ℤ_, _*ℤ_}
+use lib.IntN.{ℤ, _+ℤ_, _-ℤ_}
 use lib.Signed.{_≤ℤ_, leZ, ltZ}
 use lib.ListN.{length, getD, set, length-set}
 use lib.Seq.{getD-set-same, getD-set-other}
@@ -21,42 +22,44 @@ use Rattle.plan.specs.declared.Plan.{Plan}
 use Rattle.plan.specs.declared.Refusal.{Refusal}
 use Rattle.plan.specs.declared.Refusal.the-variants as refusal
 use Rattle.plan.specs.Limits.{mostJobs}
+use Rattle.plan.specs.Refusals.{outsideLimits}
 use Rattle.plan.specs.PlanRead.{noJob}
-use Rattle.bounds.specs.Events.{startNode, finishNode}
-use Rattle.bounds.specs.Tables.{Cell, upto, Rows, at, bounds}
+use Rattle.bounds.specs.Events.{startNode}
+use Rattle.bounds.specs.Tables.{upto, Rows, at}
 use Rattle.bounds.specs.Elimination.{thenSet}
 use Rattle.rounds.specs.declared.Calendar.{Calendar}
-use Rattle.rounds.specs.Rounds.{C0, joined, Outcome, settled, outcome}
+use Rattle.rounds.specs.Rounds.{joined, settled, outcome}
 use Rattle.rounds.specs.Calendars.{thenTables, beforeStarts, calendarOf, calendar}
+use Rattle.runs.specs.declared.Phase.the-variants.{Waiting, Running}
 use Rattle.runs.specs.declared.Probe.{Probe}
 use Rattle.runs.specs.declared.Phase.{Phase}
-use Rattle.runs.specs.declared.Phase.the-variants.{Waiting, Running}
 use Rattle.runs.specs.declared.Run.{Run}
 use Rattle.runs.specs.declared.Offer.{Offer}
 use Rattle.runs.specs.declared.Opening.{Opening}
 use Rattle.runs.specs.declared.Opening.the-variants.{Open, Shut}
 use Rattle.runs.specs.declared.Choice.{Choice}
 use Rattle.runs.specs.declared.Choice.the-variants.{At, Auto}
-use Rattle.runs.specs.declared.Step.the-variants.{Start, Finish}
+use Rattle.runs.specs.declared.Step.{Step}
+use Rattle.runs.specs.declared.Step.the-variants.{Ask, Start, Finish}
 use Rattle.runs.specs.declared.Answer.the-variants.{Started, Final, Refused}
 use Rattle.runs.specs.declared.Answered.{Answered}
 use Rattle.runs.specs.ValueLimits.{isTime}
 use Rattle.runs.specs.Offers.{noProbe, offerOf, opened, openingIn, opening}
-use Rattle.runs.specs.Steps.{noProbes, newRun, refusedWith, startedAt, startedBy, started, closed, finished, stepped}
-use Rattle.strategy.specs.Histories.{Ran, History, noRan, ranFor, turn}
-use Rattle.strategy.specs.Strategies.{ranIn, Kept, Strategy, StrategyAfter}
+use Rattle.runs.specs.Steps.{newRun, refusedWith, asked, startedAt, started, closed, finished, stepped, unlessRefused, step}
+use Rattle.strategy.specs.Histories.{Ran, History, turn}
+use Rattle.strategy.specs.Strategies.{ranIn, Kept, StrategyAfter}
 use Rattle.strategy.specs.Reaching.{OnOffer, Reached, begun}
 use Rattle.strategy.specs.Reaching as reaching
 use Rattle.strategy.specs.CellLaws.{present}
 use Rattle.strategy.specs.EliminationLaws.{below-or-last}
 use Rattle.strategy.specs.Soundness.{Sound}
-use Rattle.strategy.specs.HistoryLaws.{ran-old, ran-new, length-more}
+use Rattle.strategy.specs.HistoryLaws.{ran-old, ran-new}
 use Rattle.strategy.specs.SeenLaws.{turn-seen}
 use Rattle.strategy.specs.KeptLaws.{kept-of}
 use Rattle.strategy.specs.VerdictLaws.{IsSettled, settled-is}
 use Rattle.strategy.specs.StageLaws.{Stages, before-tidy, length-tables}
 use Rattle.strategy.specs.OfferLaws.{Fitting, offer-fitting, fitting-offer}
-use Rattle.strategy.specs.GameLaws.{Settling, settling, Well, well-begin, WellAfter, well-more, Chosen, Winning, winning-chosen, chosen-winning, tables, some-winning, AllowedAt, winning-allowed, allowed-winning, later-tidy, later-fits}
+use Rattle.strategy.specs.GameLaws.{Settling, settling, Well, well-begin, WellAfter, well-more, Winning, winning-chosen, chosen-winning, tables, some-winning, AllowedAt, winning-allowed, allowed-winning, later-tidy, later-fits}
 use Rattle.strategy.specs.RunLaws.{probeOf, ShowsPrevious, Shows, later-fitting, fitting-later, first-fitting, fitting-first}
 
 module _ (p : Plan) (sound : Sound p) (m : ℕ) (c : Rows) (s : IsSettled p sound m c) (f : Settling p sound m c s) where
@@ -435,6 +438,48 @@ module _ (p : Plan) (sound : Sound p) (m : ℕ) (c : Rows) (s : IsSettled p soun
       (finished-waits r h w t (finished p r t (r .phase) .run) (subst (λ a. Ended p r (suc (w .j)) (suc (w .i)) (w .since) t (finished p r t a .run)) (sym x) k))))
       (state before)
 
+-- ---- where 11 comes from
+
+asked-empty : (r : Run) (x : Opening) → asked r x .answer ≡ Refused refusal.EmptyOffer → x ≡ Shut refusal.EmptyOffer
+unfolding asked
+asked-empty r (Open j i o) e = absurd (let z : _≡_ {A = ℕ} 0 1 = cc in omega arith)
+asked-empty r (Shut x) e = cc
+
+started-or-not : (r : Run) (a b : ℕ) (t : RunTime) (x : Bool) (q : Refusal) → cond x (startedAt r a b t) (refusedWith r q) .answer ≡ Refused refusal.EmptyOffer
+    → q ≡ refusal.EmptyOffer
+started-or-not r a b t true q e = absurd (let z : _≡_ {A = ℕ} 0 1 = cc in omega arith)
+started-or-not r a b t false q e = cc
+
+started-empty : (r : Run) (choice : Choice) (x : Opening) → started r choice x .answer ≡ Refused refusal.EmptyOffer → x ≡ Shut refusal.EmptyOffer
+unfolding started
+started-empty r (At t) (Open j i o) e =
+    let q = started-or-not r j i t (within (o .from .0) (o .to .0) (t .0)) refusal.OutsideOffer e in absurd (let z : _≡_ {A = ℕ} 0 1 = cc in omega arith)
+started-empty r Auto (Open j i o) e =
+    let q = started-or-not r j i (o .from) (isTime (o .from)) outsideLimits e in absurd (let z : _≡_ {A = ℕ} 0 1 = cc in omega arith)
+started-empty r choice (Shut x) e = cc
+
+final-or-not : (p : Plan) (r : Run) (j i : ℕ) (q : Probe) (t : RunTime) (x : Bool)
+    → cond {A = Answered} x (record { answer = Final j i t; run = closed p r j i q }) (refusedWith r refusal.OutsideTimes) .answer ≡ Refused refusal.EmptyOffer → ⊥
+final-or-not p r j i q t true e = let z : _≡_ {A = ℕ} 0 1 = cc in omega arith
+final-or-not p r j i q t false e = let z : _≡_ {A = ℕ} 0 1 = cc in omega arith
+
+finished-empty : (p : Plan) (r : Run) (t : RunTime) (ph : Phase) → finished p r t ph .answer ≡ Refused refusal.EmptyOffer → ⊥
+unfolding finished
+finished-empty p r t (Waiting j i) e = let z : _≡_ {A = ℕ} 0 1 = cc in omega arith
+finished-empty p r t (Running j i since) e = final-or-not p r j i _ t (within (since .0 +ℤ getD (p .job) (i - 1) noJob .min) (since .0 +ℤ getD (p .job) (i - 1) noJob .max) (t .0)) e
+
+-- ---- steps on values that are handed over
+
+unless-refused : (r : Run) (x : Option Refusal) (a : Answered) → ((q : Refusal) → unlessRefused r x a .answer ≡ Refused q → ⊥) → unlessRefused r x a ≡ a
+unfolding unlessRefused
+unless-refused r (some x) a h = absurd (h x refl)
+unless-refused r none a h = refl
+
+-- one that is not refused is the step of which `Reached` speaks
+pub step-stepped : (p : Plan) (c : Calendar) (r : Run) (st : Step) → ((q : Refusal) → step p c r st .answer ≡ Refused q → ⊥) → step p c r st ≡ stepped p c r st
+unfolding step
+step-stepped p c r st h = unless-refused r _ (stepped p c r st) h
+
 -- ---- the offers of such a run
 
 module _ (p : Plan) (sound : Sound p) (m : ℕ) (c : Rows) (accepted : outcome p ≡ settled m c) where
@@ -499,9 +544,9 @@ module _ (p : Plan) (sound : Sound p) (m : ℕ) (c : Rows) (accepted : outcome p
     -- 11 is never given
     shut-waiting : (J I : ℕ) (o : Offer) (b d : Bool) → o .from .0 ≤ℤ o .to .0 → ltZ (o .to .0) (o .from .0) ≡ d
         → cond b (Shut refusal.Over) (cond d (Shut refusal.EmptyOffer) (Open J I o)) ≡ Shut refusal.EmptyOffer → ⊥
-    shut-waiting J I o true d some e h = let z : _≡_ {A = ℕ} 0 1 = cc in omega arith
-    shut-waiting J I o false true some e h = omega wholes
-    shut-waiting J I o false false some e h = let z : _≡_ {A = ℕ} 0 1 = cc in omega arith
+    shut-waiting J I o true d least e h = let z : _≡_ {A = ℕ} 0 1 = cc in omega arith
+    shut-waiting J I o false true least e h = omega wholes
+    shut-waiting J I o false false least e h = let z : _≡_ {A = ℕ} 0 1 = cc in omega arith
 
     never-empty : Waits p sound m c s f r h ⊎ Runs p sound m c s f r h → opening p (calendar p c) r ≡ Shut refusal.EmptyOffer → ⊥
     unfolding openingIn
@@ -515,6 +560,12 @@ module _ (p : Plan) (sound : Sound p) (m : ℕ) (c : Rows) (accepted : outcome p
 
     pub reached-never-empty : opening p (calendar p c) r ≡ Shut refusal.EmptyOffer → ⊥
     reached-never-empty e = never-empty (state p sound m c s f reached) e
+
+    pub reached-never-11 : (st : Step) → stepped p (calendar p c) r st .answer ≡ Refused refusal.EmptyOffer → ⊥
+    unfolding stepped
+    reached-never-11 Ask e = reached-never-empty (asked-empty r (opening p (calendar p c) r) e)
+    reached-never-11 (Start choice) e = reached-never-empty (started-empty r choice (opening p (calendar p c) r) e)
+    reached-never-11 (Finish t) e = finished-empty p r t (r .phase) e
 
     -- while the run lasts it is open, and its lower end can be taken
     opened-as : (J I : ℕ) (o : Offer) → o .from .0 ≤ℤ o .to .0 → opened J I o ≡ Open J I o

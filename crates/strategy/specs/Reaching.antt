@@ -15,7 +15,7 @@ use Rattle.runs.specs.declared.Choice.{Choice}
 use Rattle.runs.specs.declared.Step.the-variants.{Start, Finish}
 use Rattle.runs.specs.declared.Answer.the-variants.{Started, Final}
 use Rattle.runs.specs.Steps.{newRun, stepped}
-use Rattle.strategy.specs.Histories.{Ran, History}
+use Rattle.strategy.specs.Histories.{History}
 
 -- 'both ends included'
 pub record OnOffer (o : Offer) (t : ℤ) : Type 0 where

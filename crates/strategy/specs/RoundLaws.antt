@@ -1,33 +1,29 @@
 -- The round theorem: after whole windows, a strategy for m more windows exists exactly if the history keeps the plan's bounds and its last window
 -- keeps C(m). A contradiction in round m + 1 means that no strategy goes m + 1 windows past the first. From the beginning, a strategy for m + 1
 -- windows exists exactly if one window alone, with C(m), gives no contradiction when it is eliminated.
-use Prim.Native.Nat.{ℕ, zero, suc, _+_, _*_, _-_, _≤_, _<_}
+use Prim.Native.Nat.{ℕ, zero, suc, _+_, _*_, _≤_, _<_}
 use mathlib.Core.Path.{_≡_, refl, sym, ap, subst, _∙_}
-use mathlib.Core.Logic.{_⊎_, inl, inr, ⊎-elim}
-use mathlib.Core.Bool.{Bool, true, false}
-use mathlib.Core.List.{List, [], _∷_, _++_}
-use native.Mathlib.Nat.{zero-mul, zero-add}
+use mathlib.Core.Bool.{true}
+use mathlib.Core.List.{_++_}
+use native.Mathlib.Nat.{zero-mul}
 use native.Mathlib.Omega.{arith}
-use lib.ListN.{length, length-append, List·getD-append}
+use lib.ListN.{length, List·getD-append}
 use Rattle.plan.specs.declared.Plan.{Plan}
-use Rattle.bounds.specs.declared.Event.the-variants.{Origin, Start, Finish}
-use Rattle.bounds.specs.Events.{eventOf, startNode, finishNode, nodes}
-use Rattle.bounds.specs.Tables.{Cell, off, upto, Rows, at, Set, contradiction, bounds}
+use Rattle.bounds.specs.Events.{eventOf, nodes}
+use Rattle.bounds.specs.Tables.{Cell, Rows, at, Set, bounds}
 use Rattle.bounds.specs.Elimination.{thenSet, eliminated}
 use Rattle.bounds.specs.BuildLaws.{eventOf-start, eventOf-finish, byNode}
 use Rattle.rounds.specs.Rounds.{C0, joined, round}
-use Rattle.rounds.specs.Given.{ownBounds, betweenBounds}
-use Rattle.strategy.specs.Histories.{Ran, History, noRan, ranFor, turn, seenFrom}
-use Rattle.strategy.specs.Strategies.{ranIn, KeptIn, Kept, Forced, Strategy}
-use Rattle.strategy.specs.Keeping.{Holds, when, gap, Keeps, Timely, Extreme, Anchored}
+use Rattle.strategy.specs.Histories.{History, noRan, seenFrom}
+use Rattle.strategy.specs.Strategies.{Kept, Forced, Strategy}
+use Rattle.strategy.specs.Keeping.{when, Keeps, Timely}
 use Rattle.strategy.specs.Soundness.{Sound}
-use Rattle.strategy.specs.HistoryLaws.{Follows, forced-map, forced-split, forced-join, forced-play, Fails, fails-before, fails-map}
-use Rattle.strategy.specs.PlaceLaws.{Tidy, thenSet-bounds, thenSet-none, Played, elim-tidy, elim-keeps, elim-back, elim-none}
-use Rattle.strategy.specs.GivenLaws.{All, BetweenKept}
+use Rattle.strategy.specs.HistoryLaws.{Follows, forced-map, forced-split, forced-join, forced-play}
+use Rattle.strategy.specs.PlaceLaws.{Tidy, thenSet-bounds, elim-tidy, elim-keeps, elim-back}
 use Rattle.strategy.specs.WindowLaws.{Held, held-own, held-across, own-held}
-use Rattle.strategy.specs.SeenLaws.{length-seen, timely-seen, forced-seen, seen-forced, seen-next, seen-all}
-use Rattle.strategy.specs.KeptLaws.{Always, kept-before, held-next, held-one, Punctual, held-of, punctual-of, kept-of, forced-punctual}
-use Rattle.strategy.specs.JoinedLaws.{C0-tidy, C0-keeps, C0-back, C0-none, Both, joined-tidy, joined-keeps, joined-back, joined-none}
+use Rattle.strategy.specs.SeenLaws.{length-seen, timely-seen, forced-seen, seen-forced, seen-next}
+use Rattle.strategy.specs.KeptLaws.{Always, kept-before, held-next, Punctual, held-of, punctual-of, kept-of, forced-punctual}
+use Rattle.strategy.specs.JoinedLaws.{C0-tidy, C0-keeps, C0-back, Both, joined-tidy, joined-keeps, joined-back}
 
 -- 'C(0) is one window's own bounds. Round m (m from 1): put C(m-1) on the next window, C(0) on this one, ..'
 unfoldable pub C : Plan → ℕ → Set

@@ -2,23 +2,20 @@
 use Prim.Native.Nat.{ℕ, zero, suc, _+_, _*_, _-_, _/_, _%_, _≤_, _<_}
 use mathlib.Core.Path.{_≡_, refl, sym, ap, ap₂, subst, _∙_}
 use mathlib.Core.Logic.{_⊎_, inl, inr, ⊎-elim}
-use mathlib.Core.Bool.{Bool, true, false, cond, _&&_, _||_}
-use mathlib.Core.List.{List, [], _∷_, _++_}
+use mathlib.Core.Bool.{true, false, or-true}
+use mathlib.Core.List.{List, []}
 use native.Mathlib.Omega.{arith}
-use lib.Dec.{eqb, leb, ltb}
-use lib.IntN.{ℤ, pos, negℤ, _+ℤ_, _-ℤ_, _*ℤ_}
-use lib.Signed.{_≤ℤ_}
+use lib.IntN.{ℤ, pos, _+ℤ_, _-ℤ_, _*ℤ_}
 use lib.ListN.{length, getD}
 use borrow.Author.Tests.{eq-eqb, ne-eqb, lt-ltb, le-ltb, le-leb, leb-true}
-use Rattle.whole.specs.SplitLaws.{split-mul, split-sub}
+use Rattle.whole.specs.SplitLaws.{split-mul}
 use Rattle.whole.specs.Rules.{wholes}
-use Rattle.whole.specs.Shape.{any, _⊕_, _⊖_, le, eq}
-use Rattle.whole.specs.ShapeLaws.{reads, shows}
+use Rattle.whole.specs.Shape.{any, _⊕_, _⊖_, eq}
+use Rattle.whole.specs.ShapeLaws.{shows}
 use Rattle.plan.specs.declared.Plan.{Plan}
 use Rattle.plan.specs.Limits.{mostJobs}
-use Rattle.bounds.specs.declared.Event.the-variants.{Origin, Start, Finish}
 use Rattle.bounds.specs.Events.{eventOf, startNode, finishNode}
-use Rattle.bounds.specs.Tables.{Cell, off, upto, plus, Rows, at}
+use Rattle.bounds.specs.Tables.{plus, Rows, at}
 use Rattle.bounds.specs.BuildLaws.{eventOf-start, eventOf-finish, byNode}
 use Rattle.rounds.specs.Rounds.{ownNodes, moved}
 use Rattle.runs.specs.declared.Probe.{Probe}
@@ -30,7 +27,7 @@ use Rattle.strategy.specs.Keeping.{Holds, when}
 use Rattle.strategy.specs.CellLaws.{plus-iff}
 use Rattle.strategy.specs.SeenLaws.{at-most-or-above, ran-seen}
 use Rattle.strategy.specs.JoinedLaws.{nextNode, next-later, moved-later}
-use Rattle.strategy.specs.AloneLaws.{Shifted, shifted}
+use Rattle.strategy.specs.AloneLaws.{Shifted}
 use Rattle.strategy.specs.StageLaws.{Allowed}
 use Rattle.strategy.specs.OfferLaws.{InForce, tableBegin, nodeTime, Fitting}
 
@@ -83,15 +80,11 @@ module _ (p : Plan) (r : Run) where
   all-force h zero = tt
   all-force h (suc k) = rw h
 
-  or-right : (a : Bool) → a || true ≡ true
-  or-right true = refl
-  or-right false = refl
-
   next-force : (y : ℕ) → InForce p r (nextNode p y)
   unfolding isInForce
   next-force zero = tt
   next-force (suc y) =
-      rw (next-later p (suc y) (omega arith), suc-of y (ownNodes p)) (rw (le-leb (2 * p .jobs) (y + ownNodes p) (omega arith)) (or-right (r .«has_previous»)))
+      rw (next-later p (suc y) (omega arith), suc-of y (ownNodes p)) (rw (le-leb (2 * p .jobs) (y + ownNodes p) (omega arith)) (or-true (r .«has_previous»)))
     where
       suc-of : (y n : ℕ) → suc y + n ≡ suc (y + n)
       suc-of y n = omega arith

@@ -1,34 +1,28 @@
 -- What a history has seen from a window on: its length and its jobs, one job more, the window after it; a game on the window's own clock is the
 -- game on the run's clock (`forced-seen`). What holds of every window of a history holds of its beginnings, and follows for a history that is one
 -- window longer from its last two windows. In a game that keeps the bounds every start leaves room for the longest run (`forced-punctual`).
-use Prim.Native.Nat.{ℕ, zero, suc, _+_, _*_, _-_, _%_, _≤_, _<_}
-use mathlib.Core.Path.{_≡_, refl, sym, ap, subst, _∙_}
-use mathlib.Core.Logic.{_⊎_, inl, inr, ⊎-elim}
-use mathlib.Core.Bool.{Bool, true, false, cond}
-use mathlib.Core.List.{List, [], _∷_, _++_, map, append-assoc, List·Memᴰ}
-use native.Mathlib.Nat.{mul-add-mod-self-right, mul-le-mul-right, suc-mul}
+use Prim.Native.Nat.{ℕ, zero, suc, _+_, _*_, _-_, _≤_, _<_}
+use mathlib.Core.Path.{_≡_, refl, sym, ap, _∙_}
+use mathlib.Core.Logic.{_⊎_, inl, inr}
+use mathlib.Core.Bool.{Bool, true, false}
+use mathlib.Core.List.{[], _∷_, _++_, map}
+use native.Mathlib.Nat.{mul-add-mod-self-right, suc-mul}
 use native.Mathlib.Omega.{arith}
 use lib.Dec.{leb}
 use lib.IntN.{ℤ, pos, _+ℤ_, _-ℤ_, _*ℤ_}
-use lib.Signed.{_≤ℤ_}
-use lib.ListN.{length, getD, drop, length-append, length-drop, length-map, drop-of-length-le, List·getD-append}
-use lib.Seq.{drop-append-le, getD-drop, ext-getD, getD-append-seam}
+use lib.ListN.{length, getD, drop, length-drop, length-map, drop-of-length-le}
+use lib.Seq.{drop-append-le, getD-drop, ext-getD}
 use borrow.Author.Tests.{leb-true, leb-false}
 use Rattle.whole.specs.SplitLaws.{split-mul}
 use Rattle.whole.specs.Rules.{wholes}
 use Rattle.whole.specs.Shape.{any, _⊕_, _⊖_, le, eq}
-use Rattle.whole.specs.ShapeLaws.{reads, shows}
-use Rattle.plan.specs.declared.Bound.{Bound}
+use Rattle.whole.specs.ShapeLaws.{shows}
 use Rattle.plan.specs.declared.Plan.{Plan}
 use Rattle.plan.specs.PlanRead.{noJob}
-use Rattle.plan.specs.PlanWritten.{boundsOf}
 use Rattle.strategy.specs.Histories.{Ran, History, noRan, ranFor, turn, since, seenFrom}
-use Rattle.strategy.specs.Strategies.{ranIn, placeIn, timeIn, kindIn, GivenKept, KeptIn, Kept, Forced}
-use Rattle.strategy.specs.Keeping.{RunsWithin, Timely, extreme}
-use Rattle.strategy.specs.EliminationLaws.{below-or-last}
-use Rattle.strategy.specs.Soundness.{Sound}
-use Rattle.strategy.specs.HistoryLaws.{length-more, ran-old, ran-new, each-more, timely-more, turn-min-max, Follows, forced-map, forced-play}
-use Rattle.strategy.specs.WindowLaws.{Held, place-two}
+use Rattle.strategy.specs.Strategies.{ranIn, Forced}
+use Rattle.strategy.specs.Keeping.{Timely}
+use Rattle.strategy.specs.HistoryLaws.{length-more}
 
 -- ---- lists
 

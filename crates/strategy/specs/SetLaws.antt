@@ -1,17 +1,16 @@
 -- A set that is judged: what stands in its table, and that times in range keep the judged set exactly if they keep the set before. A set that
 -- is a contradiction is kept by no times, if every job runs as long as it can, or if every job runs as short. Range is no premise: the bounds
 -- to and from the origin are never left out, and they say it.
-use Prim.Native.Nat.{ℕ, zero, suc, _+_, _*_, _-_, _≤_, _<_, _%_}
+use Prim.Native.Nat.{ℕ, _+_, _-_, _≤_, _<_}
 use mathlib.Core.Path.{_≡_, refl, sym, ap, subst, _∙_}
 use mathlib.Core.Logic.{_↔_, _⊎_}
 use mathlib.Core.Bool.{Bool, true, false, cond}
 use native.Mathlib.Omega.{arith}
 use native.Mathlib.Nat.{mod-eq-of-lt, mod-eq-sub-mod}
-use lib.Dec.{eqb, ltb}
-use lib.IntN.{ℤ, pos, negℤ, _+ℤ_, _-ℤ_}
+use lib.IntN.{ℤ, pos, _-ℤ_}
 use lib.Signed.{_≤ℤ_, ltZ}
 use lib.ListN.{length, getD}
-use borrow.Author.Tests.{eq-eqb, lt-ltb, le-ltb}
+use borrow.Author.Tests.{eq-eqb}
 use Rattle.whole.specs.SplitLaws.{split-neg}
 use Rattle.whole.specs.Rules.{wholes}
 use Rattle.plan.specs.declared.Plan.{Plan}
@@ -20,14 +19,13 @@ use Rattle.bounds.specs.declared.Event.{Event}
 use Rattle.bounds.specs.declared.Event.the-variants.{Origin, Start, Finish}
 use Rattle.bounds.specs.declared.Judgement.{Judgement}
 use Rattle.bounds.specs.declared.Judgement.the-variants.{Contradiction, LeftOut, Kept}
-use Rattle.bounds.specs.Events.{isThis, jobAt, earliest, latest, eventOf, startNode, finishNode, nodes}
-use Rattle.bounds.specs.Judgements.{judged, judgedOrigin, judgedSame}
-use Rattle.bounds.specs.Tables.{Cell, off, upto, Rows, at, build, judgement, isContradiction, keptCell, anyBelow, Set, contradiction, bounds, contradicts, keptRows, judgedRows, judgedSet}
+use Rattle.bounds.specs.Events.{isThis, jobAt, earliest, latest, eventOf, startNode, finishNode}
+use Rattle.bounds.specs.Judgements.{judged}
+use Rattle.bounds.specs.Tables.{Cell, off, upto, Rows, at, build, judgement, isContradiction, keptCell, contradiction, bounds, contradicts, keptRows, judgedSet}
 use Rattle.bounds.specs.BuildLaws.{at-build, at-build-past, anyBelow-some, anyBelow-none, eventOf-start, eventOf-finish, byNode}
-use Rattle.strategy.specs.Histories.{Ran, History, turn}
-use Rattle.strategy.specs.Strategies.{ranIn}
-use Rattle.strategy.specs.Keeping.{Holds, when, gap, Keeps, RunsWithin, Timely, extreme, Extreme, InRange, Anchored, Sized}
-use Rattle.strategy.specs.JudgementLaws.{Fits, FitsAt, Never, judged-left, judged-never}
+use Rattle.strategy.specs.Histories.{History, turn}
+use Rattle.strategy.specs.Keeping.{Holds, gap, Keeps, Timely, Extreme, InRange, Anchored, Sized}
+use Rattle.strategy.specs.JudgementLaws.{Fits, FitsAt, judged-left, judged-never}
 
 -- ---- the job at a place of two windows is the one whose turn it is
 

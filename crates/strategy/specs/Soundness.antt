@@ -1,7 +1,7 @@
 -- What the laws use of a plan that was accepted.
 use Prim.Native.Nat.{ℕ, _≤_, _<_}
 use mathlib.Core.Path.{_≡_}
-use mathlib.Core.Bool.{Bool, true, false}
+use mathlib.Core.Bool.{true, false}
 use mathlib.Core.List.{List·Memᴰ}
 use lib.Signed.{_≤ℤ_}
 use lib.ListN.{getD}

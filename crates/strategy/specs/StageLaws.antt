@@ -1,12 +1,11 @@
 -- The table just before the start of one job is eliminated. A time is allowed by its row and column exactly if, started then, for every running time
 -- the rest of the game can be won; and if the game can be won, some time is. The calendar's tables are these, and one window alone has the same,
 -- moved by `window`.
-use Prim.Native.Nat.{ℕ, zero, suc, _+_, _*_, _-_, _≤_, _<_}
+use Prim.Native.Nat.{ℕ, zero, suc, _+_, _≤_, _<_}
 use mathlib.Core.Path.{_≡_, refl, sym, ap, subst, _∙_}
-use mathlib.Core.Logic.{_⊎_, inl, inr, ⊎-elim}
-use mathlib.Core.Bool.{Bool, true, false}
-use mathlib.Core.List.{List, [], _∷_, _++_}
-use native.Mathlib.Nat.{zero-add, add-suc, add-zero}
+use mathlib.Core.Logic.{⊎-elim}
+use mathlib.Core.List.{[], _∷_, _++_}
+use native.Mathlib.Nat.{add-zero}
 use native.Mathlib.Numerals.{add-one}
 use native.Mathlib.Omega.{arith}
 use lib.IntN.{ℤ, pos, _+ℤ_, _-ℤ_}
@@ -16,16 +15,16 @@ use lib.Seq.{getD-at}
 use Rattle.whole.specs.Rules.{wholes}
 use Rattle.plan.specs.declared.Plan.{Plan}
 use Rattle.bounds.specs.Events.{eventOf, startNode, finishNode, nodes}
-use Rattle.bounds.specs.Tables.{Cell, off, upto, Rows, at, Set, contradiction, bounds}
-use Rattle.bounds.specs.Elimination.{startCell, withoutFinish, withoutStart, thenSet, withoutPlace, eliminated}
+use Rattle.bounds.specs.Tables.{Rows, at, bounds}
+use Rattle.bounds.specs.Elimination.{withoutFinish, withoutStart, thenSet, withoutPlace, eliminated}
 use Rattle.rounds.specs.Calendars.{thenTables, beforeStarts}
-use Rattle.strategy.specs.Histories.{Ran, History, ranFor, turn}
+use Rattle.strategy.specs.Histories.{History, ranFor, turn}
 use Rattle.strategy.specs.Strategies.{Forced}
 use Rattle.strategy.specs.Keeping.{Holds, when, gap, Keeps, Timely}
 use Rattle.strategy.specs.Soundness.{Sound}
 use Rattle.strategy.specs.EliminationLaws.{keeps-more, without-s, below-or-last}
-use Rattle.strategy.specs.HistoryLaws.{length-more, timely-more, turn-min-max, Follows, forced-map, forced-split, forced-join}
-use Rattle.strategy.specs.PlaceLaws.{when-old, when-start, Tidy, finish-tidy, thenSet-bounds, start-back, start-choice, start-choice-back, start-judged-back, place-keeps-at, place-tidy, elim-tidy, elim-keeps, elim-back}
+use Rattle.strategy.specs.HistoryLaws.{length-more, timely-more, turn-min-max, forced-map, forced-split}
+use Rattle.strategy.specs.PlaceLaws.{when-old, when-start, Tidy, finish-tidy, thenSet-bounds, start-choice, start-choice-back, start-judged-back, place-keeps-at, elim-tidy, elim-keeps, elim-back}
 use Rattle.strategy.specs.AloneLaws.{Shifted, without-finish, without-start}
 
 -- the tables around the start at place k, of a table with rest places more

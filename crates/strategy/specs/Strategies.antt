@@ -1,7 +1,7 @@
 -- What a strategy is: 002's Definitions 3 and 4, with document 01's bounds. Nothing is named here but the plan's own numbers and bounds.
 use Prim.Native.Nat.{ℕ, zero, suc, _*_, _<_}
-use mathlib.Core.List.{List, [], _∷_, List·Memᴰ}
-use lib.IntN.{ℤ, _+ℤ_, _-ℤ_}
+use mathlib.Core.List.{[], List·Memᴰ}
+use lib.IntN.{ℤ, _-ℤ_}
 use lib.Signed.{_≤ℤ_}
 use lib.ListN.{length, getD}
 use Rattle.plan.specs.declared.Kind.{Kind}

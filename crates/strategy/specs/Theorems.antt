@@ -10,19 +10,18 @@ use lib.ListN.{length}
 use Rattle.plan.specs.declared.Plan.{Plan}
 use Rattle.plan.specs.declared.Refusal.the-variants as refusal
 use Rattle.bounds.specs.Events.{jobAt, startNode, finishNode, nodes}
-use Rattle.bounds.specs.Tables.{Cell, off, upto, Rows, at, Set, contradiction, bounds, judgedSet}
+use Rattle.bounds.specs.Tables.{Cell, off, upto, Rows, at, contradiction, bounds, judgedSet}
 use Rattle.bounds.specs.Elimination.{finishCell, startCell}
-use Rattle.rounds.specs.declared.Verdict.{Verdict}
-use Rattle.rounds.specs.declared.Verdict.the-variants.{Settled, NoStrategy, Unsettled}
+use Rattle.rounds.specs.declared.Verdict.the-variants.{Settled, NoStrategy}
 use Rattle.rounds.specs.Rounds.{Outcome, settled, noStrategy, unsettled, outcome, verdictOf, verdict}
 use Rattle.rounds.specs.Calendars.{calendar}
 use Rattle.runs.specs.declared.Phase.the-variants.{Waiting}
 use Rattle.runs.specs.declared.Run.{Run}
-use Rattle.runs.specs.declared.Opening.the-variants.{Shut}
 use Rattle.runs.specs.declared.Choice.the-variants.{At}
+use Rattle.runs.specs.declared.Step.{Step}
 use Rattle.runs.specs.declared.Step.the-variants.{Start}
-use Rattle.runs.specs.declared.Answer.the-variants.{Started}
-use Rattle.runs.specs.Offers.{offerOf, opening}
+use Rattle.runs.specs.declared.Answer.the-variants.{Started, Refused}
+use Rattle.runs.specs.Offers.{offerOf}
 use Rattle.runs.specs.Steps.{stepped}
 use Rattle.strategy.specs.Histories.{History, seenFrom}
 use Rattle.strategy.specs.Strategies.{Kept, Strategy, StrategyAfter, StrategyFor, StrategyForAll}
@@ -33,9 +32,9 @@ use Rattle.strategy.specs.SetLaws.{judged-iff, judged-none}
 use Rattle.strategy.specs.EliminationLaws.{KeepsAt, setAt, finish-iff, start-iff}
 use Rattle.strategy.specs.KeptLaws.{Punctual}
 use Rattle.strategy.specs.RoundLaws.{C, strategy-kept, strategy-keeps, keeps-strategy}
-use Rattle.strategy.specs.VerdictLaws.{IsSettled, settled-is, settled-strategy, Hopeless, none-is}
+use Rattle.strategy.specs.VerdictLaws.{settled-is, settled-strategy, Hopeless, none-is}
 use Rattle.strategy.specs.GameLaws.{fewer-windows}
-use Rattle.strategy.specs.ReachedLaws.{reached-kept, reached-some, reached-offer, reached-never-empty, reached-open, reached-auto}
+use Rattle.strategy.specs.ReachedLaws.{reached-kept, reached-some, reached-offer, reached-never-11, reached-auto}
 
 -- ---- elimination
 
@@ -115,8 +114,8 @@ module _ (p : Plan) (sound : Sound p) where
       auto-taken lasts = reached-auto p sound m c accepted r h reached j i waits lasts
 
     -- Refusal 11 is never given.
-    pub never-11 : opening p (calendar p c) r ≡ Shut refusal.EmptyOffer → ⊥
-    never-11 = reached-never-empty p sound m c accepted r h reached
+    pub never-11 : (st : Step) → stepped p (calendar p c) r st .answer ≡ Refused refusal.EmptyOffer → ⊥
+    never-11 = reached-never-11 p sound m c accepted r h reached
 
     -- The run has kept every bound.
     pub all-kept : Kept p h

@@ -1,25 +1,23 @@
 -- The verdict. Settled: C(m-1), C(m) and every later set are one, so a strategy exists for every number of windows. No strategy: none for K windows,
 -- one for every smaller number.
-use Prim.Native.Nat.{ℕ, zero, suc, _+_, _*_, _-_, _≤_, _<_}
+use Prim.Native.Nat.{ℕ, zero, suc, _+_, _≤_, _<_}
 use mathlib.Core.Path.{_≡_, refl, sym, ap, subst, _∙_}
-use mathlib.Core.Logic.{_⊎_, inl, inr, ⊎-elim}
+use mathlib.Core.Logic.{⊎-elim}
 use mathlib.Core.Bool.{Bool, true, false, cond}
-use mathlib.Core.List.{List, [], _∷_}
+use mathlib.Core.List.{[]}
 use native.Mathlib.Nat.{zero-mul, add-suc, add-zero}
-use native.Mathlib.Numerals.{add-one}
 use native.Mathlib.Omega.{arith}
 use Rattle.plan.specs.declared.Plan.{Plan}
-use Rattle.bounds.specs.Tables.{Rows, at, Set, contradiction, bounds}
+use Rattle.bounds.specs.Tables.{Rows, Set, contradiction, bounds}
 use Rattle.bounds.specs.Elimination.{thenSet, eliminated}
-use Rattle.rounds.specs.Rounds.{C0, round, sameRows, isContradictory, failsAlone, Outcome, settled, noStrategy, unsettled, decided, roundsFrom, outcomeFrom, outcome}
+use Rattle.rounds.specs.Rounds.{C0, round, sameRows, isContradictory, failsAlone, settled, noStrategy, decided, roundsFrom, outcomeFrom, outcome}
 use Rattle.rounds.specs.SameLaws.{sameRows-unique}
-use Rattle.strategy.specs.Strategies.{Kept, Strategy, StrategyFor, StrategyForAll}
+use Rattle.strategy.specs.Strategies.{Strategy, StrategyFor, StrategyForAll}
 use Rattle.strategy.specs.Soundness.{Sound}
 use Rattle.strategy.specs.EliminationLaws.{below-or-last}
-use Rattle.strategy.specs.RoundLaws.{C, Round, round-parts}
+use Rattle.strategy.specs.RoundLaws.{C, round-parts}
 use Rattle.strategy.specs.BeginLaws.{nothing-kept, begin-none, begin-own, begin-alone, begin-strategy}
 use Rattle.strategy.specs.FirstLaws.{round-alone}
-use Rattle.strategy.specs.SeenLaws.{at-most-or-above}
 
 module _ (p : Plan) (sound : Sound p) where
   pub C-next : (m : ℕ) (c0 c : Rows) → C0 p ≡ bounds c0 → C p m ≡ bounds c → C p (suc m) ≡ round p c0 c

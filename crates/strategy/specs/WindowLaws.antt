@@ -1,17 +1,16 @@
 -- One window and the next: the plan's bounds on them, as the lists of `Given` have them. `Held` is the plan's bounds with the start's latest;
 -- it holds exactly if the times keep the window's own bounds and, where the next window has been seen, those between the two.
-use Prim.Native.Nat.{ℕ, zero, suc, _+_, _*_, _-_, _≤_, _<_}
-use mathlib.Core.Path.{_≡_, refl, sym, ap, subst, _∙_}
+use Prim.Native.Nat.{ℕ, suc, _+_, _-_, _≤_, _<_}
+use mathlib.Core.Path.{_≡_, refl, sym, subst}
 use mathlib.Core.Logic.{_⊎_, inl, inr, ⊎-elim}
-use mathlib.Core.Bool.{Bool, true, false, cond, _||_}
-use mathlib.Core.List.{List, [], _∷_, _++_, List·Memᴰ}
+use mathlib.Core.Bool.{Bool, true, false}
+use mathlib.Core.List.{List·Memᴰ}
 use native.Mathlib.Omega.{arith}
-use lib.Dec.{ltb}
 use lib.IntN.{ℤ, pos, negℤ, _+ℤ_, _-ℤ_}
 use lib.Signed.{_≤ℤ_}
-use lib.ListN.{length, getD}
-use borrow.Author.Tests.{lt-ltb, le-ltb}
-use Rattle.whole.specs.SplitLaws.{split-neg, split-add, split-sub}
+use lib.ListN.{length}
+use borrow.Author.Tests.{lt-ltb}
+use Rattle.whole.specs.SplitLaws.{split-neg, split-add}
 use Rattle.whole.specs.Rules.{wholes}
 use Rattle.whole.specs.Shape.{any, _⊕_, _⊖_, le}
 use Rattle.whole.specs.ShapeLaws.{reads, shows}
@@ -19,22 +18,20 @@ use Rattle.plan.specs.declared.Letter.{Letter}
 use Rattle.plan.specs.declared.Letter.the-variants.{This, Next}
 use Rattle.plan.specs.declared.Kind.{Kind}
 use Rattle.plan.specs.declared.Kind.the-variants as kind
-use Rattle.plan.specs.declared.EventName.{EventName}
 use Rattle.plan.specs.declared.Bound.{Bound}
 use Rattle.plan.specs.declared.Plan.{Plan}
 use Rattle.plan.specs.EventNames.{isNext}
 use Rattle.plan.specs.PlanWritten.{boundsOf}
-use Rattle.bounds.specs.declared.Event.{Event}
-use Rattle.bounds.specs.declared.Event.the-variants.{Origin, Start, Finish}
-use Rattle.bounds.specs.Events.{isThis, jobAt, shift, earliest, latest, eventOf, nodeOf, startNode, finishNode, nodes}
-use Rattle.bounds.specs.Tables.{Between}
-use Rattle.rounds.specs.Given.{placeOf, eventAt, named, meant, hasNext, upTo, downTo, inOrder, ownBounds, betweenBounds}
-use Rattle.strategy.specs.Histories.{Ran, History, turn}
-use Rattle.strategy.specs.Strategies.{ranIn, placeIn, kindIn, timeIn, GivenKept, KeptIn}
+use Rattle.bounds.specs.declared.Event.the-variants.{Start, Finish}
+use Rattle.bounds.specs.Events.{jobAt, shift, earliest, latest, nodeOf, nodes}
+use Rattle.bounds.specs.BuildLaws.{either-true, neither-true}
+use Rattle.rounds.specs.Given.{placeOf, eventAt, meant, hasNext, inOrder, ownBounds, betweenBounds}
+use Rattle.strategy.specs.Histories.{History, turn}
+use Rattle.strategy.specs.Strategies.{ranIn, placeIn, kindIn, GivenKept, KeptIn}
 use Rattle.strategy.specs.Keeping.{when, RunsWithin, Timely}
 use Rattle.strategy.specs.SetLaws.{jobAt-turn}
 use Rattle.strategy.specs.EliminationLaws.{below-or-last}
-use Rattle.strategy.specs.Soundness.{NamesJob, SoundBound, Sound}
+use Rattle.strategy.specs.Soundness.{Sound}
 use Rattle.strategy.specs.GivenLaws.{All, BetweenKept, Below, Ranged, OwnAll, own-all, all-own, AcrossAll, across-all, all-across}
 
 -- the plan's bounds that u can have broken, and each start of its first window leaves room for the longest run
@@ -66,14 +63,6 @@ module _ (p : Plan) where
   when-named u kind.Start i = refl
   when-named u kind.Finish i = refl
 
-  neither : (a b : Bool) → a || b ≡ false → (a ≡ false) × (b ≡ false)
-  neither true b h = absurd (let z : _≡_ {A = ℕ} 0 1 = cc in omega arith)
-  neither false b h = (refl, h)
-
-  pub either : (a b : Bool) → a || b ≡ true → (a ≡ true) ⊎ (b ≡ true)
-  either true b h = inl refl
-  either false b h = inr h
-
   module _ (sound : Sound p) where
     pub own-below : All (Below (nodes (p .jobs))) (ownBounds p)
     unfolding nodeOf
@@ -92,7 +81,7 @@ module _ (p : Plan) where
           given =
               λ d m n.
               let s = sound .bounds d m in
-              let t = neither (isNext (d .a .letter)) (isNext (d .b .letter)) n in
+              let t = neither-true (isNext (d .a .letter)) (isNext (d .b .letter)) n in
               record {
                 y = node-below (d .b .kind) _ _ (place-this (d .b .letter) (d .b .job) (t .1) (s .b .least) (s .b .most));
                 z = node-below (d .a .kind) _ _ (place-this (d .a .letter) (d .a .job) (t .0) (s .a .least) (s .a .most));
@@ -196,7 +185,7 @@ module _ (p : Plan) (sound : Sound p) (u : History) where
         given =
             λ d m n.
             let s = sound .bounds d m in
-            let t = neither p (isNext (d .a .letter)) (isNext (d .b .letter)) n in
+            let t = neither-true (isNext (d .a .letter)) (isNext (d .b .letter)) n in
             let pa = place-this p (d .a .letter) (d .a .job) (t .0) (s .a .least) (s .a .most) in
             let pb = place-this p (d .b .letter) (d .b .job) (t .1) (s .b .least) (s .b .most) in
             of-given d m (omega arith) (omega arith) (h .kept .given d m);
@@ -231,7 +220,7 @@ module _ (p : Plan) (sound : Sound p) (u : History) where
       let next : p .jobs < length u = ⊎-elim
       (λ (n : isNext (d .a .letter) ≡ true). let k = place-next p (d .a .letter) (d .a .job) n in omega arith)
       (λ (n : isNext (d .b .letter) ≡ true). let k = place-next p (d .b .letter) (d .b .job) n in omega arith)
-      (either p (isNext (d .a .letter)) (isNext (d .b .letter)) e) in
+      (either-true (isNext (d .a .letter)) (isNext (d .b .letter)) e) in
       given-of d (a next .given d m e) i j
 
   last-or-not : (i : ℕ) → i < p .jobs → (suc i < p .jobs) ⊎ (suc i ≡ p .jobs)
