@@ -1,6 +1,5 @@
--- What a history has seen from a window on: its length and its jobs, one job more, the window after it; a game on the window's own clock is the
--- game on the run's clock (`forced-seen`). What holds of every window of a history holds of its beginnings, and follows for a history that is one
--- window longer from its last two windows. In a game that keeps the bounds every start leaves room for the longest run (`forced-punctual`).
+-- What a history has seen from a window on: its length and its jobs, one job more, the window after it, and the first window, whose clock is the
+-- run's. A game on the window's own clock is the game on the run's clock (`forced-seen`, `seen-forced`).
 use Prim.Native.Nat.{ℕ, zero, suc, _+_, _*_, _-_, _≤_, _<_}
 use mathlib.Core.Path.{_≡_, refl, sym, ap, _∙_}
 use mathlib.Core.Logic.{_⊎_, inl, inr}

@@ -24,7 +24,7 @@ use Rattle.runs.specs.declared.Answer.the-variants.{Started, Refused}
 use Rattle.runs.specs.Offers.{offerOf}
 use Rattle.runs.specs.Steps.{stepped}
 use Rattle.strategy.specs.Histories.{History, seenFrom}
-use Rattle.strategy.specs.Strategies.{Kept, Strategy, StrategyAfter, StrategyFor, StrategyForAll}
+use Rattle.strategy.specs.Strategies.{Kept, Forced, Strategy, StrategyAfter, StrategyFor, StrategyForAll}
 use Rattle.strategy.specs.Reaching.{OnOffer, Reached}
 use Rattle.strategy.specs.Keeping.{Keeps, Timely, Extreme, Anchored, Sized}
 use Rattle.strategy.specs.Soundness.{Sound}
@@ -35,6 +35,18 @@ use Rattle.strategy.specs.RoundLaws.{C, strategy-kept, strategy-keeps, k
 use Rattle.strategy.specs.VerdictLaws.{settled-is, settled-strategy, Hopeless, none-is}
 use Rattle.strategy.specs.GameLaws.{fewer-windows}
 use Rattle.strategy.specs.ReachedLaws.{reached-kept, reached-some, reached-offer, reached-never-11, reached-auto}
+
+-- ---- what a strategy is, as equations
+
+-- None to go: every bound is kept.
+pub strategy-nil : (p : Plan) (h : History) → Strategy p h 0 ≡ Kept p h
+unfolding Forced
+strategy-nil p h = refl
+
+-- One more: there is a start, after which, whatever the running time, there is a strategy for the others.
+pub strategy-more : (p : Plan) (h : History) (g : ℕ) → Strategy p h (suc g) ≡ ((t : ℤ) × StrategyAfter p h t g)
+unfolding Forced
+strategy-more p h g = refl
 
 -- ---- elimination
 
