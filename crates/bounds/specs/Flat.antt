@@ -6,14 +6,15 @@ use mathlib.Core.Bool.{Bool, true, false, cond}
 use mathlib.Core.List.{List, [], _∷_}
 use lib.IntN.{ℤ, pos, negℤ, _+ℤ_}
 use lib.Signed.{leZ, _≤ℤ_}
-use lib.ListN.{getD, set}
+use lib.ListN.{getD, set, replicate}
 use mir.Syntax.{w32}
 use mir.Val.{SFits}
 use Rattle.whole.specs.Split.{eqZ}
 use Rattle.bounds.specs.declared.Judgement.{Judgement}
 use Rattle.bounds.specs.declared.Judgement.the-variants.{Contradiction, LeftOut, Kept}
 use Rattle.bounds.specs.declared.JudgedSet.{JudgedSet}
-use Rattle.bounds.specs.Tables.{Cell, off, upto, Rows, build, Set, contradiction, bounds}
+use Rattle.bounds.specs.Events.{nodeOf}
+use Rattle.bounds.specs.Tables.{Cell, off, upto, Rows, build, Between, Set, contradiction, bounds}
 use Rattle.bounds.specs.Spans.{judgedAt, Timed}
 
 -- ---- the rows that an array holds
@@ -80,6 +81,16 @@ thenFlat r f = let rest = f (r .weights) in cond (r .found) r rest
 unfoldable pub eachNode : (ℕ → List ℤ → Flat) → ℕ → ℕ → List ℤ → Flat
 eachNode step y zero ws = flat false ws
 eachNode step y (suc count) ws = thenFlat (step y ws) (eachNode step (y + 1) count)
+
+-- a list of bounds put one after the other
+unfoldable pub putBounds : List ℤ → List ℤ → List Between → List ℤ → Flat
+putBounds early late [] ws = flat false ws
+putBounds early late (b ∷ bs) ws =
+    thenFlat (putAt early late (nodeOf (b .y)) (nodeOf (b .z)) (b .w) (pos 0) ws) (putBounds early late bs)
+
+-- the array without a bound
+abbrev pub noBounds : List ℤ
+noBounds = replicate 1369 noBound
 
 -- ---- a start s eliminated
 

@@ -1,6 +1,6 @@
 -- What a judgement tells of a weight. A bound that is kept is at least earliest(z) - latest(y), and, where neither event is the origin, at most
 -- latest(z) - earliest(y). A bound with the origin is kept unless it is a contradiction. A bound of an event with itself, or of a job's start with
--- its finish, is never kept.
+-- its finish, is never kept. What is left out stays left out where it is greater, and what is a contradiction stays one where it is less.
 use Prim.Native.Nat.{ℕ}
 use mathlib.Core.Path.{_≡_, refl, sym, ap}
 use mathlib.Core.Bool.{Bool, true, false, cond}
@@ -105,3 +105,79 @@ judged-running p k w h = atLeast-kept (jobAt p k .max) w (rw (eq-eqb k k refl) a
 pub judged-reverse : (p : Plan) (k : ℕ) (w : ℤ) → judged p (Finish k) (Start k) w ≡ Kept → ⊥
 unfolding judged
 judged-reverse p k w h = atLeast-kept (negℤ (jobAt p k .min)) w (rw (eq-eqb k k refl) at h)
+
+-- ---- greater and less
+
+-- the judgements of one pair: contradictions below, then what is kept, then what is left out
+record Rising (j : ℤ → Judgement) : Type 0 where
+  left : (w v : ℤ) → w ≤ℤ v → j w ≡ LeftOut → j v ≡ LeftOut
+  none : (w v : ℤ) → v ≤ℤ w → j w ≡ Contradiction → j v ≡ Contradiction
+
+atLeast-rising : (limit : ℤ) → Rising (atLeast limit)
+atLeast-rising limit = record { left = λ w v h e. l w v h (ltZ w limit) refl (ltZ v limit) refl e; none = λ w v h e. n w v h (ltZ w limit) refl (ltZ v limit) refl e }
+  where
+    l : (w v : ℤ) → w ≤ℤ v → (b : Bool) → ltZ w limit ≡ b → (c : Bool) → ltZ v limit ≡ c → cond b Contradiction LeftOut ≡ LeftOut → cond c Contradiction LeftOut ≡ LeftOut
+    l w v h true e c q g = clash (cc)
+    l w v h false e true q g = absurd (omega whole)
+    l w v h false e false q g = refl
+
+    n : (w v : ℤ) → v ≤ℤ w → (b : Bool) → ltZ w limit ≡ b → (c : Bool) → ltZ v limit ≡ c → cond b Contradiction LeftOut ≡ Contradiction → cond c Contradiction LeftOut ≡ Contradiction
+    n w v h true e true q g = refl
+    n w v h true e false q g = absurd (omega whole)
+    n w v h false e c q g = clash (cc)
+
+fromOrigin-rising : (low : ℤ) → Rising (fromOrigin low)
+fromOrigin-rising low = record { left = λ w v h e. absurd (l (ltZ w low) e); none = λ w v h e. n w v h (ltZ w low) refl (ltZ v low) refl e }
+  where
+    l : (b : Bool) → cond b Contradiction Kept ≡ LeftOut → ⊥
+    l true g = clash (cc)
+    l false g = clash (cc)
+
+    n : (w v : ℤ) → v ≤ℤ w → (b : Bool) → ltZ w low ≡ b → (c : Bool) → ltZ v low ≡ c → cond b Contradiction Kept ≡ Contradiction → cond c Contradiction Kept ≡ Contradiction
+    n w v h true e true q g = refl
+    n w v h true e false q g = absurd (omega whole)
+    n w v h false e c q g = clash (cc)
+
+apart-rising : (low high : ℤ) → Rising (apart low high)
+apart-rising low high =
+    record {
+      left = λ w v h e. l w v h (ltZ w low) refl (leZ high w) refl (ltZ v low) refl (leZ high v) refl e;
+      none = λ w v h e. n w v h (ltZ w low) refl (leZ high w) (ltZ v low) refl (leZ high v) e;
+    }
+  where
+    l : (w v : ℤ) → w ≤ℤ v → (b : Bool) → ltZ w low ≡ b → (c : Bool) → leZ high w ≡ c → (d : Bool) → ltZ v low ≡ d → (k : Bool) → leZ high v ≡ k
+        → cond b Contradiction (cond c LeftOut Kept) ≡ LeftOut → cond d Contradiction (cond k LeftOut Kept) ≡ LeftOut
+    l w v h true e c q d r k s g = clash (cc)
+    l w v h false e false q d r k s g = clash (cc)
+    l w v h false e true q true r k s g = absurd (omega whole)
+    l w v h false e true q false r true s g = refl
+    l w v h false e true q false r false s g = absurd (omega whole)
+
+    n : (w v : ℤ) → v ≤ℤ w → (b : Bool) → ltZ w low ≡ b → (c : Bool) → (d : Bool) → ltZ v low ≡ d → (k : Bool)
+        → cond b Contradiction (cond c LeftOut Kept) ≡ Contradiction → cond d Contradiction (cond k LeftOut Kept) ≡ Contradiction
+    n w v h true e c true q k g = refl
+    n w v h true e c false q k g = absurd (omega whole)
+    n w v h false e true d q k g = clash (cc)
+    n w v h false e false d q k g = clash (cc)
+
+either-rising : (b : Bool) (f g : ℤ → Judgement) → Rising f → Rising g → Rising (λ w. cond b (f w) (g w))
+either-rising true f g r s = r
+either-rising false f g r s = s
+
+rising : (p : Plan) (a b : Event) → Rising (judged p a b)
+unfolding judged
+rising p Origin Origin = atLeast-rising (pos 0)
+rising p Origin (Start k) = fromOrigin-rising _
+rising p Origin (Finish k) = fromOrigin-rising _
+rising p (Start j) Origin = fromOrigin-rising _
+rising p (Start j) (Start k) = either-rising (eqb j k) _ _ (atLeast-rising (pos 0)) (apart-rising (earliest p (Start k) -ℤ latest p (Start j)) (latest p (Start k) -ℤ earliest p (Start j)))
+rising p (Start j) (Finish k) = either-rising (eqb j k) _ _ (atLeast-rising (jobAt p k .max)) (apart-rising (earliest p (Finish k) -ℤ latest p (Start j)) (latest p (Finish k) -ℤ earliest p (Start j)))
+rising p (Finish j) Origin = fromOrigin-rising _
+rising p (Finish j) (Start k) = either-rising (eqb j k) _ _ (atLeast-rising (negℤ (jobAt p k .min))) (apart-rising (earliest p (Start k) -ℤ latest p (Finish j)) (latest p (Start k) -ℤ earliest p (Finish j)))
+rising p (Finish j) (Finish k) = either-rising (eqb j k) _ _ (atLeast-rising (pos 0)) (apart-rising (earliest p (Finish k) -ℤ latest p (Finish j)) (latest p (Finish k) -ℤ earliest p (Finish j)))
+
+pub judged-left-out : (p : Plan) (a b : Event) (w v : ℤ) → w ≤ℤ v → judged p a b w ≡ LeftOut → judged p a b v ≡ LeftOut
+judged-left-out p a b = rising p a b .left
+
+pub judged-none : (p : Plan) (a b : Event) (w v : ℤ) → v ≤ℤ w → judged p a b w ≡ Contradiction → judged p a b v ≡ Contradiction
+judged-none p a b = rising p a b .none

@@ -21,3 +21,5 @@ pub mod FinishLaws
 pub mod FitLaws
 pub mod ClockedLaws
 pub mod PlacesLaws
+pub mod TowardsLaws
+pub mod BoundsLaws

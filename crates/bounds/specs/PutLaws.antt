@@ -38,7 +38,7 @@ mark-of-off w h = by (eqZ w noBound) refl
     by true e = refl
     by false e = absurd (let on = cellOf-on w e in let z : _≡_ {A = ℕ} 0 1 = cc in omega arith)
 
-below-on : (w : ℤ) → w <ℤ noBound → eqZ w noBound ≡ false
+pub below-on : (w : ℤ) → w <ℤ noBound → eqZ w noBound ≡ false
 below-on w h = no (eqZ w noBound) refl
   where
     no : (b : Bool) → eqZ w noBound ≡ b → b ≡ false

@@ -85,6 +85,11 @@ anyBelow-no (suc k) f h = or-both (h 0 (omega arith)) (anyBelow-no k (λ i. f (s
     or-both : {b c : Bool} → b ≡ false → c ≡ false → b || c ≡ false
     or-both d e = rw (d, e)
 
+pub anyBelow-ext : (k : ℕ) (f g : ℕ → Bool) → ((i : ℕ) → i < k → f i ≡ g i) → anyBelow k f ≡ anyBelow k g
+unfolding anyBelow
+anyBelow-ext zero f g h = refl
+anyBelow-ext (suc k) f g h = ap₂ _||_ (h 0 (omega arith)) (anyBelow-ext k (λ i. f (suc i)) (λ i. g (suc i)) (λ i l. h (suc i) (omega arith)))
+
 pub listed-ext : {A : Type 0} (k : ℕ) (f g : ℕ → A) → ((i : ℕ) → i < k → f i ≡ g i) → listed k f ≡ listed k g
 unfolding listed
 listed-ext zero f g h = refl
