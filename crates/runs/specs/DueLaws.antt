@@ -75,6 +75,15 @@ opening-running p c r j i t e = rw (e)
 
 -- ---- a step
 
+-- what the code reads
+pub dueOf-made : (p : Plan) (c : Calendar) (r : Run) (window : ℤ) (place : ℕ) → window ≡ p .window → place ≡ jobOfPhase (r .phase) - 1
+    → record { window = window; last = p .last; jobs = p .jobs; job = getD (p .job) place noJob; terms = getD (c .terms) place noTerms } ≡ dueOf p c r
+dueOf-made p c r window place e f =
+    ap₂
+    (λ (w : ℤ) (k : ℕ).
+    record { window = w; last = p .last; jobs = p .jobs; job = getD (p .job) k noJob; terms = getD (c .terms) k noTerms })
+    e f
+
 module _ (p : Plan) (c : Calendar) (r : Run) where
   end-due : (pick : ℤ → ℤ → ℤ) (set : ℕ) (cs : List ℤ) (row count : ℕ) (end : ℤ) (e : ℕ)
       → endFrom pick (duePlan (dueOf p c r)) r set cs row end e count ≡ endFrom pick p r set cs row end e count

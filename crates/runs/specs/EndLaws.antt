@@ -125,7 +125,7 @@ module _ (pick : ℤ → ℤ → ℤ) (qs : List Probe) (cs : List ℤ) (at : �
 
 -- ---- what fits
 
-hasEvent-shift : (gap k s : ℕ) → hasEvent (gap + k) s ≡ hasEvent k (s / 2 ^ gap)
+pub hasEvent-shift : (gap k s : ℕ) → hasEvent (gap + k) s ≡ hasEvent k (s / 2 ^ gap)
 unfolding hasEvent
 hasEvent-shift zero k s = rw (zero-add, div-one)
 hasEvent-shift (suc gap) k s = rw (suc-add) (hasEvent-shift gap k (s / 2) ∙ rw (shift-suc))

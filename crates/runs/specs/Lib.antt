@@ -5,9 +5,11 @@ pub mod Offers
 pub mod Steps
 pub mod Ends
 pub mod Due
+pub mod Inside
 -- ---- laws
 pub mod EndLaws
 pub mod DueLaws
 pub mod StepLaws
 pub mod LimitLaws
+pub mod InsideLaws
 pub mod OfferLaws

@@ -100,7 +100,7 @@ fn is_phase(p: Plan, phase: Phase) -> bool
 }
 
 // How many jobs the present window has finished in a phase.
-fn jobs_done(phase: Phase) -> usize
+pub fn jobs_done(phase: Phase) -> usize
     ensures { λ r. ⌜ r ≡ jobOfPhase phase - 1 ⌝ }
 {
     match phase {

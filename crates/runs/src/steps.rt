@@ -12,14 +12,18 @@ use crate::Probe;
 use crate::Run;
 use crate::Step;
 use crate::limits::is_time;
+use crate::limits::jobs_done;
 use crate::offers::opening;
 use clock::RunTime;
 use plan::MOST_JOBS;
+use plan::Plan;
 use plan::Refusal;
+use rounds::Calendar;
 ghost use mathlib.Core.Path.{_≡_};
 ghost use Prim.Native.Nat.{_≤_};
 ghost use Rattle.runs.specs.Steps as steps;
 ghost use Rattle.runs.specs.Due.{duePlan, dueCalendar, FinishInside, FinishReady, StepInside};
+ghost use Rattle.runs.specs.Inside.{Inside};
 ghost use Rattle.runs.specs.declared.Phase.the-variants.{Running};
 
 // A refusal, with the run as it came in.
@@ -211,4 +215,25 @@ pub fn step_due(
         Step::Start(choice) => started(run, choice, opening(d, least, most, run)),
         Step::Finish(t) => finished(d, run, t),
     }
+}
+
+// A step's answer, with a plan, a calendar and a run inside their limits.
+pub fn step_inside(p: Plan, c: Calendar, run: Run, st: Step) -> Answered
+    requires { ⌜ Inside p c run ⌝ }
+    ensures { λ r. ⌜ r ≡ steps.stepped p c run st ⌝ }
+{
+    let phase = run.phase;
+    let place = jobs_done(phase);
+    let job = p.job[place];
+    let terms = c.terms[place];
+    let least = c.at_least;
+    let most = c.at_most;
+    let d = Due {
+        window: p.window,
+        last: p.last,
+        jobs: p.jobs,
+        job: job,
+        terms: terms,
+    };
+    step_due(d, &least, &most, run, st)
 }
