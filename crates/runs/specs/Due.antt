@@ -14,7 +14,6 @@ use Rattle.plan.specs.PlanRead.{noJob}
 use Rattle.rounds.specs.declared.Calendar.{Calendar}
 use Rattle.rounds.specs.Calendars.{noTerms}
 use Rattle.runs.specs.declared.Due.{Due}
-use Rattle.runs.specs.declared.Phase.{Phase}
 use Rattle.runs.specs.declared.Phase.the-variants.{Waiting, Running}
 use Rattle.runs.specs.declared.Run.{Run}
 use Rattle.runs.specs.ValueLimits.{lastTime, jobOfPhase}

@@ -1,11 +1,11 @@
 -- A step that reads of its plan and its calendar only what they say of the job that is due comes to the same answer.
-use Prim.Native.Nat.{ℕ, zero, suc, _+_, _*_, _-_, _≤_, _<_}
+use Prim.Native.Nat.{ℕ, zero, suc, _*_, _-_, _≤_, _<_}
 use mathlib.Core.Path.{_≡_, refl, sym, ap, ap₂, _∙_}
-use mathlib.Core.Bool.{Bool, true, false, cond}
+use mathlib.Core.Bool.{true, false, cond}
 use mathlib.Core.List.{List}
 use native.Mathlib.Omega.{arith}
 use lib.Dec.{ltb}
-use lib.IntN.{ℤ, pos}
+use lib.IntN.{ℤ}
 use lib.ListN.{getD, replicate, getD-replicate}
 use borrow.Author.Tests.{lt-ltb, le-ltb}
 use Rattle.clock.specs.declared.RunTime.{RunTime}
@@ -19,7 +19,7 @@ use Rattle.rounds.specs.declared.Calendar.{Calendar}
 use Rattle.rounds.specs.Calendars.{mostEvents, noTerms}
 use Rattle.runs.specs.declared.Due.{Due}
 use Rattle.runs.specs.declared.Offer.{Offer}
-use Rattle.runs.specs.declared.Opening.the-variants.{Open, Shut}
+use Rattle.runs.specs.declared.Opening.the-variants.{Shut}
 use Rattle.runs.specs.declared.Phase.{Phase}
 use Rattle.runs.specs.declared.Phase.the-variants.{Waiting, Running}
 use Rattle.runs.specs.declared.Run.{Run}

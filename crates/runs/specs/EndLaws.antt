@@ -3,16 +3,16 @@
 -- window by window is the end of `Offers` (`endOf-is`).
 use Prim.Native.Nat.{ℕ, zero, suc, _+_, _*_, _-_, _/_, _%_, _^_, _≤_, _<_}
 use mathlib.Core.Path.{_≡_, refl, sym, ap, _∙_}
-use mathlib.Core.Bool.{Bool, true, false, cond, _&&_, _||_}
+use mathlib.Core.Bool.{Bool, true, false, cond, _&&_}
 use mathlib.Core.List.{List}
 use native.Mathlib.Nat.{pow-suc, pow-succ', div-div-eq-div-mul, div-one, zero-add, add-zero, suc-add, add-suc, pos-of-ne-zero, add-assoc, mul-add, add-sub-cancel-left}
 use native.Mathlib.Numerals.{add-one}
 use native.Mathlib.Omega.{arith}
-use lib.Dec.{eqb, leb, ltb}
+use lib.Dec.{eqb}
 use lib.IntN.{ℤ, pos, _+ℤ_}
 use lib.ListN.{getD}
 use lib.Count.{trailingZeros, under, trailing-of-zero}
-use borrow.Author.Tests.{eqb-true, eqb-false, eq-eqb, ne-eqb, lt-ltb, le-ltb, le-leb, lt-leb}
+use borrow.Author.Tests.{eq-eqb, ne-eqb, lt-ltb, le-ltb, le-leb, lt-leb}
 use mir.Syntax.{w32, w64}
 use mir.Val.{SFits, toZ, ofZ}
 use mir.Facts.{toZ-ofZ}
@@ -23,6 +23,7 @@ use Rattle.rounds.specs.Bits.{hasEvent}
 use Rattle.rounds.specs.Calendars.{eventsBefore}
 use Rattle.runs.specs.declared.Probe.{Probe}
 use Rattle.runs.specs.declared.Run.{Run}
+use Rattle.runs.specs.TestLaws.{and-with-true, and-with-false, or-with-true}
 use Rattle.runs.specs.Offers.{noProbe, timeIn, timeOf, isInForce, endFrom}
 use Rattle.runs.specs.Ends.{pickOf, pickedTime, timeOn, termIn, endIn, endOf, TermsFit}
 
@@ -154,14 +155,6 @@ module _ (qs : List Probe) (cs : List ℤ) (at set e count : ℕ) (t : TermsFit 
 
 -- ---- both windows
 
-and-yes : (b : Bool) → (b && true) ≡ b
-and-yes true = refl
-and-yes false = refl
-
-and-no : (b : Bool) → (b && false) ≡ false
-and-no true = refl
-and-no false = refl
-
 module _ (pick : ℤ → ℤ → ℤ) (p : Plan) (r : Run) (set : ℕ) (cs : List ℤ) (row : ℕ) where
   one-event : (b : Bool) (t end : ℤ) (e n : ℕ) → (hasEvent e set && isInForce p r e) ≡ b → timeOf p r e ≡ t
       → endFrom pick p r set cs row end e (suc n)
@@ -180,7 +173,7 @@ module _ (pick : ℤ → ℤ → ℤ) (p : Plan) (r : Run) (set : ℕ) (cs : Lis
   previous-part y (suc n) m end e h =
       rw (suc-add)
       (one-event (hasEvent 0 (set / 2 ^ e)) (timeIn (r .previous) e) end e (n + m)
-      (rw (y) (and-yes _ ∙ here e)) (rw (lt-ltb e (2 * p .jobs) (omega arith)))
+      (rw (y) (and-with-true _ ∙ here e)) (rw (lt-ltb e (2 * p .jobs) (omega arith)))
       ∙ previous-part y n m _ (suc e) (omega arith) ∙ rw (shift-half, suc-add, add-suc))
 
   -- 'The terms of the first window are the same, without those that name the previous window.'
@@ -190,12 +183,8 @@ module _ (pick : ℤ → ℤ → ℤ) (p : Plan) (r : Run) (set : ℕ) (cs : Lis
   no-previous-part y zero m end e h = rw (zero-add, add-zero)
   no-previous-part y (suc n) m end e h =
       rw (suc-add)
-      (one-event false (timeOf p r e) end e (n + m) (rw (y, lt-leb (2 * p .jobs) e (omega arith)) (and-no (hasEvent e set))) refl
+      (one-event false (timeOf p r e) end e (n + m) (rw (y, lt-leb (2 * p .jobs) e (omega arith)) (and-with-false (hasEvent e set))) refl
       ∙ no-previous-part y n m end (suc e) (omega arith) ∙ rw (suc-add, add-suc))
-
-  or-yes : (b : Bool) → (b || true) ≡ true
-  or-yes true = refl
-  or-yes false = refl
 
   present-part : (n : ℕ) (end : ℤ) (k : ℕ)
       → endFrom pick p r set cs row end (2 * p .jobs + k) n
@@ -206,8 +195,8 @@ module _ (pick : ℤ → ℤ → ℤ) (p : Plan) (r : Run) (set : ℕ) (cs : Lis
       let jobs2 = 2 * p .jobs in
       let now = cond (hasEvent 0 (set / 2 ^ jobs2 / 2 ^ k)) (pick end (timeIn (r .present) k +ℤ getD cs (row + (jobs2 + k)) (pos 0))) end in
       one-event (hasEvent 0 (set / 2 ^ jobs2 / 2 ^ k)) (timeIn (r .present) k) end (jobs2 + k) n
-      (rw (le-leb jobs2 (jobs2 + k) (omega arith), or-yes)
-      (and-yes _ ∙ hasEvent-shift jobs2 k set ∙ ap (λ (x : ℕ). hasEvent x (set / 2 ^ jobs2)) (sym (add-zero k)) ∙ hasEvent-shift k 0 (set / 2 ^ jobs2)))
+      (rw (le-leb jobs2 (jobs2 + k) (omega arith), or-with-true (r .«has_previous») true refl)
+      (and-with-true _ ∙ hasEvent-shift jobs2 k set ∙ ap (λ (x : ℕ). hasEvent x (set / 2 ^ jobs2)) (sym (add-zero k)) ∙ hasEvent-shift k 0 (set / 2 ^ jobs2)))
       (rw (le-ltb (jobs2 + k) jobs2 (omega arith), add-sub-cancel-left))
       ∙ (rw (add-suc) at (present-part n now (suc k))) ∙ rw (shift-half, add-assoc)
 

@@ -1,7 +1,7 @@
 -- Of a plan, a calendar and a run inside their limits nothing that a step adds up wraps (`inside-step`).
 use Prim.Native.Nat.{ℕ, zero, suc, _+_, _*_, _-_, _/_, _%_, _^_, _≤_, _<_}
 use mathlib.Core.Path.{_≡_, refl, sym, ap, subst, _∙_}
-use mathlib.Core.Bool.{Bool, true, false, not, cond, _&&_, _||_}
+use mathlib.Core.Bool.{Bool, true, false, not, cond, _&&_}
 use mathlib.Core.List.{List, [], _∷_}
 use native.Mathlib.Nat.{zero-add, add-assoc}
 use native.Mathlib.Omega.{arith}
@@ -15,16 +15,14 @@ use mir.Val.{SFits}
 use Rattle.whole.specs.Rules.{whole, wholes}
 use Rattle.whole.specs.Order.{leZ-true-iff}
 use Rattle.clock.specs.declared.RunTime.{RunTime}
-use Rattle.clock.specs.Spans.{Spanned, Near}
+use Rattle.clock.specs.Spans.{Near}
 use Rattle.plan.specs.declared.Plan.{Plan}
-use Rattle.plan.specs.Accepted.{Accepted, JobAccepted}
 use Rattle.plan.specs.Limits.{leastC, greatestC, mostJobs}
-use Rattle.plan.specs.PlanRead.{isJob, noJob}
 use Rattle.bounds.specs.Tables.{anyBelow}
 use Rattle.rounds.specs.declared.Terms.{Terms}
 use Rattle.rounds.specs.declared.Calendar.{Calendar}
 use Rattle.rounds.specs.Bits.{hasEvent}
-use Rattle.rounds.specs.Calendars.{eventsBefore, mostEvents, noTerms}
+use Rattle.rounds.specs.Calendars.{eventsBefore, mostEvents}
 use Rattle.runs.specs.declared.Phase.{Phase}
 use Rattle.runs.specs.declared.Phase.the-variants.{Waiting, Running}
 use Rattle.runs.specs.declared.Probe.{Probe}
@@ -44,44 +42,18 @@ use Rattle.runs.specs.ValueLimits.{
   areTerms,
   isCalendar,
 }
+use Rattle.runs.specs.TestLaws.{and-left, and-right, and-not, or-left, or-neither-left, or-neither-right}
 use Rattle.runs.specs.Offers.{noProbe, timeIn}
-use Rattle.runs.specs.Ends.{termIn, TermsFit, EndFits}
+use Rattle.runs.specs.Ends.{TermsFit, EndFits}
 use Rattle.runs.specs.EndLaws.{hasEvent-shift}
-use Rattle.runs.specs.Due.{dueOf, OfferInside, FinishInside, FinishReady, StepInside}
+use Rattle.runs.specs.Due.{dueOf, OfferInside, FinishInside, StepInside}
 use Rattle.runs.specs.Inside.{Inside}
-
--- ---- tests taken apart
-
-and-left : (a b : Bool) → (a && b) ≡ true → a ≡ true
-and-left true b e = refl
-and-left false b e = e
-
-and-right : (a b : Bool) → (a && b) ≡ true → b ≡ true
-and-right true b e = e
-and-right false true e = refl
-and-right false false e = e
-
-or-left : (a b : Bool) → (a || b) ≡ true → b ≡ false → a ≡ true
-or-left true b e f = refl
-or-left false b e f = let z : _≡_ {A = ℕ} 0 1 = cc in absurd (omega arith)
-
-out-not : (a b : Bool) → (a && not b) ≡ false → a ≡ true → b ≡ true
-out-not true b e h = not-false b e
-out-not false b e h = let z : _≡_ {A = ℕ} 0 1 = cc in absurd (omega arith)
 
 anyBelow-no : (n : ℕ) (f : ℕ → Bool) → anyBelow n f ≡ false → (k : ℕ) → k < n → f k ≡ false
 unfolding anyBelow
 anyBelow-no zero f e k h = absurd (omega arith)
-anyBelow-no (suc n) f e zero h = first (f 0) _ e
-  where
-    first : (a b : Bool) → (a || b) ≡ false → a ≡ false
-    first true b e = e
-    first false b e = refl
-anyBelow-no (suc n) f e (suc k) h = anyBelow-no n (λ i. f (suc i)) (rest (f 0) _ e) k (omega arith)
-  where
-    rest : (a b : Bool) → (a || b) ≡ false → b ≡ false
-    rest true b e = let z : _≡_ {A = ℕ} 0 1 = cc in absurd (omega arith)
-    rest false b e = e
+anyBelow-no (suc n) f e zero h = or-neither-left (f 0) _ e
+anyBelow-no (suc n) f e (suc k) h = anyBelow-no n (λ i. f (suc i)) (or-neither-right (f 0) _ e) k (omega arith)
 
 -- ---- what has its times, and a c in range
 
@@ -142,7 +114,7 @@ side-named p i set cs e =
     record {
       near = λ k l m.
           isC-near _
-          (out-not (hasEvent k set) _
+          (and-not (hasEvent k set) _
           (anyBelow-no (eventsBefore p i) (λ e. isOut set e (getD cs (i * mostEvents + e) (pos 0))) (not-true _ (and-right (ltb set (2 ^ eventsBefore p i)) _ e)) k l) m);
     }
 
@@ -163,25 +135,25 @@ module _ (p : Plan) (r : Run) (i set : ℕ) (cs : List ℤ) (h : Named set cs (i
 -- ---- the run
 
 module _ (p : Plan) (r : Run) (e : isRun p r ≡ true) where
-  run-phase : isPhase p (r .phase) ≡ true
+  pub run-phase : isPhase p (r .phase) ≡ true
   unfolding isRun
   run-phase = and-left _ _ (and-left (isPhase p (r .phase) && cond (r .«has_previous») (areTimes (take (p .jobs) (r .previous))) true) _ e)
 
-  run-previous : r .«has_previous» ≡ true → areTimes (take (p .jobs) (r .previous)) ≡ true
+  pub run-previous : r .«has_previous» ≡ true → areTimes (take (p .jobs) (r .previous)) ≡ true
   unfolding isRun
   run-previous y =
       let both = and-left (isPhase p (r .phase) && cond (r .«has_previous») (areTimes (take (p .jobs) (r .previous))) true) _ e in
       rw (y) at (and-right (isPhase p (r .phase)) _ both)
 
-  run-present : areTimes (take (jobOfPhase (r .phase) - 1) (r .present)) ≡ true
+  pub run-present : areTimes (take (jobOfPhase (r .phase) - 1) (r .present)) ≡ true
   unfolding isRun
   run-present = and-right (isPhase p (r .phase) && cond (r .«has_previous») (areTimes (take (p .jobs) (r .previous))) true) _ e
 
-record Turn (p : Plan) (j i : ℕ) : Type 0 where
-  window-least : 1 ≤ j
-  window-most : j ≤ p .last
-  job-least : 1 ≤ i
-  job-most : i ≤ p .jobs
+pub record Turn (p : Plan) (j i : ℕ) : Type 0 where
+  pub window-least : 1 ≤ j
+  pub window-most : j ≤ p .last
+  pub job-least : 1 ≤ i
+  pub job-most : i ≤ p .jobs
 
 turn-of : (p : Plan) (j i : ℕ) → isTurn p j i ≡ true → Turn p j i
 turn-of p j i e =
@@ -194,21 +166,28 @@ turn-of p j i e =
       job-most = leb-true i (p .jobs) (and-right (leb 1 i) _ jobs);
     }
 
-waiting-turn : (p : Plan) (f : Phase) (j i : ℕ) → isPhase p f ≡ true → f ≡ Waiting j i → j ≤ p .last → Turn p j i
+pub waiting-turn : (p : Plan) (f : Phase) (j i : ℕ) → isPhase p f ≡ true → f ≡ Waiting j i → j ≤ p .last → Turn p j i
 unfolding isPhase
 waiting-turn p f j i h e l =
     let w : isPhase p (Waiting j i) ≡ true = ap (isPhase p) (sym e) ∙ h in
     turn-of p j i (or-left (isTurn p j i) _ w (rw (ne-eqb j (p .last + 1) (λ x. omega arith))))
+
+pub running-turn : (p : Plan) (f : Phase) (j i : ℕ) (t : RunTime) → isPhase p f ≡ true → f ≡ Running j i t → Turn p j i
+unfolding isPhase
+running-turn p f j i t h e =
+    let w : isPhase p (Running j i t) ≡ true = ap (isPhase p) (sym e) ∙ h in turn-of p j i (and-left (isTurn p j i) _ w)
+
+pub running-time : (p : Plan) (f : Phase) (j i : ℕ) (t : RunTime) → isPhase p f ≡ true → f ≡ Running j i t → isTime t ≡ true
+unfolding isPhase
+running-time p f j i t h e =
+    let w : isPhase p (Running j i t) ≡ true = ap (isPhase p) (sym e) ∙ h in and-right (isTurn p j i) _ w
 
 record Since (p : Plan) (j i : ℕ) (t : RunTime) : Type 0 where
   turn : Turn p j i
   timed : Timed (t .0)
 
 running-since : (p : Plan) (f : Phase) (j i : ℕ) (t : RunTime) → isPhase p f ≡ true → f ≡ Running j i t → Since p j i t
-unfolding isPhase
-running-since p f j i t h e =
-    let w : isPhase p (Running j i t) ≡ true = ap (isPhase p) (sym e) ∙ h in
-    record { turn = turn-of p j i (and-left (isTurn p j i) _ w); timed = isTime-timed t (and-right (isTurn p j i) _ w) }
+running-since p f j i t h e = record { turn = running-turn p f j i t h e; timed = isTime-timed t (running-time p f j i t h e) }
 
 -- ---- the calendar
 

@@ -7,9 +7,11 @@ pub mod Ends
 pub mod Due
 pub mod Inside
 -- ---- laws
+pub mod TestLaws
 pub mod EndLaws
 pub mod DueLaws
 pub mod StepLaws
 pub mod LimitLaws
 pub mod InsideLaws
+pub mod KeepsLaws
 pub mod OfferLaws

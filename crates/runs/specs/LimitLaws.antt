@@ -1,12 +1,12 @@
 -- The limits as the code looks at them, one place after the other.
 use Prim.Native.Nat.{ℕ, zero, suc, _+_, _*_, _-_, _/_, _^_, _≤_, _<_}
 use mathlib.Core.Path.{_≡_, refl, sym, ap, ap₂, _∙_}
-use mathlib.Core.Bool.{Bool, true, false, not, cond, _&&_, _||_}
+use mathlib.Core.Bool.{Bool, true, false, not, _&&_, _||_}
 use mathlib.Core.List.{List, [], _∷_}
 use native.Mathlib.Nat.{div-eq-of-lt, le-div-iff-mul-le, add-zero, add-suc, suc-add, zero-add}
 use native.Mathlib.Numerals.{add-one}
 use native.Mathlib.Omega.{arith}
-use lib.Dec.{eqb, leb, ltb}
+use lib.Dec.{eqb, leb}
 use lib.IntN.{ℤ, pos}
 use lib.ListN.{getD, take, drop, length, drop-of-length-le}
 use lib.Pow.{pow-pos}
@@ -25,6 +25,7 @@ use Rattle.runs.specs.declared.Phase.{Phase}
 use Rattle.runs.specs.declared.Phase.the-variants.{Waiting, Running}
 use Rattle.runs.specs.declared.Probe.{Probe}
 use Rattle.runs.specs.declared.Run.{Run}
+use Rattle.runs.specs.TestLaws.{and-of-true, and-of-false, or-of-true, or-of-false}
 use Rattle.runs.specs.Offers.{noProbe}
 use Rattle.runs.specs.ValueLimits.{isTime, areTimes, isTurn, isPhase, jobOfPhase, isRun, isC, isOut, isSide, areTermsOf, isCalendar}
 
@@ -48,38 +49,22 @@ areTimes-none (q ∷ qs) = refl
 
 -- ---- the phase
 
-or-no : (a b : Bool) → a ≡ false → (a || b) ≡ b
-or-no true b e = let z : _≡_ {A = ℕ} 0 1 = cc in absurd (omega arith)
-or-no false b e = refl
-
-or-yes : (a b : Bool) → a ≡ true → (a || b) ≡ true
-or-yes true b e = refl
-or-yes false b e = let z : _≡_ {A = ℕ} 0 1 = cc in absurd (omega arith)
-
-and-no : (a b : Bool) → a ≡ false → (a && b) ≡ false
-and-no true b e = let z : _≡_ {A = ℕ} 0 1 = cc in absurd (omega arith)
-and-no false b e = refl
-
-and-yes : (a b : Bool) → a ≡ true → (a && b) ≡ b
-and-yes true b e = refl
-and-yes false b e = let z : _≡_ {A = ℕ} 0 1 = cc in absurd (omega arith)
-
 module _ (p : Plan) (f : Phase) (j i : ℕ) where
   pub isPhase-turn : f ≡ Waiting j i → isTurn p j i ≡ true → isPhase p f ≡ true
   unfolding isPhase
-  isPhase-turn e h = rw (e) (or-yes (isTurn p j i) _ h)
+  isPhase-turn e h = rw (e) (or-of-true (isTurn p j i) _ h)
 
   pub isPhase-over : f ≡ Waiting j i → isTurn p j i ≡ false → isPhase p f ≡ (eqb j (p .last + 1) && eqb i 1)
   unfolding isPhase
-  isPhase-over e h = rw (e) (or-no (isTurn p j i) _ h)
+  isPhase-over e h = rw (e) (or-of-false (isTurn p j i) _ h)
 
   pub isPhase-running : (t : RunTime) → f ≡ Running j i t → isTurn p j i ≡ true → isPhase p f ≡ isTime t
   unfolding isPhase
-  isPhase-running t e h = rw (e) (and-yes (isTurn p j i) _ h)
+  isPhase-running t e h = rw (e) (and-of-true (isTurn p j i) _ h)
 
   pub isPhase-never : (t : RunTime) → f ≡ Running j i t → isTurn p j i ≡ false → isPhase p f ≡ false
   unfolding isPhase
-  isPhase-never t e h = rw (e) (and-no (isTurn p j i) _ h)
+  isPhase-never t e h = rw (e) (and-of-false (isTurn p j i) _ h)
 
 -- ---- the run
 

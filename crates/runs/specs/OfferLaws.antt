@@ -23,6 +23,7 @@ use Rattle.rounds.specs.declared.Calendar.{Calendar}
 use Rattle.rounds.specs.Bits.{hasEvent}
 use Rattle.rounds.specs.Calendars.{eventsBefore, mostEvents, noTerms}
 use Rattle.runs.specs.declared.Run.{Run}
+use Rattle.runs.specs.TestLaws.{true-not-false, and-true, and-left, and-right}
 use Rattle.runs.specs.Offers.{timeOf, isInForce, greater, lesser, endFrom, offerOf}
 
 -- ---- the terms of one end
@@ -50,24 +51,6 @@ pub record Reached (p : Plan) (r : Run) (set : ℕ) (cs : List ℤ) (row e count
   pub reached : z ≡ termOf p r cs row event
 
 -- ---- both ends at once
-
-true-not-false : _≡_ {A = Bool} true false → ⊥
-true-not-false e = let z : _≡_ {A = ℕ} 0 1 = cc in omega arith
-
-and-true : (a b : Bool) → a ≡ true → b ≡ true → (a && b) ≡ true
-and-true true true p q = refl
-and-true true false p q = q
-and-true false true p q = p
-and-true false false p q = p
-
-and-left : (a b : Bool) → (a && b) ≡ true → a ≡ true
-and-left true b e = refl
-and-left false b e = e
-
-and-right : (a b : Bool) → (a && b) ≡ true → b ≡ true
-and-right true b e = e
-and-right false true e = refl
-and-right false false e = e
 
 counts-of : (p : Plan) (r : Run) (set k : ℕ) → (hasEvent k set && isInForce p r k) ≡ true → Counts p r set k
 counts-of p r set k e = record { member = and-left _ _ e; in-force = and-right (hasEvent k set) _ e }

@@ -1,7 +1,7 @@
 -- The clauses of the steps as equations, each under the tests that lead to it; a step of the code ends in one of them.
 use Prim.Native.Nat.{ℕ, _+_, _-_, _≤_, _<_}
-use mathlib.Core.Path.{_≡_, refl, sym, ap, _∙_}
-use mathlib.Core.Bool.{Bool, true, false, cond}
+use mathlib.Core.Path.{_≡_, refl, sym, ap, ap₂, _∙_}
+use mathlib.Core.Bool.{Bool, true, false, _&&_}
 use native.Mathlib.Omega.{arith}
 use lib.IntN.{ℤ, _+ℤ_}
 use lib.ListN.{getD, set, replicate, getD-replicate}
@@ -14,11 +14,11 @@ use Rattle.clock.specs.Spans.{Near}
 use Rattle.clock.specs.Clock.{isBetween, movedBy}
 use Rattle.plan.specs.declared.Plan.{Plan}
 use Rattle.plan.specs.declared.Refusal.the-variants as refusal
+use Rattle.plan.specs.Refusals.{outsideLimits}
 use Rattle.plan.specs.Limits.{mostJobs}
 use Rattle.plan.specs.PlanRead.{noJob}
 use Rattle.rounds.specs.declared.Calendar.{Calendar}
 use Rattle.runs.specs.declared.Answer.the-variants.{Final}
-use Rattle.runs.specs.declared.Answered.{Answered}
 use Rattle.runs.specs.declared.Due.{Due}
 use Rattle.runs.specs.declared.Phase.{Phase}
 use Rattle.runs.specs.declared.Phase.the-variants.{Waiting, Running}
@@ -27,7 +27,21 @@ use Rattle.runs.specs.declared.Run.{Run}
 use Rattle.runs.specs.declared.Choice.{Choice}
 use Rattle.runs.specs.declared.Step.{Step}
 use Rattle.runs.specs.declared.Step.the-variants.{Ask, Start, Finish}
-use Rattle.runs.specs.Steps.{noProbes, refusedWith, asked, started, closed, finished, stepped}
+use Rattle.runs.specs.ValueLimits.{isRun, isCalendar}
+use Rattle.runs.specs.Steps.{
+  noProbes,
+  refusedWith,
+  asked,
+  started,
+  closed,
+  finished,
+  stepped,
+  isStep,
+  valuesRefused,
+  unlessRefused,
+}
+use Rattle.runs.specs.TestLaws.{and-true}
+use Rattle.runs.specs.Inside.{stepAccepted}
 use Rattle.runs.specs.Offers.{opening}
 use Rattle.runs.specs.Due.{duePlan, FinishInside}
 
@@ -89,3 +103,23 @@ module _ (p : Plan) (c : Calendar) (r : Run) (st : Step) where
   pub stepped-finish : (t : RunTime) → st ≡ Finish t → finished p r t (r .phase) ≡ stepped p c r st
   unfolding stepped
   stepped-finish t e = rw (e)
+
+-- ---- a step with a plan that is accepted
+
+module _ (p : Plan) (c : Calendar) (r : Run) (st : Step) where
+  outside : (b : Bool) → (isRun p r && isCalendar p c && isStep st) ≡ b → b ≡ false → refusedWith r outsideLimits ≡ stepAccepted p c r st
+  unfolding valuesRefused unlessRefused
+  outside b e f = rw (e ∙ f)
+
+  pub stepAccepted-run : isRun p r ≡ false → refusedWith r outsideLimits ≡ stepAccepted p c r st
+  stepAccepted-run h = outside _ (ap (λ (x : Bool). x && isCalendar p c && isStep st) h) refl
+
+  pub stepAccepted-calendar : isRun p r ≡ true → isCalendar p c ≡ false → refusedWith r outsideLimits ≡ stepAccepted p c r st
+  stepAccepted-calendar h k = outside _ (ap₂ (λ (x y : Bool). x && y && isStep st) h k) refl
+
+  pub stepAccepted-step : isRun p r ≡ true → isCalendar p c ≡ true → isStep st ≡ false → refusedWith r outsideLimits ≡ stepAccepted p c r st
+  stepAccepted-step h k l = outside _ (ap₂ (λ (x y : Bool). x && y && isStep st) h k ∙ l) refl
+
+  pub stepAccepted-inside : isRun p r ≡ true → isCalendar p c ≡ true → isStep st ≡ true → stepped p c r st ≡ stepAccepted p c r st
+  unfolding valuesRefused unlessRefused
+  stepAccepted-inside h k l = rw (and-true _ _ (and-true _ _ h k) l)

@@ -11,6 +11,9 @@ use crate::Phase;
 use crate::Probe;
 use crate::Run;
 use crate::Step;
+use crate::limits::is_calendar;
+use crate::limits::is_run;
+use crate::limits::is_step;
 use crate::limits::is_time;
 use crate::limits::jobs_done;
 use crate::offers::opening;
@@ -23,7 +26,8 @@ ghost use mathlib.Core.Path.{_≡_};
 ghost use Prim.Native.Nat.{_≤_};
 ghost use Rattle.runs.specs.Steps as steps;
 ghost use Rattle.runs.specs.Due.{duePlan, dueCalendar, FinishInside, FinishReady, StepInside};
-ghost use Rattle.runs.specs.Inside.{Inside};
+ghost use Rattle.runs.specs.Inside.{Inside, stepAccepted};
+ghost use Rattle.plan.specs.Accepted.{Accepted};
 ghost use Rattle.runs.specs.declared.Phase.the-variants.{Running};
 
 // A refusal, with the run as it came in.
@@ -236,4 +240,21 @@ pub fn step_inside(p: Plan, c: Calendar, run: Run, st: Step) -> Answered
         terms: terms,
     };
     step_due(d, &least, &most, run, st)
+}
+
+// A step's answer, with a plan that is accepted: 2,0 for a run, a calendar or a time outside its limits.
+fn step_accepted(p: Plan, c: Calendar, run: Run, st: Step) -> Answered
+    requires { ⌜ Accepted p ⌝ }
+    ensures { λ r. ⌜ r ≡ stepAccepted p c run st ⌝ }
+{
+    if !is_run(p, run) {
+        return refused_with(run, Refusal::Range(0));
+    }
+    if !is_calendar(p, c) {
+        return refused_with(run, Refusal::Range(0));
+    }
+    if !is_step(st) {
+        return refused_with(run, Refusal::Range(0));
+    }
+    step_inside(p, c, run, st)
 }

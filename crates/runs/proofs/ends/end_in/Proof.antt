@@ -1,21 +1,19 @@
 -- `end_in` meets its contract. The invariant: the whole end is the end of what is left, from event e on, with the bits that are left; the measure is those
 -- bits. A turn is `endIn-turn`, and the walk ends by `endIn-stop` and `endIn-end`.
-use Prim.Native.Nat.{ℕ, _+_, _-_, _/_, _^_, _≤_, _<_}
-use mathlib.Core.Path.{_≡_, refl, sym, ap, _∙_}
+use Prim.Native.Nat.{_+_, _-_, _^_, _≤_, _<_}
+use mathlib.Core.Path.{_≡_, sym, _∙_}
 use native.Mathlib.Nat.{pos-of-ne-zero}
 use native.Mathlib.Omega.{arith}
 use borrow.Author.Needs.{needs}
 use lib.Count.{trailingZeros, trailing-le}
 use lib.Pow.{shr-le}
 use denote.Ref.{now}
-use lib.IntN.{pos, _+ℤ_}
+use lib.IntN.{pos}
 use lib.ListN.{getD}
-use mir.Syntax.{w32, w64}
-use mir.Val.{SFits, toZ, ofZ}
-use mir.Facts.{toZ-ofZ}
-use Rattle.runs.specs.Offers.{noProbe}
+use mir.Syntax.{w32}
+use mir.Val.{SFits}
 use Rattle.runs.specs.EndLaws.{endIn-stop, endIn-end, endIn-turn, termIn-fits, TermsFit-turn, termIn-read, pickedTime-read, half-less}
-use Rattle.runs.specs.Ends.{pickOf, timeOn, endIn, TermsFit}
+use Rattle.runs.specs.Ends.{pickOf, endIn, TermsFit}
 use Rattle.runs.proofs.ends.end_in.Statement.{statement}
 use Rattle.runs.proofs.ends.end_in.Tie as tie
 

@@ -1,8 +1,6 @@
 -- `picked` meets its contract: each way out has the pick of the side and of the comparison that led there.
-use mathlib.Core.Path.{_≡_, sym, _∙_}
-use mathlib.Core.Bool.{true, false}
+use mathlib.Core.Path.{sym, _∙_}
 use borrow.Author.Needs.{needs}
-use lib.Signed.{ltZ}
 use Rattle.runs.proofs.ends.picked.Statement.{statement}
 use Rattle.runs.proofs.ends.picked.Tie as tie
 

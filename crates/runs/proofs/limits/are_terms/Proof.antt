@@ -1,6 +1,5 @@
 -- `are_terms` meets its contract: its tests are the definition's, in its order.
 use mathlib.Core.Path.{_≡_, sym, ap, _∙_}
-use mathlib.Core.Bool.{true, false}
 use denote.Ref.{now}
 use mir.Syntax.{w64}
 use mir.Val.{SFits}

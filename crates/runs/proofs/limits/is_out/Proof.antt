@@ -1,7 +1,6 @@
 -- `is_out` meets its contract: the bit is read by `hasEvent-bit`.
 use mathlib.Core.Path.{_≡_, sym, ap, _∙_}
 use mathlib.Core.Bool.{true, false}
-use lib.IntN.{ℤ}
 use mir.Facts.{toZ-ofZ}
 use borrow.Author.Tests.{eq-eqb, ne-eqb}
 use Rattle.clock.specs.ClockLaws.{widened-fits, widened-back}

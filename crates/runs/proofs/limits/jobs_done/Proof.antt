@@ -1,8 +1,6 @@
 -- `jobs_done` meets its contract, case by case of the phase.
-use mathlib.Core.Path.{_≡_, sym, ap, _∙_}
 use Prim.Native.Nat.{_-_}
 use native.Mathlib.Omega.{arith}
-use Rattle.runs.specs.ValueLimits.{jobOfPhase}
 use borrow.Author.Needs.{needs}
 use Rattle.runs.proofs.limits.jobs_done.Statement.{statement}
 use Rattle.runs.proofs.limits.jobs_done.Tie as tie

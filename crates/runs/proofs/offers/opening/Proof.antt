@@ -1,7 +1,7 @@
 -- `opening` meets its contract, case by case of the phase.
 use mathlib.Core.Path.{sym, ap, _∙_}
 use Rattle.runs.specs.Offers.{opened}
-use Rattle.runs.specs.Due.{duePlan, dueCalendar}
+use Rattle.runs.specs.Due.{duePlan}
 use Rattle.runs.specs.DueLaws.{opening-over, opening-waiting, opening-running}
 use borrow.Author.Needs.{needs}
 use Rattle.runs.proofs.offers.opening.Statement.{statement}

@@ -1,5 +1,4 @@
 -- `asked` meets its contract, case by case of the opening.
-use mathlib.Core.Path.{_∙_}
 use Rattle.runs.specs.Steps.{asked}
 use borrow.Author.Needs.{needs}
 use Rattle.runs.proofs.steps.asked.Statement.{statement}

@@ -1,5 +1,4 @@
 -- `closed` meets its contract, by `closed-next` and `closed-last`.
-use mathlib.Core.Path.{_∙_}
 use Rattle.runs.specs.Due.{duePlan}
 use Rattle.runs.specs.StepLaws.{closed-next, closed-last}
 use borrow.Author.Needs.{needs}

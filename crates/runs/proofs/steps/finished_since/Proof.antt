@@ -1,13 +1,11 @@
 -- `finished_since` meets its contract: start + min and start + max are times, and the finish is between them or not, by `finished-on` and `finished-off`.
 use mathlib.Core.Path.{_≡_, sym, ap, _∙_}
 use native.Mathlib.Omega.{arith}
-use lib.IntN.{ℤ, _+ℤ_}
-use mir.Syntax.{w32, w64}
-use mir.Val.{SFits, toZ, ofZ}
+use mir.Syntax.{w32}
+use mir.Val.{SFits}
 use mir.Facts.{toZ-ofZ}
 use Rattle.clock.specs.Clock.{movedBy}
 use Rattle.runs.specs.declared.Answer.the-variants.{Final}
-use Rattle.runs.specs.declared.Answered.{Answered}
 use Rattle.runs.specs.declared.Run.{Run}
 use Rattle.runs.specs.StepLaws.{finish-fits, finished-on, finished-off}
 use borrow.Author.Needs.{needs}

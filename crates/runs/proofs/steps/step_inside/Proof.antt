@@ -1,8 +1,8 @@
 -- `step_inside` meets its contract: it reads what is due (`dueOf-made`), which is all that a step reads (`stepped-due`), and nothing wraps (`inside-step`).
-use mathlib.Core.Path.{_≡_, sym, ap, subst, _∙_}
+use mathlib.Core.Path.{sym, ap, subst, _∙_}
 use native.Mathlib.Omega.{arith}
 use mir.Syntax.{w32}
-use mir.Val.{SFits, toZ, ofZ}
+use mir.Val.{SFits}
 use mir.Facts.{toZ-ofZ}
 use Rattle.runs.specs.declared.Due.{Due}
 use Rattle.runs.specs.Steps.{stepped}

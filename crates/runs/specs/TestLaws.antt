@@ -1,0 +1,68 @@
+-- Tests joined by "and" and "or": what a joined test says of its parts, and the parts of it.
+use Prim.Native.Nat.{ℕ}
+use mathlib.Core.Path.{_≡_, refl}
+use mathlib.Core.Bool.{Bool, true, false, not, _&&_, _||_}
+use native.Mathlib.Omega.{arith}
+use borrow.Author.Tests.{not-false}
+
+pub true-not-false : _≡_ {A = Bool} true false → ⊥
+true-not-false e = let z : _≡_ {A = ℕ} 0 1 = cc in omega arith
+
+pub and-true : (a b : Bool) → a ≡ true → b ≡ true → (a && b) ≡ true
+and-true true b p q = q
+and-true false b p q = p
+
+pub and-left : (a b : Bool) → (a && b) ≡ true → a ≡ true
+and-left true b e = refl
+and-left false b e = e
+
+pub and-right : (a b : Bool) → (a && b) ≡ true → b ≡ true
+and-right true b e = e
+and-right false true e = refl
+and-right false false e = e
+
+pub and-of-true : (a b : Bool) → a ≡ true → (a && b) ≡ b
+and-of-true true b e = refl
+and-of-true false b e = let z : _≡_ {A = ℕ} 0 1 = cc in absurd (omega arith)
+
+pub and-of-false : (a b : Bool) → a ≡ false → (a && b) ≡ false
+and-of-false true b e = let z : _≡_ {A = ℕ} 0 1 = cc in absurd (omega arith)
+and-of-false false b e = refl
+
+pub and-with-true : (b : Bool) → (b && true) ≡ b
+and-with-true true = refl
+and-with-true false = refl
+
+pub and-with-false : (b : Bool) → (b && false) ≡ false
+and-with-false true = refl
+and-with-false false = refl
+
+-- a part that is denied
+pub and-not : (a b : Bool) → (a && not b) ≡ false → a ≡ true → b ≡ true
+and-not true b e h = not-false b e
+and-not false b e h = let z : _≡_ {A = ℕ} 0 1 = cc in absurd (omega arith)
+
+pub or-of-true : (a b : Bool) → a ≡ true → (a || b) ≡ true
+or-of-true true b e = refl
+or-of-true false b e = let z : _≡_ {A = ℕ} 0 1 = cc in absurd (omega arith)
+
+pub or-of-false : (a b : Bool) → a ≡ false → (a || b) ≡ b
+or-of-false true b e = let z : _≡_ {A = ℕ} 0 1 = cc in absurd (omega arith)
+or-of-false false b e = refl
+
+pub or-with-true : (a b : Bool) → b ≡ true → (a || b) ≡ true
+or-with-true true b e = refl
+or-with-true false b e = e
+
+pub or-left : (a b : Bool) → (a || b) ≡ true → b ≡ false → a ≡ true
+or-left true b e f = refl
+or-left false b e f = let z : _≡_ {A = ℕ} 0 1 = cc in absurd (omega arith)
+
+-- neither part of a joined test that fails
+pub or-neither-left : (a b : Bool) → (a || b) ≡ false → a ≡ false
+or-neither-left true b e = e
+or-neither-left false b e = refl
+
+pub or-neither-right : (a b : Bool) → (a || b) ≡ false → b ≡ false
+or-neither-right true b e = let z : _≡_ {A = ℕ} 0 1 = cc in absurd (omega arith)
+or-neither-right false b e = e
