@@ -3,6 +3,7 @@
 pub mod StepRead
 pub mod AnswerText
 pub mod Sessions
+pub mod StepAt
 -- ---- laws
 pub mod StepReadLaws
 pub mod AnswerTextLaws

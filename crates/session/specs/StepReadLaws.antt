@@ -1,35 +1,48 @@
 -- The laws of step lines, read.
--- A line that is just a text begins with it and is as long (`isText-same`, `isText-other`). What a line is, test by test: `ask=offer` (`stepIn-ask`), else what
+-- A line that is just a text begins with it and is as long (`isText-same`, `isText-other`, `isText-length`). What a line is, test by test: `ask=offer` (`stepIn-ask`), else what
 -- follows `start=` (`stepIn-start`), else what follows `finish=` (`stepIn-finish`), else no step (`stepIn-other`); after `start=` `auto` (`startIn-auto`), else a
 -- time (`startIn-time`). A time that was read becomes the step's (`timed-value`), or what it lacks (`timed-bad`).
+-- A line that is a step has seven bytes at least and a time inside the limits (`stepIn-told`), also where it stands in a text. There
+-- it has no LF, or lacks something, or is a step (`stepAt-bare`, `stepAt-bad`, `stepAt-value`).
 
-use Prim.Native.Nat.{ℕ, _+_}
+use Prim.Native.Nat.{ℕ, _+_, _≤_, _<_}
 use mathlib.Core.Path.{_≡_, refl, sym, ap, _∙_}
-use mathlib.Core.Bool.{Bool, true, false}
+use mathlib.Core.Bool.{Bool, true, false, cond, false≢true}
 use mathlib.Core.List.{List, [], _∷_, _++_}
 use mathlib.Core.Option.{Option, none, some}
 use native.Mathlib.Omega.{arith}
 use lib.IntN.{ℤ, pos}
-use lib.ListN.{length, drop, length-append}
+use lib.ListN.{length, take, drop, length-append, length-take, length-drop}
+use lib.Signed.{leZ}
 use mir.Syntax.{w64}
 use mir.Val.{SFits, toZ, ofZ}
 use mir.Facts.{toZ-ofZ}
 use Rattle.whole.specs.Rules.{wholes}
 use Rattle.text.specs.Bytes.{bytes}
-use Rattle.text.specs.Lines.{afterKey, isSome, hasKey}
+use Rattle.text.specs.Lines.{LF, lenTo, afterKey, isSome, hasKey}
 use Rattle.text.specs.LineLaws.{afterKey-split, hasKey-true, hasKey-false}
 use Rattle.text.specs.Numbers.{isEmpty}
-use Rattle.text.specs.NumberLaws.{numberIn-value}
+use Rattle.text.specs.NumberLaws.{numberIn-value, decimal-some}
 use Rattle.text.specs.declared.Fault.{Fault}
 use Rattle.text.specs.declared.Fault.the-variants as fault
+use Rattle.text.specs.declared.Number.{Number}
 use Rattle.text.specs.declared.Number.the-variants as number
 use Rattle.clock.specs.declared.RunTime.{RunTime}
 use Rattle.runs.specs.declared.Step.{Step}
-use Rattle.runs.specs.declared.Step.the-variants.{Ask, Start}
+use Rattle.runs.specs.declared.Step.the-variants.{Ask, Start, Finish}
 use Rattle.runs.specs.declared.Choice.the-variants.{At, Auto}
-use Rattle.runs.specs.ValueLimits.{lastTime}
+use Rattle.runs.specs.ValueLimits.{lastTime, isTime}
+use Rattle.runs.specs.Steps.{isStep}
+use Rattle.plan.specs.declared.Refusal.{Refusal}
+use Rattle.plan.specs.declared.Refusal.the-variants.{Form}
+use Rattle.plan.specs.Refusals.{faultAt}
+use Rattle.plan.specs.Reading.{refused}
+use Rattle.plan.specs.ReadAtLaws.{lineAt-bare, lineAt-fault, lineAt-value}
+use Rattle.session.specs.declared.StepAt.{StepAt}
+use Rattle.session.specs.declared.StepAt.the-variants as stepAt
+use Rattle.session.specs.StepAt.{stepTold, StepEnds}
 use Rattle.session.specs.declared.StepLine.the-variants.{Value, Bad}
-use Rattle.session.specs.StepRead.{isAll, isText, timed, timeIn, finishIn, finishStep, startIn, startStep, stepIn}
+use Rattle.session.specs.StepRead.{isAll, isText, timed, timeIn, finishIn, finishStep, startIn, startStep, stepIn, linedStep, stepLine}
 
 -- ---- a line that is just a text
 
@@ -44,6 +57,14 @@ module _ (t l : List ℕ) where
       of none e = refl
       of (some []) e = refl
       of (some (b ∷ s)) e = absurd (omega (arith, rest-length (b ∷ s) e))
+
+  pub isText-length : isText t l ≡ true → length l ≡ length t
+  isText-length h = of (afterKey t l) refl h
+    where
+      of : (o : Option (List ℕ)) → afterKey t l ≡ o → isAll o ≡ true → length l ≡ length t
+      of none e q = absurd (false≢true q)
+      of (some []) e q = omega (arith, rest-length [] e)
+      of (some (b ∷ s)) e q = absurd (false≢true q)
 
   pub isText-other : (length l ≡ length t → ⊥) → isText t l ≡ false
   isText-other d = of (afterKey t l) refl
@@ -97,3 +118,107 @@ module _ (f : RunTime → Step) (s : List ℕ) where
   pub timed-bad : (x : Fault) → timeIn s ≡ number.Bad x → timed f (timeIn s) ≡ Bad x
   unfolding timed
   timed-bad x e = rw e
+
+-- ---- what a step that was read tells
+
+-- its line has seven bytes at least, and its time is inside the limits
+pub record StepTold (l : List ℕ) (st : Step) : Type 0 where
+  pub least : 7 ≤ length l
+  pub timed : isStep st ≡ true
+
+-- the same of what follows a key
+record TimeTold (s : List ℕ) (st : Step) : Type 0 where
+  some-byte : 1 ≤ length s
+  timed : isStep st ≡ true
+
+module _ (s : List ℕ) (st : Step) where
+  time-told : (f : RunTime → Step) → ((t : RunTime) → isStep (f t) ≡ isTime t) → timed f (timeIn s) ≡ Value st → TimeTold s st
+  unfolding timed
+  time-told f is e = of (timeIn s) refl e
+    where
+      of : (n : Number) → timeIn s ≡ n → timed f n ≡ Value st → TimeTold s st
+      of (number.Bad x) d h = absurd (let z : _≡_ {A = ℕ} 0 1 = cc in omega arith)
+      of (number.Value z) d h =
+          let q = numberIn-value (pos 0) lastTime z s d in
+          let lo : leZ (pos 0) z ≡ true = omega (wholes, q .0 .least) in
+          let hi : leZ z lastTime ≡ true = omega (wholes, q .0 .greatest) in
+          let g : st ≡ f (record { 0 = z }) = cc in
+          record { some-byte = omega (arith, ap length (q .1), decimal-some z); timed = ap isStep g ∙ is (record { 0 = z }) ∙ rw (lo, hi) }
+
+  finish-told : finishIn s ≡ Value st → TimeTold s st
+  unfolding finishIn
+  finish-told e = time-told Finish (λ t. refl) e
+
+  start-told : startIn s ≡ Value st → TimeTold s st
+  unfolding startIn bytes
+  start-told e = of (isText (bytes "auto") s) refl e
+    where
+      of : (b : Bool) → isText (bytes "auto") s ≡ b → cond b (Value (Start Auto)) (timed (λ t. Start (At t)) (timeIn s)) ≡ Value st → TimeTold s st
+      of true h d =
+          let g : st ≡ Start Auto = cc in
+          record { some-byte = omega (arith, isText-length (bytes "auto") s h); timed = ap isStep g }
+      of false h d = time-told (λ t. Start (At t)) (λ t. refl) d
+
+module _ (l : List ℕ) (st : Step) where
+  behind-key : (key s : List ℕ) (k : ℕ) → length key ≡ k → 6 ≤ k → afterKey key l ≡ some s → TimeTold s st → StepTold l st
+  behind-key key s k e h d t =
+      record { least = omega (arith, ap length (afterKey-split key l s d), length-append key s, t .some-byte); timed = t .timed }
+
+  after-finish : (o : Option (List ℕ)) → afterKey (bytes "finish=") l ≡ o → finishStep o ≡ Value st → StepTold l st
+  unfolding finishStep bytes
+  after-finish none d e = absurd (let z : _≡_ {A = ℕ} 0 1 = cc in omega arith)
+  after-finish (some s) d e = behind-key (bytes "finish=") s 7 refl (omega arith) d (finish-told s st e)
+
+  after-start : (o : Option (List ℕ)) → afterKey (bytes "start=") l ≡ o → startStep l o ≡ Value st → StepTold l st
+  unfolding startStep bytes
+  after-start none d e = after-finish (afterKey (bytes "finish=") l) refl e
+  after-start (some s) d e = behind-key (bytes "start=") s 6 refl (omega arith) d (start-told s st e)
+
+  pub stepIn-told : stepIn l ≡ Value st → StepTold l st
+  unfolding stepIn bytes
+  stepIn-told e = of (isText (bytes "ask=offer") l) refl e
+    where
+      of : (b : Bool) → isText (bytes "ask=offer") l ≡ b → cond b (Value Ask) (startStep l (afterKey (bytes "start=") l)) ≡ Value st → StepTold l st
+      of true h d =
+          let g : st ≡ Ask = cc in
+          record { least = omega (arith, isText-length (bytes "ask=offer") l h); timed = ap isStep g }
+      of false h d = after-start (afterKey (bytes "start=") l) refl d
+
+-- ---- a step at a place: t is the rest of the text, and i the length to its LF
+
+nothing-read : (at len : ℕ) (x : Refusal) → StepEnds at len (stepAt.Bad x)
+nothing-read at len x =
+    record {
+      least = λ st next d. absurd (let z : _≡_ {A = ℕ} 0 1 = cc in omega arith);
+      most = λ st next d. absurd (let z : _≡_ {A = ℕ} 0 1 = cc in omega arith);
+      timed = λ st next d. absurd (let z : _≡_ {A = ℕ} 0 1 = cc in omega arith);
+    }
+
+module _ (s : List ℕ) (at n : ℕ) (t : List ℕ) (i : ℕ) (rest : t ≡ drop at s) (len : i ≡ lenTo LF t) where
+  abbrev pub ReadAs : StepAt → Type 0
+  ReadAs r = (stepLine (drop at s) n ≡ stepTold s at (n + 1) r) × StepEnds at (length s) r
+
+  pub stepAt-bare : length t ≤ i → ReadAs (stepAt.Bad (Form n))
+  unfolding stepLine
+  stepAt-bare h = (lineAt-bare (λ l. linedStep (stepIn l)) s at n t i rest len h, nothing-read at (length s) (Form n))
+
+  pub stepAt-bad : (x : Fault) (r : Refusal) → i < length t → stepIn (take i t) ≡ Bad x → r ≡ faultAt n x → ReadAs (stepAt.Bad r)
+  unfolding stepLine linedStep
+  stepAt-bad x r h e d = (
+    lineAt-fault (λ l. linedStep (stepIn l)) s at n t i rest len h (ap linedStep e) ∙ ap (λ (q : Refusal). refused q (drop at s)) (sym d),
+    nothing-read at (length s) r,
+  )
+
+  pub stepAt-value : (st : Step) → i < length t → stepIn (take i t) ≡ Value st → ReadAs (stepAt.Value st (at + i + 1))
+  unfolding stepLine linedStep
+  stepAt-value st h e =
+      let q = stepIn-told (take i t) st e in
+      let far : at + i + 1 ≤ length s = omega (arith, ap length rest, length-drop at s) in
+      let near : 7 ≤ i = omega (arith, q .least, length-take i t) in (
+        lineAt-value (λ l. linedStep (stepIn l)) s at n t i rest len h (ap linedStep e),
+        record {
+          least = λ st′ next d. let g : next ≡ at + i + 1 = cc in omega arith;
+          most = λ st′ next d. let g : next ≡ at + i + 1 = cc in omega arith;
+          timed = λ st′ next d. let g : st′ ≡ st = cc in ap isStep g ∙ q .timed;
+        },
+      )

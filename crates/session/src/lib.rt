@@ -1,5 +1,6 @@
 // Sessions: a plan followed by steps, and the answer text to them.
 
+use plan::Refusal;
 use runs::Step;
 use text::Fault;
 
@@ -10,6 +11,12 @@ const LAST_TIME: i64 = 100_000_000_000_000_000;
 pub enum StepLine {
     Value(Step),
     Bad(Fault),
+}
+
+// The step of a line at a place of a text and where the next line begins, or why the line is refused.
+enum StepAt {
+    Value(Step, usize),
+    Bad(Refusal),
 }
 
 mod print;

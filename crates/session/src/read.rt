@@ -1,13 +1,18 @@
 // A step line, read.
 use crate::LAST_TIME;
+use crate::StepAt;
 use crate::StepLine;
 use clock::RunTime;
+use plan::Refusal;
 use runs::Choice;
 use runs::Step;
 use text::Fault;
 use text::Number;
 ghost use mathlib.Core.Path.{_≡_};
-ghost use Rattle.session.specs.StepRead.{isText, startIn, finishIn, stepIn};
+ghost use Prim.Native.Nat.{_+_, _≤_};
+ghost use lib.ListN.{length, drop};
+ghost use Rattle.session.specs.StepRead.{isText, startIn, finishIn, stepIn, stepLine};
+ghost use Rattle.session.specs.StepAt.{stepTold, StepEnds};
 
 // Whether l is just the text t.
 fn is_text(l: &[u8], t: &[u8]) -> bool
@@ -58,4 +63,28 @@ pub fn read_step(l: &[u8]) -> StepLine
         return finish_in(&l[7..]);
     }
     StepLine::Bad(Fault::Form)
+}
+
+// The step of the line that begins at a place, and where the next line begins.
+pub fn read_step_at(s: &[u8], at: usize, line: usize) -> StepAt
+    requires { ⌜ at ≤ length (now s) ⌝ }
+    ensures { λ r. ⌜ stepLine (drop at (now (s .entry))) line ≡ stepTold (now (s .entry)) at (line + 1) r ⌝ }
+    ensures { λ r. ⌜ StepEnds at (length (now (s .entry))) r ⌝ }
+{
+    let rest = &s[at..];
+    let len = text::len_to(rest, b'\n');
+    if rest.len() <= len {
+        return StepAt::Bad(Refusal::Form(line));
+    }
+    let read = read_step(&rest[..len]);
+    match read {
+        StepLine::Value(st) => {
+            let next = at + len + 1;
+            StepAt::Value(st, next)
+        }
+        StepLine::Bad(f) => {
+            let refusal = plan::fault_at(line, f);
+            StepAt::Bad(refusal)
+        }
+    }
 }

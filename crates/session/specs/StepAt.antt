@@ -1,0 +1,21 @@
+-- What the reader of a step at a place of a text answers, as a reading of the text: a place in the text stands for the text from there on.
+use Prim.Native.Nat.{ℕ, _+_, _≤_}
+use mathlib.Core.Path.{_≡_}
+use mathlib.Core.List.{List}
+use lib.ListN.{drop}
+use Rattle.plan.specs.Reading.{Reading, read, refused}
+use Rattle.runs.specs.declared.Step.{Step}
+use Rattle.runs.specs.Steps.{isStep}
+use mathlib.Core.Bool.{true}
+use Rattle.session.specs.declared.StepAt.{StepAt}
+use Rattle.session.specs.declared.StepAt.the-variants.{Value, Bad}
+
+abbrev pub stepTold : List ℕ → ℕ → ℕ → StepAt → Reading Step
+stepTold s at n (Value st next) = read st (drop next s) n
+stepTold s at n (Bad x) = refused x (drop at s)
+
+-- of a step that was read: its line has seven bytes at least and its LF, and lies in the text; and its time is inside the limits
+pub record StepEnds (at len : ℕ) (r : StepAt) : Type 0 where
+  pub least : (st : Step) (next : ℕ) → r ≡ Value st next → at + 8 ≤ next
+  pub most : (st : Step) (next : ℕ) → r ≡ Value st next → next ≤ len
+  pub timed : (st : Step) (next : ℕ) → r ≡ Value st next → isStep st ≡ true
