@@ -7,3 +7,4 @@ pub mod StepAt
 -- ---- laws
 pub mod StepReadLaws
 pub mod AnswerTextLaws
+pub mod SessionLaws
