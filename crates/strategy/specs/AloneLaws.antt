@@ -10,7 +10,7 @@ use lib.IntN.{ℤ, pos, negℤ, _+ℤ_, _-ℤ_}
 use lib.Signed.{ltZ, leZ}
 use borrow.Author.Tests.{ne-eqb, eqb-true, eqb-false}
 use Rattle.whole.specs.Rules.{wholes}
-use Rattle.whole.specs.Shape.{any, _⊕_, _⊖_, eq, le-true, le-false}
+use Rattle.whole.specs.Shape.{any, _⊕_, _⊖_, eq, le-is}
 use Rattle.whole.specs.ShapeLaws.{reads, shows}
 use Rattle.plan.specs.declared.Plan.{Plan}
 use Rattle.bounds.specs.declared.Event.{Event}
@@ -196,8 +196,8 @@ lesser-plus : (w v d : ℤ) (b c : Bool) → leZ (w +ℤ d) (v +ℤ d) ≡ b →
 unfolding plus
 lesser-plus w v d true true e f = refl
 lesser-plus w v d false false e f = refl
-lesser-plus w v d true false e f = absurd (omega (reads le-true (any ⊕ any) (any ⊕ any), wholes))
-lesser-plus w v d false true e f = absurd (omega (reads le-false (any ⊕ any) (any ⊕ any), wholes))
+lesser-plus w v d true false e f = absurd (omega (reads (le-is true) (any ⊕ any) (any ⊕ any), wholes))
+lesser-plus w v d false true e f = absurd (omega (reads (le-is false) (any ⊕ any) (any ⊕ any), wholes))
 
 least-plus : (c e : Cell) (d : ℤ) → least (plus c d) (plus e d) ≡ plus (least c e) d
 unfolding least plus
