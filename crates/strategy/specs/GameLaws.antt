@@ -23,7 +23,7 @@ use Rattle.strategy.specs.HistoryLaws.{length-more, each-more, timely-mo
 use Rattle.strategy.specs.PlaceLaws.{Tidy, thenSet-bounds, elim-back}
 use Rattle.strategy.specs.WindowLaws.{Held}
 use Rattle.strategy.specs.SeenLaws.{length-seen, timely-seen, seen-ranFor, forced-seen, seen-forced, seen-next, seen-all, turn-after}
-use Rattle.strategy.specs.KeptLaws.{Always, held-none, held-one, held-all-before, PunctualAt, Punctual, punctual-of, kept-of, starts-punctual}
+use Rattle.strategy.specs.KeptLaws.{Always, held-none, held-one, held-earlier, PunctualAt, Punctual, punctual-of, kept-of, starts-punctual}
 use Rattle.strategy.specs.JoinedLaws.{Both, joined-tidy, joined-back}
 use Rattle.strategy.specs.RoundLaws.{strategy-kept, Round, round-parts, C-tidy, strategy-keeps, keeps-strategy, strategy-both, both-strategy, held-both, both-keeps, keeps-both}
 use Rattle.strategy.specs.BeginLaws.{nothing-timely, begin-game, first-held, first-strategy, strategy-first}
@@ -144,9 +144,8 @@ module _ (p : Plan) (sound : Sound p) (m : ℕ) (c : Rows) (s : IsSettled p soun
           let r = forced-play p sound _ true g h′ q in
           let z = r .follows .size in
           let ig = w .ig in
-          held-all-before p h′ (r .follows .more)
-          (subst (λ h. Always p (Held p) h) (r .follows .whole)
-          (first-held p sound (s .before) c (s .set) (f .own) (f .own-is) (r .history) (omega arith) (r .follows .timely timely′) (r .won)))
+          held-earlier p h′ (r .history) g (r .follows)
+          (first-held p sound (s .before) c (s .set) (f .own) (f .own-is) (r .history) (omega arith) (r .follows .timely timely′) (r .won))
 
       held-later : (j′ : ℕ) → j ≡ suc j′ → Game (suc j′) g h′ → Always p (Held p) h′
       held-later j′ k q =
@@ -160,10 +159,9 @@ module _ (p : Plan) (sound : Sound p) (m : ℕ) (c : Rows) (s : IsSettled p soun
           round-now
           (seenFrom p j′ h′) g (omega arith) (timely-seen p j′ h′ timely′) q in
           let r = forced-play p sound (λ h. Both p (f .own) c (seenFrom p j′ h)) true g h′ (seen-forced p j′ (Both p (f .own) c) g h′ (omega arith) b) in
-          held-all-before p h′ (r .follows .more)
-          (subst (λ h. Always p (Held p) h) (r .follows .whole)
+          held-earlier p h′ (r .history) g (r .follows)
           (held-both p sound (s .before) (f .own) c (f .own-is) (s .set) j′ i (suc g) ig h size-h (w .timely) (punctual-of p h (w .held))
-          (kept-of p h (w .held)) (r .history) (follows-more p h g t e lo hi (r .history) (r .follows)) (r .won)))
+          (kept-of p h (w .held)) (r .history) (follows-more p h g t e lo hi (r .history) (r .follows)) (r .won))
 
     -- a job more, after which the game can still be won
     held-more : (h : History) (j i g : ℕ) (w : Well h j i (suc g)) (t e : ℤ) → turn p (length h) .min ≤ℤ e → e ≤ℤ turn p (length h) .max

@@ -16,7 +16,7 @@ use Rattle.strategy.specs.Histories.{Ran, History, noRan, ranFor, turn, 
 use Rattle.strategy.specs.Strategies.{ranIn, placeIn, KeptIn, Kept, Forced}
 use Rattle.strategy.specs.EliminationLaws.{below-or-last}
 use Rattle.strategy.specs.Soundness.{Sound}
-use Rattle.strategy.specs.HistoryLaws.{length-more, ran-new, each-more, turn-min-max, forced-play}
+use Rattle.strategy.specs.HistoryLaws.{Follows, length-more, ran-new, each-more, turn-min-max, forced-play}
 use Rattle.strategy.specs.WindowLaws.{Held, place-two}
 use Rattle.strategy.specs.SeenLaws.{at-most-or-above, length-seen, ran-seen, seen-more, seen-none}
 
@@ -138,8 +138,8 @@ module _ (p : Plan) where
   pub kept-before : (h m : History) → Kept p (h ++ m) → Kept p h
   kept-before h m = always-before p (KeptIn p) (keptIn-none p) (keptIn-before p) h m
 
-  pub held-all-before : (h m : History) → Always p (Held p) (h ++ m) → Always p (Held p) h
-  held-all-before h m = always-before p (Held p) (held-none p) (held-before p) h m
+  pub held-earlier : (h h′ : History) (g : ℕ) → Follows p h g h′ → Always p (Held p) h′ → Always p (Held p) h
+  held-earlier h h′ g f all = always-before p (Held p) (held-none p) (held-before p) h (f .more) (subst (Always p (Held p)) (f .whole) all)
 
   pub held-next : Sound p → (h m : History) (j : ℕ) → suc j * p .jobs ≤ length h → length (h ++ m) ≡ suc (suc j) * p .jobs
       → Always p (Held p) h → Held p (seenFrom p j (h ++ m)) → Held p (seenFrom p (suc j) (h ++ m)) → Always p (Held p) (h ++ m)

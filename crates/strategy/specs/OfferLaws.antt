@@ -17,6 +17,7 @@ use Rattle.whole.specs.SplitLaws.{split-neg}
 use Rattle.whole.specs.Rules.{wholes}
 use Rattle.whole.specs.Shape.{any, _⊖_, le}
 use Rattle.whole.specs.ShapeLaws.{reads, shows}
+use Rattle.clock.specs.Clock.{beginsAt}
 use Rattle.plan.specs.declared.Plan.{Plan}
 use Rattle.plan.specs.Limits.{mostJobs}
 use Rattle.plan.specs.PlanRead.{filled}
@@ -289,35 +290,29 @@ module _ (p : Plan) (few : p .jobs ≤ mostJobs) (ts : List Rows) (all : length 
   less-one : (k : ℕ) → suc k - 1 ≡ k
   less-one k = omega arith
 
+  end-is : (pick : ℤ → ℤ → ℤ) (bits : Terms → ℕ) (base : Terms → ℤ) (cs : List ℤ)
+      → endFrom pick p r (bits (getD (calendarOf p ts .terms) (suc i - 1) noTerms)) cs ((suc i - 1) * mostEvents)
+      (beginsAt (p .window) (suc J) +ℤ base (getD (calendarOf p ts .terms) (suc i - 1) noTerms)) 0 (eventsBefore p (suc i - 1))
+      ≡ endFrom pick p r (bits (termsOf p i table)) cs (i * mostEvents) ((pos J *ℤ p .window) +ℤ base (termsOf p i table)) 0 (eventsBefore p i)
+  end-is pick bits base cs =
+      ap₂
+      (λ k l.
+      endFrom pick p r (bits (getD (calendarOf p ts .terms) k noTerms)) cs (k * mostEvents)
+      (pos l *ℤ p .window +ℤ base (getD (calendarOf p ts .terms) k noTerms)) 0 (eventsBefore p k))
+      (less-one i) (less-one J)
+      ∙ ap (λ x. endFrom pick p r (bits x) cs (i * mostEvents) (pos J *ℤ p .window +ℤ base x) 0 (eventsBefore p i)) (terms-at p ts i (omega arith))
+
   from-is : offered .from .0
       ≡ endFrom greater p r (eventSet (listed (eventsBefore p i) (λ e. isOn (at table s (suc e))))) (calendarOf p ts .«at_least») (i * mostEvents)
       ((pos J *ℤ p .window) +ℤ (negℤ (weight (at table s 0)) -ℤ p .window)) 0 (eventsBefore p i)
   unfolding offerOf termsOf
-  from-is =
-      ap₂
-      (λ k l.
-      endFrom greater p r (getD (calendarOf p ts .terms) k noTerms .below .0) (calendarOf p ts .«at_least») (k * mostEvents)
-      (pos l *ℤ p .window +ℤ getD (calendarOf p ts .terms) k noTerms .low .0) 0 (eventsBefore p k))
-      (less-one i) (less-one J)
-      ∙ ap
-      (λ (x : Terms).
-      endFrom greater p r (x .below .0) (calendarOf p ts .«at_least») (i * mostEvents) (pos J *ℤ p .window +ℤ x .low .0) 0 (eventsBefore p i))
-      (terms-at p ts i (omega arith))
+  from-is = end-is greater (λ x. x .below .0) (λ x. x .low .0) (calendarOf p ts .«at_least»)
 
   to-is : offered .to .0
       ≡ endFrom lesser p r (eventSet (listed (eventsBefore p i) (λ e. isOn (at table (suc e) s)))) (calendarOf p ts .«at_most») (i * mostEvents)
       ((pos J *ℤ p .window) +ℤ (weight (at table 0 s) -ℤ p .window)) 0 (eventsBefore p i)
   unfolding offerOf termsOf
-  to-is =
-      ap₂
-      (λ k l.
-      endFrom lesser p r (getD (calendarOf p ts .terms) k noTerms .above .0) (calendarOf p ts .«at_most») (k * mostEvents)
-      (pos l *ℤ p .window +ℤ getD (calendarOf p ts .terms) k noTerms .high .0) 0 (eventsBefore p k))
-      (less-one i) (less-one J)
-      ∙ ap
-      (λ (x : Terms).
-      endFrom lesser p r (x .above .0) (calendarOf p ts .«at_most») (i * mostEvents) (pos J *ℤ p .window +ℤ x .high .0) 0 (eventsBefore p i))
-      (terms-at p ts i (omega arith))
+  to-is = end-is lesser (λ x. x .above .0) (λ x. x .high .0) (calendarOf p ts .«at_most»)
 
   -- t, on the clock of the table, keeps the start's row and column, as far as they are in force
   pub record Fitting (t : ℤ) : Type 0 where

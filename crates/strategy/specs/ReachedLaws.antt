@@ -24,7 +24,7 @@ use Rattle.plan.specs.declared.Refusal.the-variants as refusal
 use Rattle.plan.specs.Limits.{mostJobs}
 use Rattle.plan.specs.Refusals.{outsideLimits}
 use Rattle.plan.specs.PlanRead.{noJob}
-use Rattle.bounds.specs.Events.{startNode}
+use Rattle.bounds.specs.Events.{startNode, finishNode}
 use Rattle.bounds.specs.Tables.{upto, Rows, at}
 use Rattle.bounds.specs.Elimination.{thenSet}
 use Rattle.rounds.specs.declared.Calendar.{Calendar}
@@ -57,6 +57,7 @@ use Rattle.strategy.specs.HistoryLaws.{ran-old, ran-new}
 use Rattle.strategy.specs.SeenLaws.{turn-seen}
 use Rattle.strategy.specs.KeptLaws.{kept-of}
 use Rattle.strategy.specs.VerdictLaws.{IsSettled, settled-is}
+use Rattle.strategy.specs.PlaceLaws.{Tidy}
 use Rattle.strategy.specs.StageLaws.{Stages, before-tidy, length-tables}
 use Rattle.strategy.specs.OfferLaws.{Fitting, offer-fitting, fitting-offer}
 use Rattle.strategy.specs.GameLaws.{Settling, settling, Well, well-begin, WellAfter, well-more, Winning, winning-chosen, chosen-winning, tables, some-winning, AllowedAt, winning-allowed, allowed-winning, later-tidy, later-fits}
@@ -84,17 +85,16 @@ module _ (p : Plan) (sound : Sound p) (m : ℕ) (c : Rows) (s : IsSettled p soun
     abbrev st : Stages p c (f .both) (p .jobs) i
     st = tables p sound m c s f i low
 
+    before : Tidy p (finishNode (p .jobs + i)) (getD ts i [])
+    before =
+        subst (Tidy p (finishNode (p .jobs + i))) (sym (st .listed))
+        (before-tidy p sound (f .both) (p .jobs + i) (st .rest) (later-fits p sound m c s f h i g low) (later-tidy p sound m c s f h i g low) (st .later))
+
     lo : (x : ℤ) × (at (getD ts i []) (startNode (p .jobs + i)) 0 ≡ upto x)
-    lo =
-        let tidy = before-tidy p sound (f .both) (p .jobs + i) (st .rest) (later-fits p sound m c s f h i g low) (later-tidy p sound m c s f h i g low) (st .later) in
-        let q = present (at (st .later .before) (startNode (p .jobs + i)) 0) _ (tidy .anchored .below (startNode (p .jobs + i)) (omega arith) (omega arith)) in
-        (q .0, ap (λ v. at v (startNode (p .jobs + i)) 0) (st .listed) ∙ q .1)
+    lo = present _ _ (before .anchored .below (startNode (p .jobs + i)) (omega arith) (omega arith))
 
     hi : (x : ℤ) × (at (getD ts i []) 0 (startNode (p .jobs + i)) ≡ upto x)
-    hi =
-        let tidy = before-tidy p sound (f .both) (p .jobs + i) (st .rest) (later-fits p sound m c s f h i g low) (later-tidy p sound m c s f h i g low) (st .later) in
-        let q = present (at (st .later .before) 0 (startNode (p .jobs + i))) _ (tidy .anchored .above (startNode (p .jobs + i)) (omega arith) (omega arith)) in
-        (q .0, ap (λ v. at v 0 (startNode (p .jobs + i))) (st .listed) ∙ q .1)
+    hi = present _ _ (before .anchored .above (startNode (p .jobs + i)) (omega arith) (omega arith))
 
   module _ (r : Run) (h : History) (i g : ℕ) where
     fits-allowed : (j : ℕ) (w : Well p sound m c s f h j i (suc g)) (sh : Shows p r h j i) (t : ℤ)
