@@ -36,3 +36,4 @@ pub mod RunLaws
 pub mod ReachedLaws
 -- what is to be read first
 pub mod Theorems
+pub mod Worked

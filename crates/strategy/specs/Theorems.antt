@@ -1,9 +1,9 @@
 -- Demand 3 as theorems. A plan of which the laws use what acceptance gives (`Sound`); its outcome, its calendar and its runs are document 01's, and what
 -- they are held against is `Strategies` alone. Each proof cites where the work was done.
+use mathlib.Core.Bool.{Bool}
 use Prim.Native.Nat.{ℕ, suc, _+_, _*_, _-_, _≤_, _<_}
 use mathlib.Core.Path.{_≡_, refl}
 use mathlib.Core.Logic.{_↔_}
-use native.Mathlib.Omega.{arith}
 use lib.IntN.{ℤ, _+ℤ_}
 use lib.Signed.{_≤ℤ_}
 use lib.ListN.{length}
@@ -13,7 +13,7 @@ use Rattle.bounds.specs.Events.{jobAt, startNode, finishNode, nodes}
 use Rattle.bounds.specs.Tables.{Cell, off, upto, Rows, at, contradiction, bounds, judgedSet}
 use Rattle.bounds.specs.Elimination.{finishCell, startCell}
 use Rattle.rounds.specs.declared.Verdict.the-variants.{Settled, NoStrategy}
-use Rattle.rounds.specs.Rounds.{Outcome, settled, noStrategy, unsettled, outcome, verdictOf, verdict}
+use Rattle.rounds.specs.Rounds.{settled, outcome, verdict}
 use Rattle.rounds.specs.Calendars.{calendar}
 use Rattle.runs.specs.declared.Phase.the-variants.{Waiting}
 use Rattle.runs.specs.declared.Run.{Run}
@@ -32,7 +32,7 @@ use Rattle.strategy.specs.SetLaws.{judged-iff, judged-none}
 use Rattle.strategy.specs.EliminationLaws.{KeepsAt, setAt, finish-iff, start-iff}
 use Rattle.strategy.specs.KeptLaws.{Punctual}
 use Rattle.strategy.specs.RoundLaws.{C, strategy-kept, strategy-keeps, keeps-strategy}
-use Rattle.strategy.specs.VerdictLaws.{settled-is, settled-strategy, Hopeless, none-is}
+use Rattle.strategy.specs.VerdictLaws.{settled-is, settled-from-then, settled-strategy, settled-outcome, none-is, none-outcome}
 use Rattle.strategy.specs.GameLaws.{fewer-windows}
 use Rattle.strategy.specs.ReachedLaws.{reached-kept, reached-some, reached-offer, reached-never-11, reached-auto}
 
@@ -57,19 +57,19 @@ judgement-law p k f a t e u s old = judged-iff p k f a t e u s old
 
 -- A contradiction is kept by no times, if every job runs as long as it can, or if every job runs as short.
 pub contradiction-law : (p : Plan) (k : ℕ) (f : ℕ → ℕ → Cell) → Anchored p k f → judgedSet p k f ≡ contradiction
-    → (long : _) × ((u : History) → Sized p k u → Extreme p long u → Keeps k f u → ⊥)
+    → (long : Bool) × ((u : History) → Sized p k u → Extreme p long u → Keeps k f u → ⊥)
 contradiction-law p k f a e = judged-none p k f a e
 
 -- 002's Lemma 1: times keep the cells without a finish exactly if with every running time after the start they keep the table.
-pub lemma-1 : (p : Plan) (k : ℕ) (t : Rows) (X : ℕ → ℤ) → at t (finishNode k) (finishNode k) ≡ off → jobAt p k .min ≤ℤ jobAt p k .max
+pub finish-eliminated : (p : Plan) (k : ℕ) (t : Rows) (X : ℕ → ℤ) → at t (finishNode k) (finishNode k) ≡ off → jobAt p k .min ≤ℤ jobAt p k .max
     → KeepsAt (finishNode k) (finishCell p k t) X
     ↔ ((e : ℤ) → jobAt p k .min ≤ℤ e → e ≤ℤ jobAt p k .max → KeepsAt (suc (finishNode k)) (at t) (setAt X (finishNode k) (X (startNode k) +ℤ e)))
-lemma-1 p k t X corner mm = finish-iff p k t X corner mm
+finish-eliminated p k t X corner mm = finish-iff p k t X corner mm
 
 -- 002's Lemma 2: times keep the cells without a start exactly if with some time for the start they keep the table.
-pub lemma-2 : (k : ℕ) (t : Rows) (X : ℕ → ℤ) → at t (startNode k) (startNode k) ≡ off → (w : ℤ) → at t (startNode k) 0 ≡ upto w
+pub start-eliminated : (k : ℕ) (t : Rows) (X : ℕ → ℤ) → at t (startNode k) (startNode k) ≡ off → (w : ℤ) → at t (startNode k) 0 ≡ upto w
     → KeepsAt (startNode k) (startCell k t) X ↔ ((s : ℤ) × KeepsAt (suc (startNode k)) (at t) (setAt X (startNode k) s))
-lemma-2 k t X corner w there = start-iff k t X corner w there
+start-eliminated k t X corner w there = start-iff k t X corner w there
 
 module _ (p : Plan) (sound : Sound p) where
   -- ---- rounds
@@ -89,23 +89,17 @@ module _ (p : Plan) (sound : Sound p) where
 
   -- ---- the verdict
 
-  settled-by : (m : ℕ) (o : Outcome) → outcome p ≡ o → verdictOf p o ≡ Settled m → StrategyForAll p
-  settled-by m (settled k c) e h = settled-strategy p sound k c (settled-is p sound k c e)
-  settled-by m (noStrategy K) e h = absurd (let z : _≡_ {A = ℕ} 0 1 = cc in omega arith)
-  settled-by m unsettled e h = absurd (let z : _≡_ {A = ℕ} 0 1 = cc in omega arith)
+  -- 'settled': the settled set is C(m - 1), C(m), and every later one.
+  pub settled-for-good : (m : ℕ) (c : Rows) → outcome p ≡ settled m c → (k : ℕ) → m ≤ suc k → C p k ≡ bounds c
+  settled-for-good m c e k h = settled-from-then p sound m c (settled-is p sound m c e) k h
 
-  -- 'settled': from the beginning a strategy exists for every number of windows.
+  -- From the beginning a strategy exists for every number of windows.
   pub settled-means : (m : ℕ) → verdict p ≡ Settled m → StrategyForAll p
-  settled-means m h = settled-by m (outcome p) refl h
-
-  none-by : (K : ℕ) (o : Outcome) → outcome p ≡ o → verdictOf p o ≡ NoStrategy K → Hopeless p sound K
-  none-by K (settled k c) e h = absurd (let z : _≡_ {A = ℕ} 0 1 = cc in omega arith)
-  none-by K (noStrategy k) e h = none-is p sound K (let g : outcome p ≡ noStrategy K = cc in g)
-  none-by K unsettled e h = absurd (let z : _≡_ {A = ℕ} 0 1 = cc in omega arith)
+  settled-means m h = let r = settled-outcome p sound m h in settled-strategy p sound m (r .0) (settled-is p sound m (r .0) (r .1))
 
   -- 'no strategy', K: none for K windows, and one for every smaller number. Unsettled says neither.
   pub no-strategy-means : (K : ℕ) → verdict p ≡ NoStrategy K → (StrategyFor p K → ⊥) × ((k : ℕ) → k < K → StrategyFor p k)
-  no-strategy-means K h = let r = none-by K (outcome p) refl h in (r .none, r .fewer)
+  no-strategy-means K h = let r = none-is p sound K (none-outcome p sound K h) in (r .none, r .fewer)
 
   -- ---- offers: of an accepted plan, in any run that kept to its offers
 

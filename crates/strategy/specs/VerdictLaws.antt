@@ -1,6 +1,6 @@
 -- The verdict. Settled: C(m-1), C(m) and every later set are one, so a strategy exists for every number of windows. No strategy: none for K windows,
 -- one for every smaller number.
-use Prim.Native.Nat.{ℕ, zero, suc, _+_, _≤_, _<_}
+use Prim.Native.Nat.{ℕ, zero, suc, _+_, _≤_, _<_, _-_}
 use mathlib.Core.Path.{_≡_, refl, sym, ap, subst, _∙_}
 use mathlib.Core.Logic.{⊎-elim}
 use mathlib.Core.Bool.{Bool, true, false, cond}
@@ -10,7 +10,8 @@ use native.Mathlib.Omega.{arith}
 use Rattle.plan.specs.declared.Plan.{Plan}
 use Rattle.bounds.specs.Tables.{Rows, Set, contradiction, bounds}
 use Rattle.bounds.specs.Elimination.{thenSet, eliminated}
-use Rattle.rounds.specs.Rounds.{C0, round, sameRows, isContradictory, failsAlone, settled, noStrategy, decided, roundsFrom, outcomeFrom, outcome}
+use Rattle.rounds.specs.declared.Verdict.the-variants.{Settled, NoStrategy}
+use Rattle.rounds.specs.Rounds.{C0, round, sameRows, isContradictory, failsAlone, settled, noStrategy, decided, roundsFrom, outcomeFrom, outcome, verdictOf, verdict, Outcome, unsettled}
 use Rattle.rounds.specs.SameLaws.{sameRows-unique}
 use Rattle.strategy.specs.Strategies.{Strategy, StrategyFor, StrategyForAll}
 use Rattle.strategy.specs.Soundness.{Sound}
@@ -110,6 +111,11 @@ module _ (p : Plan) (sound : Sound p) where
         ∙ sym (C-next (s .before) (own-of .0) c (own-of .1) (s .set))
         ∙ s .next
 
+    pub settled-from-then : (k : ℕ) → m ≤ suc k → C p k ≡ bounds c
+    settled-from-then k h =
+        let b = s .is in
+        ap (C p) (let e : k ≡ s .before + (k - s .before) = omega arith in e) ∙ settled-after (k - s .before)
+
     pub settled-strategy : StrategyForAll p
     settled-strategy k = strategies-before (s .before + k) c (settled-after k) k (omega arith)
 
@@ -194,3 +200,21 @@ module _ (p : Plan) (sound : Sound p) where
   pub none-is : (K : ℕ) → outcome p ≡ noStrategy K → Hopeless K
   unfolding outcome
   none-is K h = none-own K (C0 p) refl h
+
+  -- ---- the verdict and its outcome
+
+  settled-of : (m : ℕ) (o : Outcome) → verdictOf p o ≡ Settled m → (c : Rows) × (o ≡ settled m c)
+  settled-of m (settled k c) h = (c, let e : settled k c ≡ settled m c = cc in e)
+  settled-of m (noStrategy K) h = absurd (let z : _≡_ {A = ℕ} 0 1 = cc in omega arith)
+  settled-of m unsettled h = absurd (let z : _≡_ {A = ℕ} 0 1 = cc in omega arith)
+
+  pub settled-outcome : (m : ℕ) → verdict p ≡ Settled m → (c : Rows) × (outcome p ≡ settled m c)
+  settled-outcome m h = settled-of m (outcome p) h
+
+  none-of : (K : ℕ) (o : Outcome) → verdictOf p o ≡ NoStrategy K → o ≡ noStrategy K
+  none-of K (settled k c) h = absurd (let z : _≡_ {A = ℕ} 0 1 = cc in omega arith)
+  none-of K (noStrategy k) h = cc
+  none-of K unsettled h = absurd (let z : _≡_ {A = ℕ} 0 1 = cc in omega arith)
+
+  pub none-outcome : (K : ℕ) → verdict p ≡ NoStrategy K → outcome p ≡ noStrategy K
+  none-outcome K h = none-of K (outcome p) h

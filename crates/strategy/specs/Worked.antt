@@ -1,0 +1,113 @@
+-- Document 01's P and P3 under the theorems: P has a strategy for every number of windows; P3 has one for seven windows and none for eight.
+use Prim.Native.Nat.{ℕ, zero, suc, _<_}
+use mathlib.Core.Path.{_≡_, refl, sym, subst}
+use mathlib.Core.Logic.{⊎-elim}
+use mathlib.Core.List.{List, _∷_, List·Memᴰ·not-nil, List·Memᴰ·cases-cons}
+use native.Mathlib.Omega.{arith}
+use lib.IntN.{ℤ, pos, negsuc}
+use lib.Signed.{_≤ℤ_}
+use lib.ListN.{replicate, getD}
+use Rattle.whole.specs.Rules.{wholes}
+use Rattle.plan.specs.declared.Letter.the-variants.{This, Next}
+use Rattle.plan.specs.declared.Kind.the-variants.{Start}
+use Rattle.plan.specs.declared.Bound.{Bound}
+use Rattle.plan.specs.declared.Plan.{Plan}
+use Rattle.plan.specs.PlanRead.{noJob, noBound}
+use Rattle.rounds.specs.declared.Verdict.the-variants.{Settled, NoStrategy}
+use Rattle.bounds.specs.Events.{jobAt, shift, earliest, latest, nodeOf, eventOf}
+use Rattle.bounds.specs.Judgements.{judged}
+use Rattle.bounds.specs.Tables.{least, plus, join, at, listed, leastOf, judgement, anyBelow, contradicts, keptRows, judgedSet}
+use Rattle.bounds.specs.Elimination.{finishCell, startCell, thenSet, withoutPlace, eliminated}
+use Rattle.rounds.specs.Given.{givenBounds, ranges, orders, ownBounds, betweenBounds}
+use Rattle.rounds.specs.Rounds.{C0, onNext, joined, round, sameCell, sameRow, sameRows, failsAlone, decided, roundsFrom, outcomeFrom, outcome, verdict}
+use Rattle.strategy.specs.Strategies.{StrategyFor, StrategyForAll}
+use Rattle.strategy.specs.Soundness.{SoundBound, Sound}
+use Rattle.strategy.specs.Theorems.{settled-means, no-strategy-means}
+
+-- 'Plan P: `window=10`, `rounds=100`, `last=1000`, `jobs=1`, `min=2`, `max=4`, `release=0`, `deadline=10`', with given bounds
+abbrev plan : ℕ → List Bound → Plan
+plan n ds =
+    record {
+      window = pos 10;
+      rounds = 100;
+      last = 1000;
+      jobs = 1;
+      job = record { min = pos 2; max = pos 4; release = pos 0; deadline = pos 10 } ∷ replicate 8 noJob;
+      bounds = n;
+      bound = ds;
+    }
+
+-- ns1 - ts1 <= c, and ts1 - ns1 <= c
+abbrev apart : ℤ → Bound
+apart c = record { a = record { letter = Next; kind = Start; job = 1 }; b = record { letter = This; kind = Start; job = 1 }; c = c }
+
+abbrev close : ℤ → Bound
+close c = record { a = record { letter = This; kind = Start; job = 1 }; b = record { letter = Next; kind = Start; job = 1 }; c = c }
+
+abbrev P : Plan
+P = plan 2 (apart (pos 12) ∷ close (negsuc 7) ∷ replicate 62 noBound)
+
+abbrev P3 : Plan
+P3 = plan 1 (apart (pos 9) ∷ replicate 63 noBound)
+
+min-max : (n : ℕ) (ds : List Bound) (i : ℕ) → i < 1 → getD (plan n ds .job) i noJob .min ≤ℤ getD (plan n ds .job) i noJob .max
+min-max n ds zero h = omega wholes
+min-max n ds (suc i) h = absurd (omega arith)
+
+apart-sound : (n : ℕ) (ds : List Bound) (c : ℤ) → SoundBound (plan n ds) (apart c)
+apart-sound n ds c =
+    record { a = record { least = omega arith; most = omega arith }; b = record { least = omega arith; most = omega arith }; one-this = λ e. refl }
+
+close-sound : (n : ℕ) (ds : List Bound) (c : ℤ) → SoundBound (plan n ds) (close c)
+close-sound n ds c =
+    record {
+      a = record { least = omega arith; most = omega arith };
+      b = record { least = omega arith; most = omega arith };
+      one-this = λ e. absurd (let z : _≡_ {A = ℕ} 0 1 = cc in omega arith);
+    }
+
+P-sound : Sound P
+P-sound =
+    record {
+      some-job = omega arith;
+      few-jobs = omega arith;
+      min-max = min-max 2 (P .bound);
+      bounds =
+          λ d m.
+          ⊎-elim (λ (e : d ≡ apart (pos 12)). subst (SoundBound P) (sym e) (apart-sound 2 (P .bound) (pos 12)))
+          (λ n.
+          ⊎-elim (λ (e : d ≡ close (negsuc 7)). subst (SoundBound P) (sym e) (close-sound 2 (P .bound) (negsuc 7))) (λ k. absurd (List·Memᴰ·not-nil k))
+          (List·Memᴰ·cases-cons n))
+          (List·Memᴰ·cases-cons m);
+    }
+
+P3-sound : Sound P3
+P3-sound =
+    record {
+      some-job = omega arith;
+      few-jobs = omega arith;
+      min-max = min-max 1 (P3 .bound);
+      bounds =
+          λ d m.
+          ⊎-elim (λ (e : d ≡ apart (pos 9)). subst (SoundBound P3) (sym e) (apart-sound 1 (P3 .bound) (pos 9))) (λ k. absurd (List·Memᴰ·not-nil k))
+          (List·Memᴰ·cases-cons m);
+    }
+
+-- naming this on an `unfolding` line opens every definition of the verdict
+computing : Type 0
+unfolding jobAt shift earliest latest nodeOf eventOf judged least plus join at listed leastOf judgement anyBelow contradicts keptRows judgedSet finishCell startCell thenSet withoutPlace eliminated givenBounds ranges orders ownBounds betweenBounds C0 onNext joined round sameCell sameRow sameRows failsAlone decided roundsFrom outcomeFrom outcome
+computing = Unit {0}
+
+P-settled : verdict P ≡ Settled 1
+unfolding computing
+P-settled = refl
+
+P3-none : verdict P3 ≡ NoStrategy 8
+unfolding computing
+P3-none = refl
+
+pub P-strategies : StrategyForAll P
+P-strategies = settled-means P P-sound 1 P-settled
+
+pub P3-strategies : (StrategyFor P3 8 → ⊥) × StrategyFor P3 7
+P3-strategies = let r = no-strategy-means P3 P3-sound 8 P3-none in (r .0, r .1 7 (omega arith))
