@@ -37,29 +37,29 @@ plan n ds =
       bound = ds;
     }
 
--- ns1 - ts1 <= c, and ts1 - ns1 <= c
-abbrev apart : ℤ → Bound
-apart c = record { a = record { letter = Next; kind = Start; job = 1 }; b = record { letter = This; kind = Start; job = 1 }; c = c }
-
+-- `bound=ns1,ts1,c` and `bound=ts1,ns1,c`
 abbrev close : ℤ → Bound
-close c = record { a = record { letter = This; kind = Start; job = 1 }; b = record { letter = Next; kind = Start; job = 1 }; c = c }
+close c = record { a = record { letter = Next; kind = Start; job = 1 }; b = record { letter = This; kind = Start; job = 1 }; c = c }
+
+abbrev apart : ℤ → Bound
+apart c = record { a = record { letter = This; kind = Start; job = 1 }; b = record { letter = Next; kind = Start; job = 1 }; c = c }
 
 abbrev P : Plan
-P = plan 2 (apart (pos 12) ∷ close (negsuc 7) ∷ replicate 62 noBound)
+P = plan 2 (close (pos 12) ∷ apart (negsuc 7) ∷ replicate 62 noBound)
 
 abbrev P3 : Plan
-P3 = plan 1 (apart (pos 9) ∷ replicate 63 noBound)
+P3 = plan 1 (close (pos 9) ∷ replicate 63 noBound)
 
 min-max : (n : ℕ) (ds : List Bound) (i : ℕ) → i < 1 → getD (plan n ds .job) i noJob .min ≤ℤ getD (plan n ds .job) i noJob .max
 min-max n ds zero h = omega wholes
 min-max n ds (suc i) h = absurd (omega arith)
 
-apart-sound : (n : ℕ) (ds : List Bound) (c : ℤ) → SoundBound (plan n ds) (apart c)
-apart-sound n ds c =
-    record { a = record { least = omega arith; most = omega arith }; b = record { least = omega arith; most = omega arith }; one-this = λ e. refl }
-
 close-sound : (n : ℕ) (ds : List Bound) (c : ℤ) → SoundBound (plan n ds) (close c)
 close-sound n ds c =
+    record { a = record { least = omega arith; most = omega arith }; b = record { least = omega arith; most = omega arith }; one-this = λ e. refl }
+
+apart-sound : (n : ℕ) (ds : List Bound) (c : ℤ) → SoundBound (plan n ds) (apart c)
+apart-sound n ds c =
     record {
       a = record { least = omega arith; most = omega arith };
       b = record { least = omega arith; most = omega arith };
@@ -74,9 +74,9 @@ P-sound =
       min-max = min-max 2 (P .bound);
       bounds =
           λ d m.
-          ⊎-elim (λ (e : d ≡ apart (pos 12)). subst (SoundBound P) (sym e) (apart-sound 2 (P .bound) (pos 12)))
+          ⊎-elim (λ (e : d ≡ close (pos 12)). subst (SoundBound P) (sym e) (close-sound 2 (P .bound) (pos 12)))
           (λ n.
-          ⊎-elim (λ (e : d ≡ close (negsuc 7)). subst (SoundBound P) (sym e) (close-sound 2 (P .bound) (negsuc 7))) (λ k. absurd (List·Memᴰ·not-nil k))
+          ⊎-elim (λ (e : d ≡ apart (negsuc 7)). subst (SoundBound P) (sym e) (apart-sound 2 (P .bound) (negsuc 7))) (λ k. absurd (List·Memᴰ·not-nil k))
           (List·Memᴰ·cases-cons n))
           (List·Memᴰ·cases-cons m);
     }
@@ -89,7 +89,7 @@ P3-sound =
       min-max = min-max 1 (P3 .bound);
       bounds =
           λ d m.
-          ⊎-elim (λ (e : d ≡ apart (pos 9)). subst (SoundBound P3) (sym e) (apart-sound 1 (P3 .bound) (pos 9))) (λ k. absurd (List·Memᴰ·not-nil k))
+          ⊎-elim (λ (e : d ≡ close (pos 9)). subst (SoundBound P3) (sym e) (close-sound 1 (P3 .bound) (pos 9))) (λ k. absurd (List·Memᴰ·not-nil k))
           (List·Memᴰ·cases-cons m);
     }
 
