@@ -583,10 +583,19 @@ module _ (p : Plan) (sound : Sound p) (m : ℕ) (c : Rows) (accepted : outcome p
           ∙ ap (λ b. cond b (Shut refusal.Over) (opened J I (offerOf p (calendar p c) r J I))) (le-ltb (p .last) J lasts)
           ∙ opened-as J I (offerOf p (calendar p c) r J I) (reached-some J I phase)
 
-      pub reached-auto : stepped p (calendar p c) r (Start (At (offerOf p (calendar p c) r J I .from))) .answer
+      -- `start=auto`, inside the range of T
+      pub reached-auto : isTime (offerOf p (calendar p c) r J I .from) ≡ true
+          → stepped p (calendar p c) r (Start Auto) .answer ≡ Started J I (offerOf p (calendar p c) r J I .from)
+      unfolding stepped started
+      reached-auto inside =
+          let o = offerOf p (calendar p c) r J I in
+          ap (λ x. started r Auto x .answer) reached-open
+          ∙ ap (λ b. cond b (startedAt r J I (o .from)) (refusedWith r outsideLimits) .answer) inside
+
+      pub reached-lower : stepped p (calendar p c) r (Start (At (offerOf p (calendar p c) r J I .from))) .answer
           ≡ Started J I (offerOf p (calendar p c) r J I .from)
       unfolding stepped started
-      reached-auto =
+      reached-lower =
           let o = offerOf p (calendar p c) r J I in
           ap (λ x. started r (At (o .from)) x .answer) reached-open
           ∙ ap (λ b. cond b (startedAt r J I (o .from)) (refusedWith r refusal.OutsideOffer) .answer) (lower-inside (o .from .0) (o .to .0) (reached-some J I phase) _ _ refl refl)

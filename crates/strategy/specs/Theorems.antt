@@ -1,6 +1,6 @@
 -- Demand 3 as theorems. A plan of which the laws use what acceptance gives (`Sound`); its outcome, its calendar and its runs are document 01's, and what
 -- they are held against is `Strategies` alone. Each proof cites where the work was done.
-use mathlib.Core.Bool.{Bool}
+use mathlib.Core.Bool.{Bool, true}
 use Prim.Native.Nat.{ℕ, suc, _+_, _*_, _-_, _≤_, _<_}
 use mathlib.Core.Path.{_≡_, refl}
 use mathlib.Core.Logic.{_↔_}
@@ -17,10 +17,11 @@ use Rattle.rounds.specs.Rounds.{settled, outcome, verdict}
 use Rattle.rounds.specs.Calendars.{calendar}
 use Rattle.runs.specs.declared.Phase.the-variants.{Waiting}
 use Rattle.runs.specs.declared.Run.{Run}
-use Rattle.runs.specs.declared.Choice.the-variants.{At}
+use Rattle.runs.specs.declared.Choice.the-variants.{At, Auto}
 use Rattle.runs.specs.declared.Step.{Step}
 use Rattle.runs.specs.declared.Step.the-variants.{Start}
 use Rattle.runs.specs.declared.Answer.the-variants.{Started, Refused}
+use Rattle.runs.specs.ValueLimits.{isTime}
 use Rattle.runs.specs.Offers.{offerOf}
 use Rattle.runs.specs.Steps.{stepped}
 use Rattle.strategy.specs.Histories.{History, seenFrom}
@@ -34,7 +35,7 @@ use Rattle.strategy.specs.KeptLaws.{Punctual}
 use Rattle.strategy.specs.RoundLaws.{C, strategy-kept, strategy-keeps, keeps-strategy}
 use Rattle.strategy.specs.VerdictLaws.{settled-is, settled-from-then, settled-strategy, settled-outcome, none-is, none-outcome}
 use Rattle.strategy.specs.GameLaws.{fewer-windows}
-use Rattle.strategy.specs.ReachedLaws.{reached-kept, reached-some, reached-offer, reached-never-11, reached-auto}
+use Rattle.strategy.specs.ReachedLaws.{reached-kept, reached-some, reached-offer, reached-never-11, reached-lower, reached-auto}
 
 -- ---- what a strategy is, as equations
 
@@ -114,10 +115,14 @@ module _ (p : Plan) (sound : Sound p) where
       pub offer-exact : (t : ℤ) → OnOffer (offerOf p (calendar p c) r j i) t ↔ ((k : ℕ) → StrategyAfter p h t ((p .jobs - i) + k * p .jobs))
       offer-exact t = reached-offer p sound m c accepted r h reached j i waits t
 
-      -- While the run lasts, the lower end of the offer, which is what `start=auto` takes, can be taken.
-      pub auto-taken : j ≤ p .last → stepped p (calendar p c) r (Start (At (offerOf p (calendar p c) r j i .from))) .answer
+      -- While the run lasts, the lower end of the offer can be taken, and `start=auto` takes it (2,0 instead outside the range of T).
+      pub lower-end-taken : j ≤ p .last → stepped p (calendar p c) r (Start (At (offerOf p (calendar p c) r j i .from))) .answer
           ≡ Started j i (offerOf p (calendar p c) r j i .from)
-      auto-taken lasts = reached-auto p sound m c accepted r h reached j i waits lasts
+      lower-end-taken lasts = reached-lower p sound m c accepted r h reached j i waits lasts
+
+      pub auto-taken : j ≤ p .last → isTime (offerOf p (calendar p c) r j i .from) ≡ true
+          → stepped p (calendar p c) r (Start Auto) .answer ≡ Started j i (offerOf p (calendar p c) r j i .from)
+      auto-taken lasts inside = reached-auto p sound m c accepted r h reached j i waits lasts inside
 
     -- Refusal 11 is never given.
     pub never-11 : (st : Step) → stepped p (calendar p c) r st .answer ≡ Refused refusal.EmptyOffer → ⊥
