@@ -6,6 +6,7 @@ pub mod Reaching
 -- ---- laws
 -- what the laws use of an accepted plan
 pub mod Soundness
+pub mod SoundLaws
 -- times that keep a set of bounds: cells, judgements, judged sets, and the two lemmas of 002
 pub mod Keeping
 pub mod CellLaws
