@@ -1,12 +1,12 @@
 -- The answers of the code's line readers, as readings of the text that they stand in: a place in the text stands for the text from there on.
-use Prim.Native.Nat.{ℕ, _+_, _*_}
+use Prim.Native.Nat.{ℕ, _+_, _*_, _≤_}
 use mathlib.Core.Path.{_≡_}
-use mathlib.Core.List.{List}
+use mathlib.Core.List.{List, []}
 use mathlib.Core.Bool.{Bool}
 use Rattle.text.specs.Bytes.{bytes}
 use Rattle.text.specs.Lines.{afterKey}
-use lib.IntN.{ℤ}
-use lib.ListN.{take, drop}
+use lib.IntN.{ℤ, pos}
+use lib.ListN.{length, take, drop}
 use Rattle.plan.specs.declared.Faulty.{Faulty}
 use Rattle.plan.specs.declared.NumberLine.{NumberLine}
 use Rattle.plan.specs.declared.NumberLine.the-variants as numberLine
@@ -18,13 +18,15 @@ use Rattle.plan.specs.declared.Bound.{Bound}
 use Rattle.plan.specs.declared.BoundRead.{BoundRead}
 use Rattle.plan.specs.declared.BoundRead.the-variants as boundRead
 use Rattle.plan.specs.declared.Bounds.{Bounds}
+use Rattle.plan.specs.declared.Plan.{Plan}
+use Rattle.plan.specs.declared.First.{First}
 use Rattle.plan.specs.declared.Went.{Went}
 use Rattle.plan.specs.declared.Went.the-variants as went
 use Rattle.plan.specs.declared.Jobs.{Jobs}
 use Rattle.plan.specs.declared.Refusal.the-variants.{Form}
 use Rattle.plan.specs.Limits.{mostJobs, mostBounds}
-use Rattle.plan.specs.PlanRead.{boundParts, boundOf, linedBound, noJob, noBound, filled}
-use Rattle.plan.specs.Reading.{Lined, Reading, read, refused}
+use Rattle.plan.specs.PlanRead.{countLine, jobsAfter, boundParts, boundOf, linedBound, boundsAfter, noJob, noBound, filled}
+use Rattle.plan.specs.Reading.{Lined, Reading, read, refused, Reader, _>>=_, answer}
 
 abbrev pub faultyIn : {A : Type 0} → List ℕ → Faulty → Reading A
 faultyIn s f = refused (f .refusal) (drop (f .at) s)
@@ -104,3 +106,33 @@ boundsTold s n bounds r = wentTold s (take bounds (r .bound)) (n + bounds) (r .w
 
 abbrev pub boundsFilled : ℕ → Bounds → Type 0
 boundsFilled bounds r = IfOn (r .went) (r .bound ≡ filled mostBounds noBound (take bounds (r .bound)))
+
+-- the lines after the first four: the jobs, the count of the bounds, and the bounds
+abbrev pub planRest : ℤ → ℕ → ℕ → ℕ → Reader Plan
+planRest window rounds last jobs = do
+  job ← jobsAfter [] jobs
+  bounds ← countLine (bytes "bounds=") 0 mostBounds
+  bound ← boundsAfter jobs [] bounds
+  answer
+      (record {
+        window = window;
+        rounds = rounds;
+        last = last;
+        jobs = jobs;
+        job = filled mostJobs noJob job;
+        bounds = bounds;
+        bound = filled mostBounds noBound bound;
+      })
+
+-- what is left of the plan's lines after the first four, or their fault
+abbrev pub firstRest : List ℕ → First → Went → Reading Plan
+firstRest s r (went.On at) = planRest (r .window) (r .rounds) (r .last) (r .jobs) (drop at s) 5
+firstRest s r (went.Bad f) = faultyIn s f
+
+abbrev pub firstFault : Faulty → First
+firstFault f = record { window = pos 0; rounds = 0; last = 0; jobs = 0; went = went.Bad f }
+
+pub record FirstTold (s : List ℕ) (m : Reading Plan) (r : First) : Type 0 where
+  pub told : m ≡ firstRest s r (r .went)
+  pub place : wentPlace (r .went) ≤ length s
+  pub few : r .jobs ≤ 9

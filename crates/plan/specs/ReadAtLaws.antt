@@ -7,7 +7,7 @@ use native.Mathlib.Nat.{add-assoc}
 use native.Mathlib.Numerals.{add-one}
 use native.Mathlib.Omega.{arith}
 use borrow.Author.Tests.{lt-ltb, le-ltb}
-use lib.IntN.{ℤ, pos}
+use lib.IntN.{ℤ, pos, natAbs}
 use lib.ListN.{length, take, drop}
 use lib.Seq.{drop-drop}
 use Rattle.text.specs.Bytes.{bytes}
@@ -24,11 +24,11 @@ use Rattle.plan.specs.declared.JobLines.the-variants as jobLines
 use Rattle.plan.specs.declared.Bound.{Bound}
 use Rattle.plan.specs.declared.BoundRead.{BoundRead}
 use Rattle.plan.specs.declared.BoundRead.the-variants as boundRead
-use Rattle.plan.specs.ReadAt.{boundTold, boundPlace, boundFault, jobTold, jobPlace, jobFault, faultyIn, numberTold, numberPlace, numberFault}
-use Rattle.plan.specs.Limits.{longestRunning, latestDeadline}
+use Rattle.plan.specs.ReadAt.{planRest, boundTold, boundPlace, boundFault, jobTold, jobPlace, jobFault, faultyIn, numberTold, numberPlace, numberFault}
+use Rattle.plan.specs.Limits.{longestWindow, longestRunning, latestDeadline}
 use Rattle.plan.specs.Refusals.{faultAt}
 use Rattle.plan.specs.Reading.{Lined, value, bad, Reading, read, refused, next, lined, line, numberLine}
-use Rattle.plan.specs.PlanRead.{jobLines}
+use Rattle.plan.specs.PlanRead.{jobLines, planLines}
 
 -- ---- a line at a place: t is the rest of the text, and i the length to its LF
 
@@ -119,3 +119,30 @@ module _ (s : List ℕ) (n : ℕ) where
             → jobLines s n ≡ read (record { min = min; max = max; release = release; deadline = deadline }) t k
         unfolding jobLines next
         jobLines-all e = rw (e₁, e₂, e₃, e)
+
+-- ---- the first four lines of a plan
+
+module _ (s : List ℕ) where
+  pub planLines-first : {x : Refusal} {t : List ℕ} → numberLine (bytes "window=") (pos 1) longestWindow s 1 ≡ refused x t → planLines s 1 ≡ refused x t
+  unfolding planLines next
+  planLines-first e = rw e
+
+  module _ {window : ℤ} {s₁ : List ℕ} (e₁ : numberLine (bytes "window=") (pos 1) longestWindow s 1 ≡ read window s₁ 2) where
+    pub planLines-second : {x : Refusal} {t : List ℕ} → numberLine (bytes "rounds=") (pos 1) (pos 1000) s₁ 2 ≡ refused x t → planLines s 1 ≡ refused x t
+    unfolding planLines next
+    planLines-second e = rw (e₁, e)
+
+    module _ {rounds : ℤ} {s₂ : List ℕ} (e₂ : numberLine (bytes "rounds=") (pos 1) (pos 1000) s₁ 2 ≡ read rounds s₂ 3) where
+      pub planLines-third : {x : Refusal} {t : List ℕ} → numberLine (bytes "last=") (pos 1) (pos 1000000000) s₂ 3 ≡ refused x t → planLines s 1 ≡ refused x t
+      unfolding planLines next
+      planLines-third e = rw (e₁, e₂, e)
+
+      module _ {last : ℤ} {s₃ : List ℕ} (e₃ : numberLine (bytes "last=") (pos 1) (pos 1000000000) s₂ 3 ≡ read last s₃ 4) where
+        pub planLines-fourth : {x : Refusal} {t : List ℕ} → numberLine (bytes "jobs=") (pos 1) (pos 9) s₃ 4 ≡ refused x t → planLines s 1 ≡ refused x t
+        unfolding planLines next
+        planLines-fourth e = rw (e₁, e₂, e₃, e)
+
+        pub planLines-rest : {jobs : ℤ} {t : List ℕ} → numberLine (bytes "jobs=") (pos 1) (pos 9) s₃ 4 ≡ read jobs t 5
+            → planLines s 1 ≡ planRest window (natAbs rounds) (natAbs last) (natAbs jobs) t 5
+        unfolding planLines next
+        planLines-rest e = rw (e₁, e₂, e₃, e)

@@ -153,9 +153,34 @@ pub struct Bounds {
     pub went: Went,
 }
 
+// The first four lines of a plan, and where they ended.
+pub struct First {
+    pub window: i32,
+    pub rounds: u64,
+    pub last: u64,
+    pub jobs: usize,
+    pub went: Went,
+}
+
+// What a reader of a plan answers.
+pub enum PlanAnswer {
+    Accepted,
+    Refused(Refusal),
+}
+
+// A plan as it was read. Accepted: the plan, the place where it ended, and the number of the line that begins there. Refused: the empty plan, the
+// place where the faulty line begins (the end of a text that is too long), and 0.
+pub struct PlanRead {
+    pub answer: PlanAnswer,
+    pub plan: Plan,
+    pub at: usize,
+    pub line: usize,
+}
+
 mod bound_at;
 mod bound_line;
 mod bounds_lines;
+mod first_lines;
 mod job_lines;
 mod jobs_lines;
 mod names;
