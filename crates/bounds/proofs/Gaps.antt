@@ -1,6 +1,6 @@
--- Differences of two times in range, as the machine makes them: they fit an i32, and are read back as they are.
-use mathlib.Core.Path.{_≡_, _∙_, ap₂}
-use lib.IntN.{ℤ, _-ℤ_}
+-- Differences and sums of two times in range, as the machine makes them: they fit an i32, and are read back as they are.
+use mathlib.Core.Path.{_≡_, sym, _∙_, ap₂, subst}
+use lib.IntN.{ℤ, _+ℤ_, _-ℤ_}
 use mir.Syntax.{w32}
 use mir.Val.{SFits, toZ, ofZ}
 use mir.Facts.{toZ-ofZ}
@@ -16,3 +16,18 @@ gap-fits a b f g = simp (toZ-ofZ (in-range-fits f), toZ-ofZ (in-range-fits g)) (
 pub gap-back : (a b : ℤ) → InRange a → InRange b → toZ w32 (ofZ w32 (toZ w32 (ofZ w32 a) -ℤ toZ w32 (ofZ w32 b))) ≡ a -ℤ b
 gap-back a b f g =
     toZ-ofZ (gap-fits a b f g) ∙ ap₂ _-ℤ_ (toZ-ofZ (in-range-fits f)) (toZ-ofZ (in-range-fits g))
+
+pub total-fits : (a b : ℤ) → InRange a → InRange b → SFits w32 (toZ w32 (ofZ w32 a) +ℤ toZ w32 (ofZ w32 b))
+total-fits a b f g = simp (toZ-ofZ (in-range-fits f), toZ-ofZ (in-range-fits g)) (omega wholes)
+
+pub total-back : (a b : ℤ) → InRange a → InRange b → toZ w32 (ofZ w32 (toZ w32 (ofZ w32 a) +ℤ toZ w32 (ofZ w32 b))) ≡ a +ℤ b
+total-back a b f g =
+    toZ-ofZ (total-fits a b f g) ∙ ap₂ _+ℤ_ (toZ-ofZ (in-range-fits f)) (toZ-ofZ (in-range-fits g))
+
+-- and one more number after what was read back
+pub chain-fits : (x a b : ℤ) → x ≡ a → InRange a → InRange b → SFits w32 (x +ℤ toZ w32 (ofZ w32 b))
+chain-fits x a b e f g =
+    subst (λ x. SFits w32 (x +ℤ toZ w32 (ofZ w32 b))) (sym e) (simp (toZ-ofZ (in-range-fits g)) (omega wholes))
+
+pub chain-back : (x a b : ℤ) → x ≡ a → InRange a → InRange b → toZ w32 (ofZ w32 (x +ℤ toZ w32 (ofZ w32 b))) ≡ a +ℤ b
+chain-back x a b e f g = toZ-ofZ (chain-fits x a b e f g) ∙ ap₂ _+ℤ_ e (toZ-ofZ (in-range-fits g))

@@ -52,11 +52,11 @@ pub jobAt-accepted : (p : Plan) → Accepted p → (k : ℕ) → k < p .jobs + p
 unfolding jobAt
 jobAt-accepted p a k h = job-at p a k h (isThis p k) refl
 
-record ShiftIn (h : ℤ) : Type 0 where
-  least : pos 0 ≤ℤ h
-  greatest : h ≤ℤ pos 86400000
+pub record ShiftIn (h : ℤ) : Type 0 where
+  pub least : pos 0 ≤ℤ h
+  pub greatest : h ≤ℤ pos 86400000
 
-shift-in : (p : Plan) → Accepted p → (k : ℕ) → ShiftIn (shift p k)
+pub shift-in : (p : Plan) → Accepted p → (k : ℕ) → ShiftIn (shift p k)
 unfolding shift
 shift-in p a k = by (isThis p k)
   where

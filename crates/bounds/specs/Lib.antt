@@ -23,3 +23,5 @@ pub mod ClockedLaws
 pub mod PlacesLaws
 pub mod TowardsLaws
 pub mod BoundsLaws
+pub mod FillLaws
+pub mod EventTimesLaws

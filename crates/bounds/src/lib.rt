@@ -5,8 +5,10 @@ mod eliminate;
 mod judging;
 mod nodes;
 mod tables;
+mod times;
 
 pub use cells::put;
+pub use times::times_of;
 
 // The events of a bound z - y <= w. Jobs are counted by their place from the first job of this window on, so that the next window's
 // places follow this window's: with three jobs, place 4 is the next window's second job.
@@ -14,6 +16,12 @@ pub enum Event {
     Origin,
     Start(usize),
     Finish(usize),
+}
+
+// The earliest and the latest of each node of two windows; those past the last node are 0.
+pub struct Spans {
+    pub early: [i32; Table::SIDE],
+    pub late: [i32; Table::SIDE],
 }
 
 // What the judgement of a bound says.
