@@ -2,28 +2,29 @@
 -- Members: a digit is a member or none (`hasEvent-digit`); an event of a set moved down is one so much later (`hasEvent-shift`), so membership is one digit
 -- (`hasEvent-at`); a set below 2^k has no event from k on (`hasEvent-past`); two sets with the same events are one (`hasEvent-unique`).
 -- Made: the events of `eventSet` are the places that hold true (`hasEvent-set`), and it has a bit for each place (`eventSet-fits`); one place more is one event
--- more, or none (`eventSet-more`). A set and an event has that event (`hasEvent-with`) and no other more (`hasEvent-with-other`), and needs no bits beyond both
+-- more, or none (`eventSet-more`; of a listed set `eventSet-listed`, `eventSet-listed-fits`). A set and an event has that event (`hasEvent-with`) and no other more (`hasEvent-with-other`), and needs no bits beyond both
 -- (`withEvent-fits`); it is the bits of both (`withEvent-or`).
 -- The count is the count of ones (`eventCount-ones`); of `eventSet` it is the count of the places that hold true (`eventCount-set`).
 -- The next event from e on is the trailing zeros of the set moved down by e (`nextFrom-zeros`); it is not before e (`nextFrom-past`), it is in the set
--- (`nextFrom-has`), and none before it is (`nextFrom-least`). So a walk that does nothing at an event outside the set can go on at the next event
+-- (`nextFrom-has`), and none before it is (`nextFrom-least`, `nextFrom-found`). So a walk that does nothing at an event outside the set can go on at the next event
 -- (`nextFrom-skips`).
 
-use Prim.Native.Nat.{ℕ, zero, suc, _+_, _*_, _-_, _/_, _%_, _^_, _≤_, _<_, max}
+use Prim.Native.Nat.{ℕ, zero, suc, _+_, _*_, _-_, _/_, _%_, _^_, _≤_, _<_}
 use mathlib.Core.Path.{_≡_, refl, sym, ap, _∙_}
 use mathlib.Core.Logic.{_⊎_, inl, inr, ⊎-elim}
-use mathlib.Core.Bool.{Bool, true, false, cond, true≢false, false≢true}
+use mathlib.Core.Bool.{Bool, true, false, cond, true≢false}
 use mathlib.Core.List.{List, [], _∷_, _++_}
-use native.Mathlib.Nat.{pow-suc, pow-succ', div-div-eq-div-mul, div-one, zero-add, add-zero, suc-add, add-suc, max-zero}
+use native.Mathlib.Nat.{pow-suc, pow-succ', div-div-eq-div-mul, div-one, zero-add, add-zero, suc-add, add-suc}
 use native.Mathlib.Numerals.{add-one}
 use native.Mathlib.Omega.{arith}
 use lib.Bits.{bitOr, or-step, or-zero-r, or-lt}
 use lib.Count.{ones, ones-step, trailingZeros, under}
-use lib.Dec.{eqb}
+use lib.Dec.{eqb, leb}
 use lib.ListN.{length, getD}
 use lib.Pow.{pow-lt, pow-mono}
-use borrow.Author.Tests.{eqb-true, eqb-false, eq-eqb, ne-eqb}
-use Rattle.rounds.specs.Bits.{hasEvent, eventSet, countTrue, withEvent, mostBits, countFrom, eventCount, nextFrom, nextEvent}
+use borrow.Author.Tests.{eqb-true, eqb-false, eq-eqb, ne-eqb, leb-true, leb-false}
+use Rattle.bounds.specs.Tables.{listed}
+use Rattle.rounds.specs.Bits.{hasEvent, eventSet, countTrue, withEvent, mostBits, countFrom, eventCount, nextFrom}
 
 -- ---- members
 
@@ -159,6 +160,25 @@ eventSet-more (a ∷ bs) true =
     ∙ sym (withEvent-suc (length bs) (cond a 1 0 + 2 * eventSet bs) ∙ rw (cons-half a (eventSet bs), cons-mod a (eventSet bs)))
 eventSet-more (a ∷ bs) false = ap (λ (s : ℕ). cond a 1 0 + 2 * s) (eventSet-more bs false)
 
+-- a set made event by event
+listed-more : {A : Type 0} (k : ℕ) (f : ℕ → A) → listed (suc k) f ≡ listed k f ++ (f k ∷ [])
+unfolding listed
+listed-more zero f = refl
+listed-more (suc k) f = ap (λ l. f 0 ∷ l) (listed-more k (λ i. f (suc i)))
+
+listed-length : {A : Type 0} (k : ℕ) (f : ℕ → A) → length (listed k f) ≡ k
+unfolding listed
+listed-length zero f = refl
+listed-length (suc k) f = ap suc (listed-length k (λ i. f (suc i)))
+
+pub eventSet-listed : (k : ℕ) (f : ℕ → Bool) → eventSet (listed (k + 1) f) ≡ cond (f k) (withEvent k (eventSet (listed k f))) (eventSet (listed k f))
+eventSet-listed k f =
+    ap (λ (n : ℕ). eventSet (listed n f)) (add-one k) ∙ ap eventSet (listed-more k f) ∙ eventSet-more (listed k f) (f k)
+    ∙ ap (λ (n : ℕ). cond (f k) (withEvent n (eventSet (listed k f))) (eventSet (listed k f))) (listed-length k f)
+
+pub eventSet-listed-fits : (k : ℕ) (f : ℕ → Bool) → eventSet (listed k f) < 2 ^ k
+eventSet-listed-fits k f = rw (listed-length k f) at (eventSet-fits (listed k f))
+
 -- ---- the count
 
 countFrom-suc : (s e n : ℕ) → countFrom s (suc e) n ≡ countFrom (s / 2) e n
@@ -244,6 +264,13 @@ nextFrom-has s e (suc n) h = of (hasEvent e s) refl (nextFrom-has s (suc e) n) h
         → cond b e (nextFrom s (suc e) n) < e + suc n → hasEvent (cond b e (nextFrom s (suc e) n)) s ≡ true
     of true y rest g = y
     of false y rest g = rest (omega arith)
+
+pub nextFrom-found : (s e n d : ℕ) → e ≤ d → hasEvent d s ≡ true → nextFrom s e n ≤ d
+nextFrom-found s e n d l y = of (leb (nextFrom s e n) d) refl
+  where
+    of : (b : Bool) → leb (nextFrom s e n) d ≡ b → nextFrom s e n ≤ d
+    of true h = leb-true (nextFrom s e n) d h
+    of false h = absurd (true≢false (sym y ∙ nextFrom-least s e n d l (leb-false (nextFrom s e n) d h)))
 
 -- a walk f from event e on over n events, which does nothing at an event outside the set
 module _ {A : Type 0} (s : ℕ) (f : ℕ → ℕ → A) (past : (e n : ℕ) → hasEvent e s ≡ false → f e (suc n) ≡ f (suc e) n) where

@@ -1,6 +1,6 @@
 -- The calendar program's output (document 01, 'Offers and runs': 'Calendar program: standard input is a plan; it prints ..').
 use Prim.Native.Nat.{ℕ, zero, suc, _+_, _*_, _-_, _/_, _%_}
-use mathlib.Core.Bool.{Bool, true, false, cond}
+use mathlib.Core.Bool.{cond}
 use mathlib.Core.List.{List, [], _∷_, _++_}
 use lib.Dec.{eqb, ltb}
 use lib.IntN.{ℤ, pos}
@@ -67,6 +67,15 @@ jobTexts jobs c i (suc count) =
 -- 'it prints `settled=`, then for each job ..'
 unfoldable pub calendarText : ℕ → ℕ → Calendar → List ℕ
 calendarText jobs m c = keyed (bytes "settled=") (pos m) (jobTexts jobs c 0 jobs)
+
+-- ---- how long it is, with at most nine jobs: a job's text has three lines of at most 29 bytes, and on either side a line of at most 52 bytes for each of at
+-- most 34 events
+
+abbrev pub mostJobBytes : ℕ
+mostJobBytes = 3623
+
+abbrev pub mostCalendarBytes : ℕ
+mostCalendarBytes = 32768
 
 -- ---- the program: from the bytes of the input to those of the output
 

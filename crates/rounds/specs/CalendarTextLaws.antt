@@ -1,9 +1,13 @@
 -- The laws of the calendar's text.
--- How long it is: an event's name (`eventBytes-short`), a term's line (`termLine-short`), a line of a key and a number (`keyed-short`).
--- A line of a key and a number stands before what follows it (`keyed-append`).
+-- How long it is: an event's name has at most 22 bytes (`eventBytes-short`), a term's line 52 (`termLine-short`), and the whole text `mostCalendarBytes`, where
+-- every number of the calendar fits its type (`calendarText-short`). A line of a key and a number stands before what follows it (`keyed-append`).
+-- One turn of a writer: the next term of a side (`termLines-next`, `termLines-stop`; by what is left, `left-term`, `left-terms`), and the next job (`left-job`,
+-- `left-jobs`).
+-- What writers did: numbers as they are handed over (`stored-narrow`, `stored-line`, `stored-count`), an event's name from its parts (`stored-event`), a line and
+-- what is behind it (`stored-keyed`), and how far a term moves the place (`stored-term-near`).
 
-use Prim.Native.Nat.{ℕ, zero, suc, _+_, _*_, _-_, _/_, _%_, _^_, _≤_, _<_}
-use mathlib.Core.Path.{_≡_, refl, sym, ap, _∙_, subst}
+use Prim.Native.Nat.{ℕ, zero, suc, _+_, _*_, _-_, _/_, _^_, _≤_, _<_}
+use mathlib.Core.Path.{_≡_, sym, ap, _∙_, subst}
 use mathlib.Core.Bool.{Bool, true, false, cond}
 use mathlib.Core.List.{List, [], _∷_, _++_, append-assoc}
 use native.Mathlib.Numerals.{add-one}
@@ -13,31 +17,27 @@ use lib.IntN.{ℤ, pos}
 use lib.ListN.{length, getD, length-append}
 use mir.Syntax.{w32, w64}
 use mir.Val.{SFits, toZ, ofZ}
-use mir.Facts.{toZ-ofZ}
+use mir.Facts.{toZ-ofZ, sfits-widen}
 use Rattle.whole.specs.Rules.{wholes}
 use Rattle.whole.specs.SplitLaws.{cast-wide}
+use Rattle.text.specs.Bytes.{bytes}
 use Rattle.text.specs.Lent.{Stored}
 use Rattle.text.specs.LentLaws.{stored-append, stored-number}
 use Rattle.text.specs.Lines.{LF, comma}
 use Rattle.text.specs.Numbers.{decimal, digits}
 use Rattle.text.specs.DigitLaws.{digits-short}
 use Rattle.text.specs.NumberLaws.{decimal-short, decimal-above}
+use Rattle.plan.specs.Limits.{mostJobs}
 use Rattle.plan.specs.PlanWritten.{keyed}
 use Rattle.rounds.specs.Bits.{hasEvent, mostBits, nextEvent}
 use Rattle.rounds.specs.BitsLaws.{nextFrom-past, nextFrom-has, nextFrom-skips}
+use Rattle.rounds.specs.declared.Terms.{Terms}
 use Rattle.rounds.specs.declared.Calendar.{Calendar}
-use Rattle.rounds.specs.Calendars.{noTerms}
+use Rattle.rounds.specs.Calendars.{eventsAhead, mostEvents, noTerms}
 use Rattle.rounds.specs.LeftLaws.{Left, left-past, left-end}
-use Rattle.rounds.specs.CalendarText.{eventLetter, eventKind, eventJob, eventBytes, termLine, termLines, jobText, jobTexts, calendarText}
+use Rattle.rounds.specs.CalendarText.{eventLetter, eventKind, eventJob, eventBytes, termLine, termLines, jobHead, jobText, jobTexts, calendarText, mostJobBytes, mostCalendarBytes}
 
 -- ---- how long it is
-
--- at most nine jobs: a job's text has three lines of at most 29 bytes, and on either side a line of at most 52 for each of at most 34 events
-abbrev pub mostJobBytes : ℕ
-mostJobBytes = 3623
-
-abbrev pub mostCalendarBytes : ℕ
-mostCalendarBytes = 32768
 
 eventJob-fits : (jobs e : ℕ) → e < 2 ^ 64 → eventJob jobs e < 2 ^ 64
 eventJob-fits jobs e h = of (ltb e (2 * jobs))
@@ -60,11 +60,88 @@ termLine-short jobs key e c k h f =
       decimal-short c f,
     )
 
-pub keyed-short : (key : List ℕ) (z : ℤ) → length key ≤ 8 → SFits w64 z → length (keyed key z []) ≤ 29
-keyed-short key z k f = omega (arith, length-append key (decimal z ++ (LF ∷ [])), length-append (decimal z) (LF ∷ []), decimal-short z f)
+-- a line of a key and a number, before s
+keyed-short : (key : List ℕ) (z : ℤ) (s : List ℕ) → length key ≤ 8 → length (decimal z) ≤ 20 → length (keyed key z s) ≤ 29 + length s
+keyed-short key z s k d = omega (arith, length-append key (decimal z ++ (LF ∷ s)), length-append (decimal z) (LF ∷ s))
+
+count-short : (n : ℕ) → n < 2 ^ 64 → length (decimal (pos n)) ≤ 20
+count-short n h = rw (decimal-above (pos n) (omega wholes)) (digits-short n h)
 
 pub keyed-append : (key : List ℕ) (z : ℤ) (s : List ℕ) → keyed key z s ≡ keyed key z [] ++ s
 keyed-append key z s = sym (append-assoc key (decimal z ++ (LF ∷ [])) s ∙ ap (λ (x : List ℕ). key ++ x) (append-assoc (decimal z) (LF ∷ []) s))
+
+-- every number of a calendar fits its type
+pub record CalendarFits (c : Calendar) : Type 0 where
+  pub low : (i : ℕ) → SFits w64 (getD (c .terms) i noTerms .low .0)
+  pub high : (i : ℕ) → SFits w64 (getD (c .terms) i noTerms .high .0)
+  pub least : (k : ℕ) → SFits w32 (getD (c .«at_least») k (pos 0))
+  pub most : (k : ℕ) → SFits w32 (getD (c .«at_most») k (pos 0))
+
+wide : {z : ℤ} → SFits w32 z → SFits w64 z
+wide f = sfits-widen tt f
+
+termLines-short : (jobs : ℕ) (key : List ℕ) (set : ℕ) (cs : List ℤ) (row : ℕ) → length key ≤ 8 → ((k : ℕ) → SFits w32 (getD cs k (pos 0)))
+    → (e n : ℕ) → e + n ≤ mostBits → length (termLines jobs key set cs row e n) ≤ 52 * n
+unfolding termLines
+termLines-short jobs key set cs row l f e zero h = omega arith
+termLines-short jobs key set cs row l f e (suc n) h = of (hasEvent e set) (termLines-short jobs key set cs row l f (suc e) n (omega arith))
+  where
+    line : List ℕ
+    line = termLine jobs key e (getD cs (row + e) (pos 0))
+
+    of : (b : Bool) → length (termLines jobs key set cs row (suc e) n) ≤ 52 * n
+        → length (cond b line [] ++ termLines jobs key set cs row (suc e) n) ≤ 52 * suc n
+    of true r = omega (arith, length-append line (termLines jobs key set cs row (suc e) n), termLine-short jobs key e (getD cs (row + e) (pos 0)) l (omega arith) (wide (f (row + e))))
+    of false r = omega arith
+
+jobHead-short : (i : ℕ) (t : Terms) → i < mostJobs → SFits w64 (t .low .0) → SFits w64 (t .high .0) → length (jobHead i t) ≤ 87
+unfolding bytes
+jobHead-short i t h f g =
+    let high = keyed (bytes "high=") (t .high .0) [] in
+    let low = keyed (bytes "low=") (t .low .0) high in
+    omega (
+      arith,
+      keyed-short (bytes "job=") (pos (i + 1)) low (omega arith) (count-short (i + 1) (omega arith)),
+      keyed-short (bytes "low=") (t .low .0) high (omega arith) (decimal-short (t .low .0) f),
+      keyed-short (bytes "high=") (t .high .0) [] (omega arith) (decimal-short (t .high .0) g),
+    )
+
+module _ (jobs : ℕ) (c : Calendar) (few : jobs ≤ mostJobs) (fits : CalendarFits c) where
+  jobText-short : (i : ℕ) → i < mostJobs → length (jobText jobs i (getD (c .terms) i noTerms) (c .«at_least») (c .«at_most»)) ≤ mostJobBytes
+  unfolding jobText bytes
+  jobText-short i h =
+      let t = getD (c .terms) i noTerms in
+      let count = eventsAhead jobs i in
+      let below = termLines jobs (bytes "atleast=") (t .below .0) (c .«at_least») (i * mostEvents) 0 count in
+      let above = termLines jobs (bytes "atmost=") (t .above .0) (c .«at_most») (i * mostEvents) 0 count in
+      omega (
+        arith,
+        length-append (jobHead i t) (below ++ above),
+        length-append below above,
+        jobHead-short i t (omega arith) (fits .low i) (fits .high i),
+        termLines-short jobs (bytes "atleast=") (t .below .0) (c .«at_least») (i * mostEvents) (omega arith) (fits .least) 0 count (omega arith),
+        termLines-short jobs (bytes "atmost=") (t .above .0) (c .«at_most») (i * mostEvents) (omega arith) (fits .most) 0 count (omega arith),
+      )
+
+  jobTexts-short : (i n : ℕ) → i + n ≤ mostJobs → length (jobTexts jobs c i n) ≤ mostJobBytes * n
+  unfolding jobTexts
+  jobTexts-short i zero h = omega arith
+  jobTexts-short i (suc n) h =
+      omega (
+        arith,
+        length-append (jobText jobs i (getD (c .terms) i noTerms) (c .«at_least») (c .«at_most»)) (jobTexts jobs c (suc i) n),
+        jobText-short i (omega arith),
+        jobTexts-short (suc i) n (omega arith),
+      )
+
+  pub calendarText-short : (m : ℕ) → m < 2 ^ 64 → length (calendarText jobs m c) ≤ mostCalendarBytes
+  unfolding calendarText bytes
+  calendarText-short m h =
+      omega (
+        arith,
+        keyed-short (bytes "settled=") (pos m) (jobTexts jobs c 0 jobs) (omega arith) (count-short m h),
+        jobTexts-short 0 jobs (omega arith),
+      )
 
 -- ---- the terms of one side
 

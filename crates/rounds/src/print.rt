@@ -10,13 +10,14 @@ ghost use lib.IntN.{pos};
 ghost use lib.ListN.{length};
 ghost use Prim.Native.Nat.{_+_, _*_, _^_, _≤_, _<_};
 ghost use Rattle.text.specs.Lent.{Stored};
+ghost use Rattle.plan.specs.Limits.{mostJobs};
 ghost use Rattle.plan.specs.PlanWritten.{keyed};
-ghost use Rattle.rounds.specs.CalendarTextLaws.{mostJobBytes, mostCalendarBytes};
-ghost use Rattle.rounds.specs.CalendarText.{eventLetter, eventKind, eventJob, eventBytes, termLine, termLines, jobHead, jobText, jobTexts, calendarText};
+ghost use Rattle.rounds.specs.Calendars.{mostEvents};
+ghost use Rattle.rounds.specs.CalendarText.{eventLetter, eventKind, eventJob, eventBytes, termLine, termLines, jobHead, jobText, jobTexts, calendarText, mostJobBytes, mostCalendarBytes};
 
 // The window letter of event e: p for the previous window, whose events come first, t for this one.
 fn event_letter(jobs: usize, e: usize) -> u8
-    requires { ⌜ jobs ≤ 9 ⌝ }
+    requires { ⌜ jobs ≤ mostJobs ⌝ }
     ensures { λ r. ⌜ r ≡ eventLetter jobs e ⌝ }
 {
     if e < 2 * jobs {
@@ -37,7 +38,7 @@ fn event_kind(e: usize) -> u8
 
 // The job of event e, from 1.
 fn event_job(jobs: usize, e: usize) -> u64
-    requires { ⌜ jobs ≤ 9 ⌝ }
+    requires { ⌜ jobs ≤ mostJobs ⌝ }
     ensures { λ r. ⌜ r ≡ eventJob jobs e ⌝ }
 {
     let own = 2 * jobs;
@@ -52,7 +53,7 @@ fn event_job(jobs: usize, e: usize) -> u64
 // The name of event e.
 fn put_event(out: &mut [u8], at: usize, jobs: usize, e: usize) -> usize
     requires { ⌜ at ≤ 2 ^ 61 ⌝ }
-    requires { ⌜ jobs ≤ 9 ⌝ }
+    requires { ⌜ jobs ≤ mostJobs ⌝ }
     ensures { λ r. ⌜ Stored (now (out .entry)) at (eventBytes jobs e) (now (out .exit)) r ⌝ }
 {
     let letter = event_letter(jobs, e);
@@ -67,7 +68,7 @@ fn put_event(out: &mut [u8], at: usize, jobs: usize, e: usize) -> usize
 fn put_term(out: &mut [u8], at: usize, key: &[u8], jobs: usize, e: usize, c: i32) -> usize
     requires { ⌜ at ≤ 2 ^ 60 ⌝ }
     requires { ⌜ length (now key) ≤ 8 ⌝ }
-    requires { ⌜ jobs ≤ 9 ⌝ }
+    requires { ⌜ jobs ≤ mostJobs ⌝ }
     ensures { λ r. ⌜ Stored (now (out .entry)) at (termLine jobs (now (key .entry)) e c) (now (out .exit)) r ⌝ }
 {
     let name = text::put_bytes(out, at, key);
@@ -114,9 +115,9 @@ fn put_terms(
 ) -> usize
     requires { ⌜ at ≤ 2 ^ 59 ⌝ }
     requires { ⌜ length (now key) ≤ 8 ⌝ }
-    requires { ⌜ jobs ≤ 9 ⌝ }
-    requires { ⌜ count ≤ 36 ⌝ }
-    requires { ⌜ row + count ≤ 324 ⌝ }
+    requires { ⌜ jobs ≤ mostJobs ⌝ }
+    requires { ⌜ count ≤ mostEvents ⌝ }
+    requires { ⌜ row + count ≤ mostJobs * mostEvents ⌝ }
     ensures { λ r. ⌜ Stored (now (out .entry)) at (termLines jobs (now (key .entry)) (set .0) (now (cs .entry)) row 0 count) (now (out .exit)) r ⌝ }
     ensures { λ r. ⌜ r ≤ at + 52 * count ⌝ }
 {
@@ -138,7 +139,7 @@ fn put_terms(
 // The head of one job, at place i: its number from 1, and the origin's two bounds.
 fn put_head(out: &mut [u8], at: usize, i: usize, terms: Terms) -> usize
     requires { ⌜ at ≤ 2 ^ 59 ⌝ }
-    requires { ⌜ i < 9 ⌝ }
+    requires { ⌜ i < mostJobs ⌝ }
     ensures { λ r. ⌜ Stored (now (out .entry)) at (jobHead i terms) (now (out .exit)) r ⌝ }
     ensures { λ r. ⌜ r ≤ at + 87 ⌝ }
 {
@@ -161,8 +162,8 @@ fn put_job(
     most: &[i32; MOST_TERMS],
 ) -> usize
     requires { ⌜ at ≤ 2 ^ 58 ⌝ }
-    requires { ⌜ jobs ≤ 9 ⌝ }
-    requires { ⌜ i < 9 ⌝ }
+    requires { ⌜ jobs ≤ mostJobs ⌝ }
+    requires { ⌜ i < mostJobs ⌝ }
     ensures { λ r. ⌜ Stored (now (out .entry)) at (jobText jobs i terms (now (least .entry)) (now (most .entry))) (now (out .exit)) r ⌝ }
     ensures { λ r. ⌜ r ≤ at + mostJobBytes ⌝ }
 {
@@ -178,7 +179,7 @@ fn put_job(
 // All jobs, in order.
 fn put_jobs(out: &mut [u8], at: usize, jobs: usize, c: Calendar) -> usize
     requires { ⌜ at ≤ 2 ^ 57 ⌝ }
-    requires { ⌜ jobs ≤ 9 ⌝ }
+    requires { ⌜ jobs ≤ mostJobs ⌝ }
     ensures { λ r. ⌜ Stored (now (out .entry)) at (jobTexts jobs c 0 jobs) (now (out .exit)) r ⌝ }
     ensures { λ r. ⌜ r ≤ at + mostJobBytes * jobs ⌝ }
 {
@@ -198,7 +199,7 @@ fn put_jobs(out: &mut [u8], at: usize, jobs: usize, c: Calendar) -> usize
 // The calendar of a plan with so many jobs, settled in round m: its text from a place on, as far as there is room; answers the place behind it.
 pub fn put_calendar(out: &mut [u8], at: usize, jobs: usize, m: u64, c: Calendar) -> usize
     requires { ⌜ at ≤ 2 ^ 56 ⌝ }
-    requires { ⌜ jobs ≤ 9 ⌝ }
+    requires { ⌜ jobs ≤ mostJobs ⌝ }
     ensures { λ r. ⌜ Stored (now (out .entry)) at (calendarText jobs m c) (now (out .exit)) r ⌝ }
     ensures { λ r. ⌜ r ≤ at + mostCalendarBytes ⌝ }
 {

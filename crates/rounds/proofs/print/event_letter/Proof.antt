@@ -1,5 +1,4 @@
 -- `event_letter`: the test is the definition's.
-use mathlib.Core.Path.{refl}
 use borrow.Author.Needs.{needs}
 use borrow.Author.Tests.{lt-ltb, le-ltb}
 use Rattle.rounds.proofs.print.event_letter.Statement.{statement}

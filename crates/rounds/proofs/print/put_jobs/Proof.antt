@@ -4,8 +4,8 @@ use mathlib.Core.Path.{_≡_, refl, _∙_}
 use native.Mathlib.Omega.{arith}
 use lib.ListN.{length}
 use Rattle.rounds.specs.declared.Calendar.{Calendar}
-use Rattle.rounds.specs.CalendarText.{jobTexts}
-use Rattle.rounds.specs.CalendarTextLaws.{mostJobBytes, left-job, left-jobs}
+use Rattle.rounds.specs.CalendarText.{jobTexts, mostJobBytes}
+use Rattle.rounds.specs.CalendarTextLaws.{left-job, left-jobs}
 use Rattle.rounds.specs.LeftLaws.{Left, left-whole}
 use Rattle.rounds.proofs.print.put_jobs.Statement.{statement}
 use Rattle.rounds.proofs.print.put_jobs.Tie as tie
