@@ -56,7 +56,7 @@ use Rattle.rounds.specs.Calendars.{thenTables, beforeStarts, termsOf, leastCs, 
 use Rattle.rounds.specs.CalendarText.{termLines, jobText, jobTexts, calendarText, outcomeText, answered, calendarOutput}
 use Rattle.runs.specs.Offers.{timeOf, isInForce, endFrom, offerOf, openingIn}
 use Rattle.runs.specs.Steps.{asked, started, closed, finished, stepped}
-use Rattle.session.specs.StepRead.{timed, finishStep, startStep, stepIn, linedStep, stepLine}
+use Rattle.session.specs.StepRead.{timed, finishIn, finishStep, startIn, startStep, stepIn, linedStep, stepLine}
 use Rattle.session.specs.AnswerText.{answerLine, endsSession}
 use Rattle.session.specs.Sessions.{answeredStep, afterStep, answersWithin, judgedSession, sessionOf, dispatchOutput}
 
@@ -86,5 +86,5 @@ Right cases = map answer cases ≡ map expected cases
 
 -- naming this on an `unfolding` line opens every definition between the input's bytes and the output's
 unfoldable pub computing : Type 0
-unfolding bytes lenTo afterKey allDigits isPositive isNumber digitsValue numberValue numberIn numberOf digitsBefore decimal refusedLine next lined line linedNumber eventName sameEvent jobLines jobsAfter boundParts isGiven isWrongPair boundOf linedBound boundsAfter planLines planHead nothingAfter jobAt shift earliest latest nodeOf eventOf judged least plus join at listed leastOf judgement anyBelow contradicts keptRows judgedSet finishCell startCell thenSet withoutPlace eliminated givenBounds ranges orders ownBounds betweenBounds C0 onNext joined round sameCell sameRow sameRows failsAlone decided roundsFrom outcomeFrom outcome hasEvent eventSet thenTables beforeStarts termsOf leastCs mostCs allTerms allCs calendarOf calendar termLines jobText jobTexts calendarText outcomeText answered timeOf isInForce endFrom offerOf openingIn asked started closed finished stepped timed finishStep startStep stepIn linedStep stepLine answerLine endsSession answeredStep afterStep answersWithin judgedSession sessionOf
+unfolding bytes lenTo afterKey allDigits isPositive isNumber digitsValue numberValue numberIn numberOf digitsBefore decimal refusedLine next lined line linedNumber eventName sameEvent jobLines jobsAfter boundParts isGiven isWrongPair boundOf linedBound boundsAfter planLines planHead nothingAfter jobAt shift earliest latest nodeOf eventOf judged least plus join at listed leastOf judgement anyBelow contradicts keptRows judgedSet finishCell startCell thenSet withoutPlace eliminated givenBounds ranges orders ownBounds betweenBounds C0 onNext joined round sameCell sameRow sameRows failsAlone decided roundsFrom outcomeFrom outcome hasEvent eventSet thenTables beforeStarts termsOf leastCs mostCs allTerms allCs calendarOf calendar termLines jobText jobTexts calendarText outcomeText answered timeOf isInForce endFrom offerOf openingIn asked started closed finished stepped timed finishIn finishStep startIn startStep stepIn linedStep stepLine answerLine endsSession answeredStep afterStep answersWithin judgedSession sessionOf
 computing = Unit {0}

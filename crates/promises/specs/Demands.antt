@@ -1,0 +1,81 @@
+-- What is promised of a text that is read as a plan, in the words of the definitions: the round trips, the verdict, and the offers. Each proof
+-- cites where the work was done: `plan`, PlanLaws, and `strategy`, Theorems.
+use Prim.Native.Nat.{ℕ, _+_, _*_, _-_, _≤_, _<_}
+use mathlib.Core.Path.{_≡_}
+use mathlib.Core.Logic.{_↔_}
+use mathlib.Core.List.{List, []}
+use lib.IntN.{ℤ}
+use lib.Signed.{_≤ℤ_}
+use lib.ListN.{length}
+use Rattle.plan.specs.declared.Plan.{Plan}
+use Rattle.plan.specs.declared.Refusal.the-variants as refusal
+use Rattle.plan.specs.Limits.{longestText}
+use Rattle.plan.specs.Reading.{read}
+use Rattle.plan.specs.PlanRead.{planAlone, planHead}
+use Rattle.plan.specs.PlanWritten.{planText}
+use Rattle.plan.specs.PlanLaws.{planAlone-written, planAlone-again, planAlone-fits, planAlone-unique, planHead-accepted}
+use Rattle.bounds.specs.Tables.{Rows}
+use Rattle.rounds.specs.declared.Verdict.the-variants.{Settled, NoStrategy}
+use Rattle.rounds.specs.Rounds.{settled, outcome, verdict}
+use Rattle.rounds.specs.Calendars.{calendar}
+use Rattle.runs.specs.declared.Phase.the-variants.{Waiting}
+use Rattle.runs.specs.declared.Run.{Run}
+use Rattle.runs.specs.declared.Step.{Step}
+use Rattle.runs.specs.declared.Answer.the-variants.{Refused}
+use Rattle.runs.specs.Offers.{offerOf}
+use Rattle.runs.specs.Steps.{stepped}
+use Rattle.strategy.specs.Histories.{History}
+use Rattle.strategy.specs.Strategies.{Kept, StrategyAfter, StrategyFor, StrategyForAll}
+use Rattle.strategy.specs.Reaching.{OnOffer, Reached}
+use Rattle.strategy.specs.Soundness.{Sound}
+use Rattle.strategy.specs.SoundLaws.{accepted-sound}
+use Rattle.strategy.specs.Theorems as demand-3
+
+-- ---- demand 2: 'A plan written and read again is the same plan; an accepted text is written back byte for byte'
+
+module _ (s : List ℕ) {p : Plan} {t : List ℕ} {n : ℕ} (accepted : planAlone s ≡ read p t n) where
+  pub written-back : planText p ≡ s
+  written-back = planAlone-written s accepted
+
+  pub read-again : planAlone (planText p) ≡ read p [] n
+  read-again = planAlone-again s accepted
+
+  pub not-too-long : length s ≤ longestText
+  not-too-long = planAlone-fits s accepted
+
+pub one-text : (s s′ : List ℕ) {p : Plan} {t t′ : List ℕ} {n n′ : ℕ} → planAlone s ≡ read p t n → planAlone s′ ≡ read p t′ n′ → s ≡ s′
+one-text = planAlone-unique
+
+-- ---- demand 3, of a plan at the head of a session
+
+module _ (s : List ℕ) {p : Plan} {t : List ℕ} {n : ℕ} (e : planHead s ≡ read p t n) where
+  sound : Sound p
+  sound = accepted-sound p (planHead-accepted s e)
+
+  -- settled: from the beginning there is a way to choose the starts for every number of windows
+  pub settled-means : (m : ℕ) → verdict p ≡ Settled m → StrategyForAll p
+  settled-means = demand-3.settled-means p sound
+
+  -- ''No strategy, K': no such way from the beginning for K windows, and one for every smaller number'
+  pub no-strategy-means : (K : ℕ) → verdict p ≡ NoStrategy K → (StrategyFor p K → ⊥) × ((k : ℕ) → k < K → StrategyFor p k)
+  no-strategy-means = demand-3.no-strategy-means p sound
+
+  -- 'For an accepted plan whose starts were on offer and running times inside limits'
+  module _ (m : ℕ) (c : Rows) (accepted : outcome p ≡ settled m c) (r : Run) (h : History) (reached : Reached p (calendar p c) r h) where
+    -- 'while the run lasts the next offer is not empty'
+    pub offer-not-empty : (j i : ℕ) → r .phase ≡ Waiting j i → offerOf p (calendar p c) r j i .from .0 ≤ℤ offerOf p (calendar p c) r j i .to .0
+    offer-not-empty = demand-3.offer-not-empty p sound m c accepted r h reached
+
+    -- 'a millisecond is on offer exactly if, after starting there, for this window and each later one there is a way to choose the starts, each
+    -- from what was seen before it, so that all bounds hold for all running times'
+    pub offer-exact : (j i : ℕ) → r .phase ≡ Waiting j i → (x : ℤ)
+        → OnOffer (offerOf p (calendar p c) r j i) x ↔ ((k : ℕ) → StrategyAfter p h x ((p .jobs - i) + k * p .jobs))
+    offer-exact = demand-3.offer-exact p sound m c accepted r h reached
+
+    -- so refusal 11 is never given
+    pub never-11 : (st : Step) → stepped p (calendar p c) r st .answer ≡ Refused refusal.EmptyOffer → ⊥
+    never-11 = demand-3.never-11 p sound m c accepted r h reached
+
+    -- and every bound whose events have been seen is kept
+    pub all-kept : Kept p h
+    all-kept = demand-3.all-kept p sound m c accepted r h reached
