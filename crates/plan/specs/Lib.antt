@@ -9,6 +9,7 @@ pub mod PlanRead
 pub mod PlanWritten
 pub mod Pairs
 pub mod BoundNames
+pub mod PlanAnswers
 pub mod ReadAt
 pub mod Accepted
 -- ---- laws
@@ -21,3 +22,4 @@ pub mod PlanLaws
 pub mod ReadAtLaws
 pub mod JobsLoop
 pub mod BoundsLoop
+pub mod HeadLaws

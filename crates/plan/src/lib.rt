@@ -187,9 +187,11 @@ mod names;
 mod narrow;
 mod number_line;
 mod pairs;
+mod reader;
 mod refusals;
 
 pub use names::event_name;
+pub use reader::read_head;
 pub use refusals::ends;
 pub use refusals::fault_at;
 pub use refusals::number;

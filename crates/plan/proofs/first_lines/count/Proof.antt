@@ -1,5 +1,4 @@
 -- `count`: a number that is not negative is its own size.
-use mathlib.Core.Path.{_≡_}
 use native.Mathlib.Omega.{arith}
 use borrow.Author.Needs.{needs}
 use lib.Dec.{T}

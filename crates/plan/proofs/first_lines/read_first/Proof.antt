@@ -10,7 +10,6 @@ use mir.Facts.{toZ-ofZ}
 use mir.Syntax.{w32}
 use Rattle.whole.specs.Rules.{whole}
 use Rattle.text.specs.Bytes.{bytes}
-use Rattle.plan.specs.Limits.{longestWindow}
 use Rattle.plan.specs.PlanRead.{planLines}
 use Rattle.plan.specs.ReadingLaws.{numberLine-read}
 use Rattle.plan.specs.ReadAt.{FirstTold}

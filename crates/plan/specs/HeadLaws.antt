@@ -1,0 +1,81 @@
+-- The laws by which the reader of a plan is right: the length comes first (`planHead-long`, `planHead-short`), each group of lines ends with its refusal (`planRest-jobs`,
+-- `-count`, `-bounds`) or all are read (`planRest-all`), and an answer with a place is the answer that the definition tells (`planRead-refused`, `planRead-accepted`).
+use mathlib.Core.Path.{_≡_, sym, _∙_, ap}
+use mathlib.Core.List.{List, []}
+use Prim.Native.Nat.{ℕ, _-_, _≤_, _<_}
+use native.Mathlib.Omega.{arith}
+use borrow.Author.Tests.{le-leb, lt-leb}
+use lib.IntN.{ℤ, pos, natAbs}
+use lib.ListN.{length, drop, length-drop}
+use lib.Seq.{drop-length}
+use Rattle.text.specs.Bytes.{bytes}
+use Rattle.plan.specs.declared.Refusal.{Refusal}
+use Rattle.plan.specs.declared.Refusal.the-variants.{Form}
+use Rattle.plan.specs.declared.Faulty.{Faulty}
+use Rattle.plan.specs.declared.Job.{Job}
+use Rattle.plan.specs.declared.Bound.{Bound}
+use Rattle.plan.specs.declared.Plan.{Plan}
+use Rattle.plan.specs.declared.PlanAnswer.the-variants.{Accepted}
+use Rattle.plan.specs.declared.Went.{Went}
+use Rattle.plan.specs.declared.Went.the-variants as went
+use Rattle.plan.specs.Limits.{longestText, mostJobs, mostBounds}
+use Rattle.plan.specs.Reading.{Reading, read, refused, next, numberLine}
+use Rattle.plan.specs.PlanRead.{jobsAfter, boundsAfter, noJob, noBound, filled, planLines, planHead}
+use Rattle.plan.specs.PlanAnswers.{planRead, refusedRead}
+use Rattle.plan.specs.ReadAt.{faultyIn, planRest, wentTold, wentFault}
+
+-- ---- the length
+
+pub planHead-long : (s : List ℕ) → longestText < length s → planHead s ≡ faultyIn s (record { refusal = Form 0; at = length s })
+unfolding planHead
+planHead-long s h = rw (lt-leb (length s) longestText h, drop-length s)
+
+pub planHead-short : (s : List ℕ) → length s ≤ longestText → planHead s ≡ planLines s 1
+unfolding planHead
+planHead-short s h = rw (le-leb (length s) longestText h)
+
+-- ---- the lines after the first four
+
+module _ (window : ℤ) (rounds last jobs : ℕ) (s : List ℕ) where
+  pub planRest-jobs : {x : Refusal} {t : List ℕ} → jobsAfter [] jobs s 5 ≡ refused x t → planRest window rounds last jobs s 5 ≡ refused x t
+  unfolding next
+  planRest-jobs e = rw e
+
+  module _ {js : List Job} {s₁ : List ℕ} {n₁ : ℕ} (e₁ : jobsAfter [] jobs s 5 ≡ read js s₁ n₁) where
+    pub planRest-count : {x : Refusal} {t : List ℕ} → numberLine (bytes "bounds=") (pos 0) (pos 64) s₁ n₁ ≡ refused x t → planRest window rounds last jobs s 5 ≡ refused x t
+    unfolding next
+    planRest-count e = rw (e₁, e)
+
+    module _ {z : ℤ} {s₂ : List ℕ} {n₂ : ℕ} (e₂ : numberLine (bytes "bounds=") (pos 0) (pos 64) s₁ n₁ ≡ read z s₂ n₂) where
+      pub planRest-bounds : {x : Refusal} {t : List ℕ} → boundsAfter jobs [] (natAbs z) s₂ n₂ ≡ refused x t → planRest window rounds last jobs s 5 ≡ refused x t
+      unfolding next
+      planRest-bounds e = rw (e₁, e₂, e)
+
+      pub planRest-all : {ds : List Bound} {t : List ℕ} {n : ℕ} → boundsAfter jobs [] (natAbs z) s₂ n₂ ≡ read ds t n
+          → planRest window rounds last jobs s 5
+          ≡ read (record { window = window; rounds = rounds; last = last; jobs = jobs; job = filled mostJobs noJob js; bounds = natAbs z; bound = filled mostBounds noBound ds }) t n
+      unfolding next
+      planRest-all e = rw (e₁, e₂, e)
+
+-- ---- a group of lines that went on, or not
+
+module _ {A : Type 0} (s : List ℕ) (a : A) (n : ℕ) {m : Reading A} (w : Went) (told : m ≡ wentTold s a n w) where
+  pub went-on : {at : ℕ} → w ≡ went.On at → m ≡ read a (drop at s) n
+  went-on e = told ∙ ap (wentTold s a n) e
+
+  pub went-bad : {f g : Faulty} → w ≡ went.Bad f → g ≡ wentFault w → m ≡ faultyIn s g
+  went-bad e d = told ∙ ap (wentTold s a n) e ∙ ap (faultyIn s) (sym (d ∙ ap wentFault e))
+
+-- ---- the answer
+
+place-back : (s : List ℕ) (at : ℕ) → at ≤ length s → length s - length (drop at s) ≡ at
+place-back s at h = omega (arith, length-drop at s)
+
+module _ (s : List ℕ) {m : Reading Plan} where
+  pub planRead-refused : (f : Faulty) → f .at ≤ length s → m ≡ faultyIn s f → refusedRead f ≡ planRead s m
+  unfolding planRead
+  planRead-refused f h e = sym (ap (planRead s) e ∙ ap (λ (k : ℕ). refusedRead (record { refusal = f .refusal; at = k })) (place-back s (f .at) h))
+
+  pub planRead-accepted : (p : Plan) (at n : ℕ) → at ≤ length s → m ≡ read p (drop at s) n → planRead s m ≡ record { answer = Accepted; plan = p; at = at; line = n }
+  unfolding planRead
+  planRead-accepted p at n h e = ap (planRead s) e ∙ rw (place-back s at h)

@@ -1,0 +1,33 @@
+-- What the readers of a plan answer, of the reading that the definitions give. On a refusal the plan is the empty one.
+use Prim.Native.Nat.{ℕ, _-_}
+use mathlib.Core.List.{List, []}
+use lib.IntN.{pos}
+use lib.ListN.{length}
+use Rattle.plan.specs.declared.Faulty.{Faulty}
+use Rattle.plan.specs.declared.Plan.{Plan}
+use Rattle.plan.specs.declared.PlanAnswer.the-variants.{Accepted, Refused}
+use Rattle.plan.specs.declared.PlanRead.{PlanRead}
+use Rattle.plan.specs.Limits.{mostJobs, mostBounds}
+use Rattle.plan.specs.Reading.{Reading, read, refused}
+use Rattle.plan.specs.PlanRead.{noJob, noBound, filled}
+
+-- the plan beside a refusal
+abbrev pub emptyPlan : Plan
+emptyPlan =
+    record {
+      window = pos 0;
+      rounds = 0;
+      last = 0;
+      jobs = 0;
+      job = filled mostJobs noJob [];
+      bounds = 0;
+      bound = filled mostBounds noBound [];
+    }
+
+abbrev pub refusedRead : Faulty → PlanRead
+refusedRead f = record { answer = Refused (f .refusal); plan = emptyPlan; at = f .at; line = 0 }
+
+-- the answer to a text s: a place in it is told by how much of the text is left there
+unfoldable pub planRead : List ℕ → Reading Plan → PlanRead
+planRead s (read p t n) = record { answer = Accepted; plan = p; at = length s - length t; line = n }
+planRead s (refused r t) = refusedRead (record { refusal = r; at = length s - length t })
