@@ -1,12 +1,12 @@
 -- The laws by which the reader of a plan is right: the length comes first (`planHead-long`, `planHead-short`), each group of lines ends with its refusal (`planRest-jobs`,
 -- `-count`, `-bounds`) or all are read (`planRest-all`), and an answer with a place is the answer that the definition tells (`planRead-refused`, `planRead-accepted`).
-use mathlib.Core.Path.{_≡_, sym, _∙_, ap}
-use mathlib.Core.List.{List, []}
+use mathlib.Core.Path.{_≡_, refl, sym, _∙_, ap}
+use mathlib.Core.List.{List, [], _∷_}
 use Prim.Native.Nat.{ℕ, _-_, _≤_, _<_}
 use native.Mathlib.Omega.{arith}
 use borrow.Author.Tests.{le-leb, lt-leb}
 use lib.IntN.{ℤ, pos, natAbs}
-use lib.ListN.{length, drop, length-drop}
+use lib.ListN.{length, drop, length-drop, length-append}
 use lib.Seq.{drop-length}
 use Rattle.text.specs.Bytes.{bytes}
 use Rattle.plan.specs.declared.Refusal.{Refusal}
@@ -15,12 +15,14 @@ use Rattle.plan.specs.declared.Faulty.{Faulty}
 use Rattle.plan.specs.declared.Job.{Job}
 use Rattle.plan.specs.declared.Bound.{Bound}
 use Rattle.plan.specs.declared.Plan.{Plan}
-use Rattle.plan.specs.declared.PlanAnswer.the-variants.{Accepted}
+use Rattle.plan.specs.declared.PlanAnswer.the-variants.{Accepted, Refused}
 use Rattle.plan.specs.declared.Went.{Went}
 use Rattle.plan.specs.declared.Went.the-variants as went
 use Rattle.plan.specs.Limits.{longestText, mostJobs, mostBounds}
 use Rattle.plan.specs.Reading.{Reading, read, refused, next, numberLine}
-use Rattle.plan.specs.PlanRead.{jobsAfter, boundsAfter, noJob, noBound, filled, planLines, planHead}
+use Rattle.plan.specs.PlanRead.{jobsAfter, boundsAfter, noJob, noBound, filled, planLines, planHead, nothingAfter}
+use Rattle.plan.specs.PlanWritten.{planText}
+use Rattle.plan.specs.PlanLaws.{planHead-written}
 use Rattle.plan.specs.PlanAnswers.{planRead, refusedRead}
 use Rattle.plan.specs.ReadAt.{faultyIn, planRest, wentTold, wentFault}
 
@@ -79,3 +81,27 @@ module _ (s : List ℕ) {m : Reading Plan} where
   pub planRead-accepted : (p : Plan) (at n : ℕ) → at ≤ length s → m ≡ read p (drop at s) n → planRead s m ≡ record { answer = Accepted; plan = p; at = at; line = n }
   unfolding planRead
   planRead-accepted p at n h e = ap (planRead s) e ∙ rw (place-back s at h)
+
+-- ---- a plan alone: what follows its last line is a line too many
+
+module _ (s : List ℕ) where
+  pub alone-refused : (m : Reading Plan) {x : Refusal} → planRead s m .answer ≡ Refused x → planRead s m ≡ planRead s (nothingAfter m)
+  unfolding planRead nothingAfter
+  alone-refused (read p t n) e = absurd (let z : _≡_ {A = ℕ} 0 1 = cc in omega arith)
+  alone-refused (refused r t) e = refl
+
+  pub alone-more : (m : Reading Plan) → planRead s m .answer ≡ Accepted → planRead s m .at < length s → refusedRead (record { refusal = Form (planRead s m .line); at = planRead s m .at }) ≡ planRead s (nothingAfter m)
+  unfolding planRead nothingAfter
+  alone-more (read p [] n) e h = absurd (omega arith)
+  alone-more (read p (a ∷ t) n) e h = refl
+  alone-more (refused r t) e h = absurd (let z : _≡_ {A = ℕ} 0 1 = cc in omega arith)
+
+  pub alone-end : (m : Reading Plan) → ((p : Plan) (t : List ℕ) (n : ℕ) → m ≡ read p t n → length t ≤ length s) → planRead s m .answer ≡ Accepted → length s ≤ planRead s m .at → planRead s m ≡ planRead s (nothingAfter m)
+  unfolding planRead nothingAfter
+  alone-end (read p [] n) f e h = refl
+  alone-end (read p (a ∷ t) n) f e h = absurd (omega (arith, f p (a ∷ t) n refl))
+  alone-end (refused r t) f e h = absurd (let z : _≡_ {A = ℕ} 0 1 = cc in omega arith)
+
+  -- a head's rest is no longer than the text
+  pub planHead-rest : (p : Plan) (t : List ℕ) (n : ℕ) → planHead s ≡ read p t n → length t ≤ length s
+  planHead-rest p t n e = omega (arith, ap length (planHead-written s e), length-append (planText p) t)

@@ -192,6 +192,7 @@ mod refusals;
 
 pub use names::event_name;
 pub use reader::read_head;
+pub use reader::read_plan;
 pub use refusals::ends;
 pub use refusals::fault_at;
 pub use refusals::number;

@@ -21,7 +21,7 @@ use crate::jobs_lines::read_jobs;
 use crate::number_line::number_fault;
 use crate::number_line::read_number_line;
 ghost use mathlib.Core.Path.{_≡_};
-ghost use Rattle.plan.specs.PlanRead.{planHead};
+ghost use Rattle.plan.specs.PlanRead.{planHead, planAlone};
 ghost use Rattle.plan.specs.PlanAnswers.{planRead, refusedRead};
 
 // The answer to a faulty text: the refusal, the empty plan, and where the faulty line begins.
@@ -116,4 +116,24 @@ pub fn read_head(s: &[u8]) -> PlanRead
         at: end,
         line: after,
     }
+}
+
+// A text that is a plan and nothing else: the plan, or the first refusal and where its faulty line begins.
+pub fn read_plan(s: &[u8]) -> PlanRead
+    ensures { λ r. ⌜ r ≡ planRead (now (s .entry)) (planAlone (now (s .entry))) ⌝ }
+{
+    let r = read_head(s);
+    let answer = r.answer;
+    let PlanAnswer::Accepted = answer else {
+        return r;
+    };
+    let at = r.at;
+    let line = r.line;
+    if at < s.len() {
+        return refused_plan(Faulty {
+            refusal: Refusal::Form(line),
+            at,
+        });
+    }
+    r
 }
