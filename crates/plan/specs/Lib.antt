@@ -23,3 +23,4 @@ pub mod ReadAtLaws
 pub mod JobsLoop
 pub mod BoundsLoop
 pub mod HeadLaws
+pub mod Unique

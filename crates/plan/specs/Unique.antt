@@ -1,0 +1,35 @@
+-- No two answers meet the promise of a public operation: each promise is an equation, and `only` of the crate `text` says the rest.
+use mathlib.Core.Path.{_≡_}
+use mathlib.Core.Bool.{Bool}
+use mathlib.Core.List.{List}
+use Prim.Native.Nat.{ℕ}
+use Rattle.text.specs.Unique.{only}
+use Rattle.text.specs.declared.Fault.{Fault}
+use Rattle.plan.specs.declared.NameRead.{NameRead}
+use Rattle.plan.specs.declared.PlanRead.{PlanRead}
+use Rattle.plan.specs.declared.Refusal.{Refusal}
+use Rattle.plan.specs.Refusals.{number, value, ends, faultAt}
+use Rattle.plan.specs.EventNames.{eventName, nameRead}
+use Rattle.plan.specs.PlanRead.{planHead, planAlone}
+use Rattle.plan.specs.PlanAnswers.{planRead}
+
+pub number-unique : (r : Refusal) {n m : ℕ} → n ≡ number r → m ≡ number r → n ≡ m
+number-unique r = only
+
+pub value-unique : (r : Refusal) {n m : ℕ} → n ≡ value r → m ≡ value r → n ≡ m
+value-unique r = only
+
+pub ends-unique : (r : Refusal) {b c : Bool} → b ≡ ends r → c ≡ ends r → b ≡ c
+ends-unique r = only
+
+pub fault-at-unique : (line : ℕ) (f : Fault) {r q : Refusal} → r ≡ faultAt line f → q ≡ faultAt line f → r ≡ q
+fault-at-unique line f = only
+
+pub event-name-unique : (s : List ℕ) {r q : NameRead} → r ≡ nameRead (eventName s) → q ≡ nameRead (eventName s) → r ≡ q
+event-name-unique s = only
+
+pub read-head-unique : (s : List ℕ) {r q : PlanRead} → r ≡ planRead s (planHead s) → q ≡ planRead s (planHead s) → r ≡ q
+read-head-unique s = only
+
+pub read-plan-unique : (s : List ℕ) {r q : PlanRead} → r ≡ planRead s (planAlone s) → q ≡ planRead s (planAlone s) → r ≡ q
+read-plan-unique s = only
