@@ -18,7 +18,7 @@ use Rattle.bounds.specs.Tables.{Cell, off, upto, least, plus, Between, l
 use Rattle.bounds.specs.TablesLaws.{least-off, off-least, KeptCell, judgedSet-ext}
 use Rattle.bounds.specs.Spans.{Times}
 use Rattle.bounds.specs.Flat.{noBound, place, cellOf, cellAt, rowsOf, Flat, flat, putAt, thenFlat, putBounds, noBounds}
-use Rattle.bounds.specs.FlatLaws.{Outcome, thenFlat-outcome}
+use Rattle.bounds.specs.FlatLaws.{Outcome, thenFlat-outcome, thenFlat-found, thenFlat-next}
 use Rattle.bounds.specs.PutLaws.{cellOf-mark, cellOf-on, below-on}
 use Rattle.bounds.specs.TowardsLaws.{least-assoc, Towards, putAt-towards, towards-end}
 
@@ -28,6 +28,10 @@ then-assoc : (r : Flat) (b : Bool) → r .found ≡ b → (f g : List ℤ → Fl
 then-assoc r true e f g = ap (λ b. cond b r (g (r .weights))) e
 then-assoc r false e f g = refl
 
+pub putBounds-none : (early late : List ℤ) (ws : List ℤ) → putBounds early late [] ws ≡ flat false ws
+unfolding putBounds
+putBounds-none early late ws = refl
+
 pub putBounds-append : (early late : List ℤ) (bs cs : List Between) (ws : List ℤ)
     → putBounds early late (bs ++ cs) ws ≡ thenFlat (putBounds early late bs ws) (putBounds early late cs)
 unfolding putBounds
@@ -36,6 +40,32 @@ putBounds-append early late (b ∷ bs) cs ws =
     let r = putAt early late (nodeOf (b .y)) (nodeOf (b .z)) (b .w) (pos 0) ws in
     ap (λ q. cond (r .found) r q) (putBounds-append early late bs cs (r .weights))
     ∙ sym (then-assoc r (r .found) refl (putBounds early late bs) (putBounds early late cs))
+
+-- as the code goes: a list and then another, of which the first finds a contradiction or not
+module _ (early late : List ℤ) (bs cs : List Between) (ws : List ℤ) (r : Bool) (us : List ℤ) (e : flat r us ≡ putBounds early late bs ws) where
+  pub putBounds-stop : r ≡ true → flat true us ≡ putBounds early late (bs ++ cs) ws
+  putBounds-stop t =
+      sym
+      (putBounds-append early late bs cs ws
+      ∙ ap (λ r. thenFlat r (putBounds early late cs)) (sym e)
+      ∙ thenFlat-found r us (putBounds early late cs) t)
+
+  pub putBounds-past : r ≡ false → putBounds early late cs us ≡ putBounds early late (bs ++ cs) ws
+  putBounds-past t =
+      sym
+      (putBounds-append early late bs cs ws
+      ∙ ap (λ r. thenFlat r (putBounds early late cs)) (sym e)
+      ∙ thenFlat-next r us (putBounds early late cs) t)
+
+then-none : (r : Flat) (b : Bool) → r .found ≡ b → r ≡ cond b r (flat false (r .weights))
+then-none r true e = refl
+then-none r false e = ap (λ b. flat b (r .weights)) e
+
+pub putBounds-one : (early late : List ℤ) (b : Between) (ws : List ℤ)
+    → putAt early late (nodeOf (b .y)) (nodeOf (b .z)) (b .w) (pos 0) ws ≡ putBounds early late (b ∷ []) ws
+unfolding putBounds
+putBounds-one early late b ws =
+    let r = putAt early late (nodeOf (b .y)) (nodeOf (b .z)) (b .w) (pos 0) ws in then-none r (r .found) refl
 
 -- a bound between two of the first k nodes, of a weight below the mark
 pub record Named (k : ℕ) (b : Between) : Type 0 where

@@ -66,11 +66,11 @@ putAt-length early late y z v a ws =
 
 -- ---- what follows
 
-thenFlat-found : (r : Bool) (us : List ℤ) (f : List ℤ → Flat) → r ≡ true → thenFlat (flat r us) f ≡ flat true us
+pub thenFlat-found : (r : Bool) (us : List ℤ) (f : List ℤ → Flat) → r ≡ true → thenFlat (flat r us) f ≡ flat true us
 thenFlat-found true us f e = refl
 thenFlat-found false us f e = absurd (let z : _≡_ {A = ℕ} 0 1 = cc in omega arith)
 
-thenFlat-next : (r : Bool) (us : List ℤ) (f : List ℤ → Flat) → r ≡ false → thenFlat (flat r us) f ≡ f us
+pub thenFlat-next : (r : Bool) (us : List ℤ) (f : List ℤ → Flat) → r ≡ false → thenFlat (flat r us) f ≡ f us
 thenFlat-next true us f e = absurd (let z : _≡_ {A = ℕ} 0 1 = cc in omega arith)
 thenFlat-next false us f e = refl
 

@@ -12,3 +12,5 @@ pub mod SameLaws
 pub mod BitsLaws
 pub mod LeftLaws
 pub mod CalendarTextLaws
+pub mod Put
+pub mod PutLaws

@@ -1,5 +1,7 @@
 // Rounds, the verdict on a plan, its calendar, and the calendar's text.
 
+mod own;
+
 use clock::WindowTime;
 
 // The verdict on a plan: settled in a round, no strategy for so many windows, or neither in so many rounds.

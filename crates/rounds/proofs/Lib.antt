@@ -1,0 +1,2 @@
+-- Laws that several proofs of this crate rest on.
+pub mod Times

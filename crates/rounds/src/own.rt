@@ -1,0 +1,64 @@
+// 'A window's own bounds', put into a table.
+use bounds::Table;
+use bounds::put;
+ghost use mathlib.Core.Path.{_≡_};
+ghost use Prim.Native.Nat.{ℕ, _+_, _*_, _≤_, _<_};
+ghost use Rattle.bounds.specs.declared.Event.the-variants.{Start, Finish};
+ghost use Rattle.bounds.specs.Events.{startNode, eventOf};
+ghost use Rattle.bounds.specs.Flat.{AllTimed, flat, putBounds};
+ghost use Rattle.rounds.specs.Put.{rangeOf, rangeOfPlace, rangesOf};
+
+// 'each event lies between earliest and latest': the event of node y. Answers whether there is a contradiction.
+fn put_range<'a>(
+    weights: &mut [i32; Table::SIZE],
+    early: &'a [i32; Table::SIDE],
+    late: &'a [i32; Table::SIDE],
+    y: usize,
+) -> bool
+    requires { ⌜ (AllTimed (now early) (now late)) × (y < 37) ⌝ }
+    ensures { λ r. ⌜ flat r (now (weights .exit)) ≡ putBounds (now (early .entry)) (now (late .entry)) (rangeOf (now (early .entry)) (now (late .entry)) (eventOf y)) (now (weights .entry)) ⌝ }
+{
+    let latest = late[y];
+    if put(weights, early, late, 0, y, latest, 0) {
+        return true;
+    }
+    let earliest = early[y];
+    let back = 0 - earliest;
+    put(weights, early, late, y, 0, back, 0)
+}
+
+// The start and the finish of place k.
+fn put_place<'a>(
+    weights: &mut [i32; Table::SIZE],
+    early: &'a [i32; Table::SIDE],
+    late: &'a [i32; Table::SIDE],
+    k: usize,
+) -> bool
+    requires { ⌜ (AllTimed (now early) (now late)) × (2 + 2 * k < 37) ⌝ }
+    ensures { λ r. ⌜ flat r (now (weights .exit)) ≡ putBounds (now (early .entry)) (now (late .entry)) (rangeOfPlace (now (early .entry)) (now (late .entry)) k) (now (weights .entry)) ⌝ }
+{
+    if put_range(weights, early, late, 1 + 2 * k) {
+        return true;
+    }
+    put_range(weights, early, late, 2 + 2 * k)
+}
+
+// The events of the first count places, last place first.
+fn put_ranges<'a>(
+    weights: &mut [i32; Table::SIZE],
+    early: &'a [i32; Table::SIDE],
+    late: &'a [i32; Table::SIDE],
+    count: usize,
+) -> bool
+    requires { ⌜ (AllTimed (now early) (now late)) × (2 * count < 37) ⌝ }
+    ensures { λ r. ⌜ flat r (now (weights .exit)) ≡ putBounds (now (early .entry)) (now (late .entry)) (rangesOf (now (early .entry)) (now (late .entry)) count) (now (weights .entry)) ⌝ }
+{
+    let mut left = count;
+    while 0 < left {
+        left -= 1;
+        if put_place(weights, early, late, left) {
+            return true;
+        }
+    }
+    false
+}
