@@ -34,9 +34,10 @@ ghost use Rattle.runs.specs.declared.Phase.the-variants.{Running};
 pub fn refused_with(run: Run, x: Refusal) -> Answered
     ensures { λ r. ⌜ r ≡ steps.refusedWith run x ⌝ }
 {
+    let kept = run;
     Answered {
         answer: Answer::Refused(x),
-        run: run,
+        run: kept,
     }
 }
 
