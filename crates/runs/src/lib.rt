@@ -6,9 +6,18 @@ mod offers;
 mod steps;
 
 use clock::RunTime;
+pub use limits::is_calendar;
+pub use limits::is_run;
+pub use limits::is_step;
+pub use limits::is_time;
+pub use limits::jobs_done;
 use plan::MOST_JOBS;
 use plan::Refusal;
 use rounds::Terms;
+pub use steps::new_run;
+pub use steps::refused_with;
+pub use steps::step_due;
+pub use steps::step_inside;
 
 // The places of a calendar's c on one side: a row of rounds::MOST_EVENTS for each job.
 const MOST_TERMS: usize = 324;

@@ -128,6 +128,20 @@ fn no_probes() -> [Probe; MOST_JOBS]
     [q; MOST_JOBS]
 }
 
+// A run at its beginning.
+pub fn new_run() -> Run
+    ensures { λ r. ⌜ r ≡ steps.newRun ⌝ }
+{
+    let phase = Phase::Waiting { window: 1, job: 1 };
+    let none = no_probes();
+    Run {
+        phase: phase,
+        has_previous: false,
+        previous: none,
+        present: none,
+    }
+}
+
 // A finish is recorded, and the run moves on: to the window's next job, or to the next window.
 fn closed(d: Due, run: Run, j: u64, i: usize, q: Probe) -> Run
     requires { ⌜ j ≤ 1000000000 ⌝ }
