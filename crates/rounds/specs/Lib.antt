@@ -7,6 +7,7 @@ pub mod TextVerdict
 pub mod Bits
 pub mod Calendars
 pub mod CalendarText
+pub mod Recorded
 -- ---- laws
 pub mod SameLaws
 pub mod BitsLaws
@@ -14,3 +15,4 @@ pub mod LeftLaws
 pub mod CalendarTextLaws
 pub mod Put
 pub mod PutLaws
+pub mod RecordedLaws

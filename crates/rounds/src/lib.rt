@@ -37,7 +37,14 @@ pub struct Calendar {
     pub at_most: [i32; MOST_TERMS],
 }
 
+// The two sides of a start: the events that bound it from below, and those that bound it from above.
+enum Side {
+    Below,
+    Above,
+}
+
 mod bits;
 mod print;
+mod recorded;
 
 pub use print::put_calendar;
