@@ -8,11 +8,11 @@ pub mod Bits
 pub mod Calendars
 pub mod CalendarText
 pub mod Recorded
+pub mod Put
 -- ---- laws
 pub mod SameLaws
 pub mod BitsLaws
 pub mod LeftLaws
 pub mod CalendarTextLaws
-pub mod Put
 pub mod PutLaws
 pub mod RecordedLaws
