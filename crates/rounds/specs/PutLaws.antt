@@ -14,7 +14,7 @@ use Rattle.bounds.specs.Tables.{Between}
 use Rattle.bounds.specs.Spans.{timeAt, Times}
 use Rattle.bounds.specs.Flat.{putAt, putBounds}
 use Rattle.bounds.specs.BoundsLaws.{putBounds-one}
-use Rattle.rounds.specs.Given.{upTo, downTo, ranges}
+use Rattle.rounds.specs.Given.{upTo, downTo, inOrder, ranges, orders}
 use Rattle.rounds.specs.Put.{rangeOf, rangeOfPlace, rangesOf}
 
 -- ---- the two bounds of the event of a node
@@ -43,6 +43,20 @@ rangesOf-more early late left h = let more : left ≡ suc (left - 1) = omega ari
 pub rangesOf-end : (early late : List ℤ) (left : ℕ) → left ≡ 0 → rangesOf early late left ≡ []
 unfolding rangesOf
 rangesOf-end early late left e = ap (rangesOf early late) e
+
+pub orders-more : (left : ℕ) → 0 < left → orders left ≡ (inOrder (left - 1) ∷ []) ++ orders (left - 1)
+unfolding orders
+orders-more left h = let more : left ≡ suc (left - 1) = omega arith in ap orders more
+
+pub orders-end : (left : ℕ) → left ≡ 0 → orders left ≡ []
+unfolding orders
+orders-end left e = ap orders e
+
+pub order-is : (early late : List ℤ) (k : ℕ) (ws : List ℤ) → putAt early late (3 + 2 * k) (2 + 2 * k) (pos 0) (pos 0) ws ≡ putBounds early late (inOrder k ∷ []) ws
+unfolding nodeOf
+order-is early late k ws =
+    let next : 3 + 2 * k ≡ 1 + 2 * suc k = omega arith in
+    ap (λ n. putAt early late n (2 + 2 * k) (pos 0) (pos 0) ws) next ∙ putBounds-one early late (inOrder k) ws
 
 -- ---- with a plan's times they are the plan's bounds
 

@@ -6,6 +6,8 @@ ghost use Prim.Native.Nat.{ℕ, _+_, _*_, _≤_, _<_};
 ghost use Rattle.bounds.specs.declared.Event.the-variants.{Start, Finish};
 ghost use Rattle.bounds.specs.Events.{startNode, eventOf};
 ghost use Rattle.bounds.specs.Flat.{AllTimed, flat, putBounds};
+ghost use mathlib.Core.List.{[], _∷_};
+ghost use Rattle.rounds.specs.Given.{inOrder, orders};
 ghost use Rattle.rounds.specs.Put.{rangeOf, rangeOfPlace, rangesOf};
 
 // 'each event lies between earliest and latest': the event of node y. Answers whether there is a contradiction.
@@ -57,6 +59,39 @@ fn put_ranges<'a>(
     while 0 < left {
         left -= 1;
         if put_place(weights, early, late, left) {
+            return true;
+        }
+    }
+    false
+}
+
+// The finish at place k is at most the start at the next place.
+pub fn put_order<'a>(
+    weights: &mut [i32; Table::SIZE],
+    early: &'a [i32; Table::SIDE],
+    late: &'a [i32; Table::SIDE],
+    k: usize,
+) -> bool
+    requires { ⌜ (AllTimed (now early) (now late)) × (3 + 2 * k < 37) ⌝ }
+    ensures { λ r. ⌜ flat r (now (weights .exit)) ≡ putBounds (now (early .entry)) (now (late .entry)) (inOrder k ∷ []) (now (weights .entry)) ⌝ }
+{
+    put(weights, early, late, 3 + 2 * k, 2 + 2 * k, 0, 0)
+}
+
+// 'the finish of job i is at most the start of job i+1', of the first count places and those that follow them, last place first.
+fn put_orders<'a>(
+    weights: &mut [i32; Table::SIZE],
+    early: &'a [i32; Table::SIDE],
+    late: &'a [i32; Table::SIDE],
+    count: usize,
+) -> bool
+    requires { ⌜ (AllTimed (now early) (now late)) × (2 + 2 * count < 37) ⌝ }
+    ensures { λ r. ⌜ flat r (now (weights .exit)) ≡ putBounds (now (early .entry)) (now (late .entry)) (orders count) (now (weights .entry)) ⌝ }
+{
+    let mut left = count;
+    while 0 < left {
+        left -= 1;
+        if put_order(weights, early, late, left) {
             return true;
         }
     }

@@ -1,0 +1,88 @@
+-- `rounds::own::put_orders` meets its contract. The loop's invariant: the places that are left give the whole answer.
+use Prim.Native.Nat.{ℕ, _+_, _-_, _≤_, _<_}
+use mathlib.Core.Path.{_≡_, refl, sym, _∙_, ap}
+use mathlib.Core.List.{[], _∷_}
+use native.Mathlib.Omega.{arith}
+use Rattle.bounds.specs.Flat.{flat, putBounds}
+use Rattle.bounds.specs.BoundsLaws.{putBounds-stop, putBounds-past, putBounds-none}
+use Rattle.rounds.specs.Given.{inOrder, orders}
+use Rattle.rounds.specs.PutLaws.{orders-more, orders-end}
+use Rattle.rounds.proofs.own.put_orders.Statement.{statement}
+use Rattle.rounds.proofs.own.put_orders.Tie as tie
+
+abbrev Inv-loop : tie.InvT-loop
+Inv-loop weights₀ early late count left₀ weights left =
+    (left ≤ count) × (putBounds early late (orders count) weights₀ ≡ putBounds early late (orders left) weights)
+
+abbrev μ-loop : tie.MeasureT-loop
+μ-loop weights₀ early late count left₀ weights left = left
+
+loop-holds : tie.Need-loop-holds Inv-loop μ-loop
+loop-holds c = (omega arith, refl)
+
+sub-left : tie.Need-sub-left Inv-loop μ-loop
+sub-left c = omega arith
+
+put-order-requires : tie.Need-put-order-requires Inv-loop μ-loop
+put-order-requires c κs =
+    let s = c .before .before .before in
+    let l = c .before .before .loop in
+    let most = l .inv .0 in
+    let low = s .pre .1 in
+    (s .pre .0, omega arith)
+
+returns : tie.Need-returns Inv-loop μ-loop
+returns c =
+    let a = c .before .before .before .before .before .args in
+    let l = c .before .before .before .before .loop in
+    let r = c .before .put-order in
+    putBounds-stop (a .early .now) (a .late .now) (inOrder (l .left - 1) ∷ []) (orders (l .left - 1))
+    (l .weights)
+    (r .result)
+    (r .last .0)
+    (r .ensures)
+    (c .if1 .taken)
+    ∙ sym (l .inv .1 ∙ ap (λ bs. putBounds (a .early .now) (a .late .now) bs (l .weights)) (orders-more (l .left) (omega arith)))
+
+loop-less : tie.Need-loop-less Inv-loop μ-loop
+loop-less c = omega arith
+
+loop-again : tie.Need-loop-again Inv-loop μ-loop
+loop-again c =
+    let a = c .before .before .before .before .before .args in
+    let l = c .before .before .before .before .loop in
+    let r = c .before .put-order in (
+      let most = l .inv .0 in omega arith,
+      l .inv .1
+          ∙ ap (λ bs. putBounds (a .early .now) (a .late .now) bs (l .weights)) (orders-more (l .left) (omega arith))
+          ∙ sym
+          (putBounds-past (a .early .now) (a .late .now) (inOrder (l .left - 1) ∷ []) (orders (l .left - 1))
+          (l .weights)
+          (r .result)
+          (r .last .0)
+          (r .ensures)
+          (c .if1 .left)),
+    )
+
+returns-2 : tie.Need-returns-2 Inv-loop μ-loop
+returns-2 c =
+    let a = c .before .before .args in
+    let l = c .before .loop in
+    sym
+    (l .inv .1
+    ∙ ap (λ bs. putBounds (a .early .now) (a .late .now) bs (l .weights)) (orders-end (l .left) (omega arith))
+    ∙ putBounds-none (a .early .now) (a .late .now) (l .weights))
+
+pub put-orders-spec : {M : Type 1} → statement M
+put-orders-spec =
+    tie.close
+    (tie.spec
+    Inv-loop
+    μ-loop
+    loop-holds
+    sub-left
+    put-order-requires
+    returns
+    loop-less
+    loop-again
+    returns-2)
