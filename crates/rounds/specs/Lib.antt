@@ -16,3 +16,4 @@ pub mod LeftLaws
 pub mod CalendarTextLaws
 pub mod PutLaws
 pub mod RecordedLaws
+pub mod GivenLaws

@@ -1,5 +1,6 @@
 // Rounds, the verdict on a plan, its calendar, and the calendar's text.
 
+mod given;
 mod own;
 
 use clock::WindowTime;
