@@ -1,4 +1,5 @@
--- A step that reads of its plan and its calendar only what they say of the job that is due comes to the same answer.
+-- A step that reads of its plan and its calendar only what they say of the job that is due comes to the same answer (`stepped-due`). Before it: the offer from
+-- what is due (`offerOf-due`), and what there is for an ask or a start, case by case of the phase.
 use Prim.Native.Nat.{ℕ, zero, suc, _*_, _-_, _≤_, _<_}
 use mathlib.Core.Path.{_≡_, refl, sym, ap, ap₂, _∙_}
 use mathlib.Core.Bool.{true, false, cond}

@@ -2,6 +2,7 @@
 use Prim.Native.Nat.{ℕ, _+_, _-_, _≤_, _<_}
 use mathlib.Core.Path.{_≡_, refl, sym, ap, ap₂, _∙_}
 use mathlib.Core.Bool.{Bool, true, false, _&&_}
+use mathlib.Core.Option.{none, some}
 use native.Mathlib.Omega.{arith}
 use lib.IntN.{ℤ, _+ℤ_}
 use lib.ListN.{getD, set, replicate, getD-replicate}
@@ -13,9 +14,11 @@ use Rattle.clock.specs.declared.RunTime.{RunTime}
 use Rattle.clock.specs.Spans.{Near}
 use Rattle.clock.specs.Clock.{isBetween, movedBy}
 use Rattle.plan.specs.declared.Plan.{Plan}
+use Rattle.plan.specs.declared.Refusal.{Refusal}
 use Rattle.plan.specs.declared.Refusal.the-variants as refusal
 use Rattle.plan.specs.Refusals.{outsideLimits}
 use Rattle.plan.specs.Limits.{mostJobs}
+use Rattle.plan.specs.PlanWritten.{judgedPlan}
 use Rattle.plan.specs.PlanRead.{noJob}
 use Rattle.rounds.specs.declared.Calendar.{Calendar}
 use Rattle.runs.specs.declared.Answer.the-variants.{Final}
@@ -36,6 +39,7 @@ use Rattle.runs.specs.Steps.{
   closed,
   finished,
   stepped,
+  step,
   isStep,
   valuesRefused,
   unlessRefused,
@@ -123,3 +127,13 @@ module _ (p : Plan) (c : Calendar) (r : Run) (st : Step) where
   pub stepAccepted-inside : isRun p r ≡ true → isCalendar p c ≡ true → isStep st ≡ true → stepped p c r st ≡ stepAccepted p c r st
   unfolding valuesRefused unlessRefused
   stepAccepted-inside h k l = rw (and-true _ _ (and-true _ _ h k) l)
+
+  -- ---- a step on values: the plan is judged first
+
+  pub step-refused : (x : Refusal) → judgedPlan p ≡ some x → refusedWith r x ≡ step p c r st
+  unfolding step valuesRefused unlessRefused
+  step-refused x e = rw (e)
+
+  pub step-accepted : judgedPlan p ≡ none → stepAccepted p c r st ≡ step p c r st
+  unfolding step
+  step-accepted e = rw (e)
