@@ -17,3 +17,4 @@ pub mod CalendarTextLaws
 pub mod PutLaws
 pub mod RecordedLaws
 pub mod GivenLaws
+pub mod CalendarsLaws

@@ -24,7 +24,7 @@ use Rattle.clock.specs.declared.WindowTime.{WindowTime}
 use Rattle.plan.specs.declared.Plan.{Plan}
 use Rattle.plan.specs.Accepted.{Accepted}
 use Rattle.bounds.specs.Events.{startNode}
-use Rattle.bounds.specs.Tables.{Cell, off, upto, Rows, at, listed}
+use Rattle.bounds.specs.Tables.{Cell, upto, Rows, at, listed}
 use Rattle.bounds.specs.Flat.{noBound, weightAt, cellOf, cellAt, rowsOf, Weighed}
 use Rattle.bounds.specs.Fit.{Fit, AtMost}
 use Rattle.bounds.specs.BuildLaws.{length-listed, at-build}

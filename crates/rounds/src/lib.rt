@@ -45,7 +45,10 @@ enum Side {
 }
 
 mod bits;
+mod calendars;
 mod print;
 mod recorded;
 
+pub use calendars::calendar_of;
+pub use calendars::empty_calendar;
 pub use print::put_calendar;

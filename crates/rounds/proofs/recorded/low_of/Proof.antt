@@ -1,5 +1,4 @@
 -- `low_of` meets its contract: two numbers of 32 bits do not wrap in 64.
-use mir.Syntax.{w32, w64}
 use Rattle.whole.specs.Rules.{wholes}
 use Rattle.whole.specs.SplitLaws.{cast-wide, split-neg}
 use Rattle.whole.specs.Order.{fits-least, fits-below}

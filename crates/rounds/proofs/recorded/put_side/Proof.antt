@@ -1,5 +1,5 @@
 -- `put_side` meets its contract. The invariant: the events before e are recorded, bits and c. One law a turn: `eventsOn-more`, `csOn-more`.
-use Prim.Native.Nat.{ℕ, suc, _+_, _-_, _≤_, _<_}
+use Prim.Native.Nat.{ℕ, suc, _+_, _-_, _≤_}
 use mathlib.Core.Path.{_≡_, refl, sym, ap, subst, _∙_}
 use native.Mathlib.Numerals.{add-one}
 use native.Mathlib.Omega.{arith}
