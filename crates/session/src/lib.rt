@@ -19,7 +19,15 @@ enum StepAt {
     Bad(Refusal),
 }
 
+// What writing into a lent slice comes to: the length written; or the refusal, which is 12.
+pub enum Written {
+    Length(usize),
+    Refused(Refusal),
+}
+
+mod answer;
 mod print;
 mod read;
+mod steps;
 
 pub use read::read_step;

@@ -1,0 +1,75 @@
+-- `write_session`: what surely has room is written (`stored-whole`), all else by its measure (`measured-none`, `measured-whole`).
+use mathlib.Core.Path.{refl}
+use native.Mathlib.Omega.{arith}
+use Rattle.session.specs.WrittenLaws.{stored-whole, measured-none, measured-whole}
+use borrow.Author.Needs.{needs}
+use Rattle.session.proofs.answer.write_session.Statement.{statement}
+use Rattle.session.proofs.answer.write_session.Tie as tie
+
+sub-steps : tie.Need-sub-steps
+sub-steps c = search needs
+
+mul-most : tie.Need-mul-most
+mul-most c = search needs
+
+add-most : tie.Need-add-most
+add-most c = search needs
+
+put-session-requires : tie.Need-put-session-requires
+put-session-requires c κs = search needs
+
+same-length : tie.Need-same-length
+same-length c = search needs
+
+returns : tie.Need-returns
+returns c =
+    let w = c .before .before .put-session .ensures in
+    let d = stored-whole (w .0) (omega (arith, w .1, c .before .before .before .before .if1 .taken)) in
+    (d .answer, d .bytes)
+
+slice-relend-prefix-put-session : tie.Need-slice-relend-prefix-put-session
+slice-relend-prefix-put-session c = search needs
+
+slice-aggregate-put-session : tie.Need-slice-aggregate-put-session
+slice-aggregate-put-session c = search needs
+
+put-session-requires-2 : tie.Need-put-session-requires-2
+put-session-requires-2 c κs = search needs
+
+same-length-2 : tie.Need-same-length-2
+same-length-2 c = search needs
+
+returns-2 : tie.Need-returns-2
+returns-2 c =
+    let d = measured-none (c .before .before .before .put-session2 .ensures .0) refl (c .if2 .taken) in
+    (d .answer, d .bytes)
+
+put-session-requires-3 : tie.Need-put-session-requires-3
+put-session-requires-3 c κs = search needs
+
+same-length-3 : tie.Need-same-length-3
+same-length-3 c = search needs
+
+returns-3 : tie.Need-returns-3
+returns-3 c =
+    let d = measured-whole (c .before .before .before .before .before .before .before .put-session2 .ensures .0) refl (c .before .before .before .before .if2 .left) (c .before .before .put-session3 .ensures .0) in
+    (d .answer, d .bytes)
+
+pub write-session-spec : {M : Type 1} → statement M
+write-session-spec =
+    tie.close
+    (tie.spec
+    sub-steps
+    mul-most
+    add-most
+    put-session-requires
+    same-length
+    returns
+    slice-relend-prefix-put-session
+    slice-aggregate-put-session
+    put-session-requires-2
+    same-length-2
+    returns-2
+    put-session-requires-3
+    same-length-3
+    returns-3)

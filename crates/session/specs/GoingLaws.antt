@@ -1,0 +1,102 @@
+-- The loop over the steps of a session: where it stands (`Going`), and one law for each way on. It begins (`going-start`); it ends where nothing is left
+-- (`going-end`), at a line that is no step (`going-refused`) and at a step's answer that ends the session (`going-last`); else it goes on (`going-more`).
+
+use Prim.Native.Nat.{ℕ, _+_, _*_, _≤_, _<_}
+use mathlib.Core.Path.{_≡_, refl, sym, ap, subst, _∙_}
+use mathlib.Core.Bool.{Bool, true, false}
+use mathlib.Core.List.{List, [], _++_}
+use native.Mathlib.Nat.{add-zero}
+use native.Mathlib.Omega.{arith}
+use lib.ListN.{length, drop, length-drop}
+use Rattle.text.specs.Lent.{Stored, put}
+use Rattle.text.specs.LentLaws.{stored-append, put-nil, put-length}
+use Rattle.plan.specs.declared.Plan.{Plan}
+use Rattle.plan.specs.declared.Refusal.{Refusal}
+use Rattle.plan.specs.Refusals.{refusedLine}
+use Rattle.plan.specs.Reading.{Reading, read, refused}
+use Rattle.rounds.specs.declared.Calendar.{Calendar}
+use Rattle.runs.specs.declared.Step.{Step}
+use Rattle.runs.specs.declared.Run.{Run}
+use Rattle.runs.specs.declared.Answered.{Answered}
+use Rattle.runs.specs.Steps.{stepped, isStep}
+use Rattle.runs.specs.Inside.{Inside}
+use Rattle.runs.specs.KeepsLaws.{stepped-keeps}
+use Rattle.session.specs.declared.StepAt.{StepAt}
+use Rattle.session.specs.declared.StepAt.the-variants as stepAt
+use Rattle.session.specs.StepRead.{stepLine}
+use Rattle.session.specs.StepAt.{StepEnds}
+use Rattle.session.specs.AnswerText.{answerLine, endsSession}
+use Rattle.session.specs.Sessions.{answers}
+use Rattle.session.specs.SessionLaws.{answers-end, answers-refused, answers-last, answers-more}
+
+-- what the loop comes to: all answers, written, and a bound of their length from that of the text
+pub record Done (text out₀ : List ℕ) (from at : ℕ) (whole : List ℕ) (out : List ℕ) (end : ℕ) : Type 0 where
+  pub stored : Stored out₀ at whole out end
+  pub short : 8 * end + 71 * from ≤ 8 * at + 71 * length text + 568
+
+-- where it stands: whatever writes the answers that are left has written all of them
+pub record Going (p : Plan) (c : Calendar) (text out₀ : List ℕ) (from line at : ℕ) (run₀ : Run) (out : List ℕ) (run : Run) (place number end : ℕ) : Type 0 where
+  pub left : (o : List ℕ) (e : ℕ) → Stored out end (answers p c run (drop place text) number) o e
+      → Stored out₀ at (answers p c run₀ (drop from text) line) o e
+  pub same : length out ≡ length out₀
+  pub inside : Inside p c run
+  pub placed : place ≤ length text
+  pub numbered : number + from ≤ line + place
+  pub near : 8 * end + 71 * from ≤ 8 * at + 71 * place
+
+nothing-stored : (out : List ℕ) (end : ℕ) → Stored out end [] out end
+nothing-stored out end = record { place = sym (add-zero end); slice = sym (put-nil out end) }
+
+module _ (p : Plan) (c : Calendar) (text out₀ : List ℕ) (from line at : ℕ) (run₀ : Run) where
+  abbrev Whole : List ℕ
+  Whole = answers p c run₀ (drop from text) line
+
+  pub going-start : from ≤ length text → Inside p c run₀ → Going p c text out₀ from line at run₀ out₀ run₀ from line at
+  going-start h i =
+      record { left = λ o e s. s; same = refl; inside = i; placed = h; numbered = omega arith; near = omega arith }
+
+  module _ (out : List ℕ) (run : Run) (place number end : ℕ) (g : Going p c text out₀ from line at run₀ out run place number end) where
+    pub going-end : length text ≤ place → Done text out₀ from at Whole out end
+    going-end h =
+        record {
+          stored = g .left out end (rw (answers-end p c run text place number h) (nothing-stored out end));
+          short = omega arith;
+        }
+
+    module _ (h : place < length text) (o : List ℕ) (e : ℕ) (short : e ≤ end + 71) where
+      some : 0 < length (drop place text)
+      some = omega (arith, length-drop place text)
+
+      pub going-refused : (x : Refusal) {part : List ℕ} → stepLine (drop place text) number ≡ refused x part → Stored out end (refusedLine x) o e → Done text out₀ from at Whole o e
+      going-refused x {part} d s =
+          record {
+            stored = g .left o e (rw (answers-refused p c run (drop place text) number some x part d) s);
+            short = omega arith;
+          }
+
+      module _ (st : Step) (next : ℕ) (a : Answered) (d : stepLine (drop place text) number ≡ read st (drop next text) (number + 1)) (q : a ≡ stepped p c run st) (s : Stored out end (answerLine (a .answer)) o e) where
+        pub going-last : endsSession (a .answer) ≡ true → Done text out₀ from at Whole o e
+        going-last y =
+            record {
+              stored = g .left o e (rw (answers-last p c run (drop place text) number some st (drop next text) (number + 1) a d q y) s);
+              short = omega arith;
+            }
+
+        pub going-more : endsSession (a .answer) ≡ false → {r : StepAt} → r ≡ stepAt.Value st next → StepEnds place (length text) r
+            → Going p c text out₀ from line at run₀ o (a .run) next (number + 1) e
+        going-more y {r} v w =
+            let more = answers-more p c run (drop place text) number some st (drop next text) (number + 1) a d q y in
+            let i = g .inside in
+            record {
+              left = λ o′ e′ s′. g .left o′ e′ (rw more (stored-append s s′));
+              same = ap length (s .slice) ∙ put-length out end (answerLine (a .answer)) ∙ g .same;
+              inside =
+                  record {
+                    plan = i .plan;
+                    calendar = i .calendar;
+                    run = rw q (stepped-keeps p c run (i .run) st (w .timed st next v));
+                  };
+              placed = w .most st next v;
+              numbered = omega (arith, w .least st next v);
+              near = omega (arith, w .least st next v);
+            }

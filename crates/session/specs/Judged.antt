@@ -1,0 +1,18 @@
+-- A plan that was judged: its verdict and, where it is settled, its calendar.
+use mathlib.Core.Path.{_≡_}
+use mathlib.Core.Bool.{true}
+use Prim.Native.Nat.{ℕ}
+use Rattle.plan.specs.declared.Plan.{Plan}
+use Rattle.plan.specs.Accepted.{Accepted}
+use Rattle.bounds.specs.Tables.{Rows}
+use Rattle.rounds.specs.declared.Verdict.{Verdict}
+use Rattle.rounds.specs.declared.Calendar.{Calendar}
+use Rattle.rounds.specs.Rounds.{settled, outcome, verdict}
+use Rattle.rounds.specs.Calendars.{calendar}
+use Rattle.runs.specs.ValueLimits.{isCalendar}
+
+pub record Judged (p : Plan) (v : Verdict) (c : Calendar) : Type 0 where
+  pub accepted : Accepted p
+  pub verdict : v ≡ verdict p
+  pub calendar : (m : ℕ) (t : Rows) → outcome p ≡ settled m t → c ≡ calendar p t
+  pub inside : (m : ℕ) (t : Rows) → outcome p ≡ settled m t → isCalendar p c ≡ true

@@ -1,0 +1,20 @@
+-- No two answers meet the promise of a public operation: each promise is an equation, and `only` of the crate `text` says the rest.
+use mathlib.Core.Path.{_≡_}
+use mathlib.Core.List.{List}
+use Prim.Native.Nat.{ℕ}
+use Rattle.text.specs.Unique.{only}
+use Rattle.text.specs.Lent.{written}
+use Rattle.session.specs.declared.StepLine.{StepLine}
+use Rattle.session.specs.declared.Written.{Written}
+use Rattle.session.specs.StepRead.{stepIn}
+use Rattle.session.specs.Sessions.{dispatchOutput}
+use Rattle.session.specs.Written.{sessionAnswer}
+
+pub read-step-unique : (l : List ℕ) {r q : StepLine} → r ≡ stepIn l → q ≡ stepIn l → r ≡ q
+read-step-unique l = only
+
+pub answer-unique : (s out : List ℕ) {r q : Written} → r ≡ sessionAnswer s out → q ≡ sessionAnswer s out → r ≡ q
+answer-unique s out = only
+
+pub answer-bytes-unique : (s out : List ℕ) {o p : List ℕ} → o ≡ written (dispatchOutput s) out → p ≡ written (dispatchOutput s) out → o ≡ p
+answer-bytes-unique s out = only

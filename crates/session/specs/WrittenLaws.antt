@@ -1,0 +1,68 @@
+-- The laws of a whole text in a lent slice: one that has room is written, with its length as the answer (`stored-whole`); one that has none is refused by 12 and
+-- leaves every byte (`stored-none`). A text that was measured first, on a part without places, which leaves every byte too, is refused or written by its
+-- measure (`measured-none`, `measured-whole`). A text is stored, and written, as any text that equals it
+-- (`stored-as`, `wrote-as`).
+
+use Prim.Native.Nat.{ℕ, _+_, _≤_, _<_}
+use mathlib.Core.Path.{_≡_, refl, sym, ap, subst, _∙_}
+use mathlib.Core.Bool.{Bool, true, false, cond}
+use mathlib.Core.List.{List, [], _∷_, _++_}
+use native.Mathlib.Omega.{arith}
+use lib.ListN.{length}
+use borrow.Author.Tests.{le-leb, lt-leb}
+use Rattle.text.specs.Lent.{written, put, Stored}
+use Rattle.text.specs.LentLaws.{put-length, put-written}
+use Rattle.plan.specs.declared.Refusal.the-variants as refusal
+use Rattle.session.specs.declared.Written.{Written}
+use Rattle.session.specs.declared.Written.the-variants.{Length, Refused}
+use Rattle.session.specs.Written.{writtenAs}
+
+-- what a writer of a whole text answers and leaves
+pub record WroteAll (t out : List ℕ) (r : Written) (out′ : List ℕ) : Type 0 where
+  pub answer : r ≡ writtenAs t out
+  pub bytes : out′ ≡ written t out
+
+pub stored-as : {out t u out′ : List ℕ} {at n : ℕ} → t ≡ u → Stored out at t out′ n → Stored out at u out′ n
+stored-as {out} {out′ = out′} {at = at} {n = n} e p = subst (λ (s : List ℕ). Stored out at s out′ n) e p
+
+stored-length : {t out out′ : List ℕ} {n : ℕ} → Stored out 0 t out′ n → n ≡ length t
+stored-length {t} p = omega (arith, p .place)
+
+pub stored-whole : {t out out′ : List ℕ} {n : ℕ} → Stored out 0 t out′ n → n ≤ length out → WroteAll t out (Length n) out′
+unfolding writtenAs
+stored-whole {t} {out} {out′} {n} p h =
+    let e = stored-length p in
+    let room : length t ≤ length out = omega arith in
+    record {
+      answer = ap Length e ∙ sym (ap (λ (b : Bool). cond b (Length (length t)) (Refused refusal.NoRoom)) (le-leb (length t) (length out) room));
+      bytes = p .slice ∙ put-written out t room;
+    }
+
+pub stored-none : {t out o o′ : List ℕ} {n : ℕ} → Stored o 0 t o′ n → length out < n → WroteAll t out (Refused refusal.NoRoom) out
+unfolding writtenAs written
+stored-none {t} {out} p h =
+    let e = stored-length p in
+    let none : length out < length t = omega arith in
+    record { answer = rw (lt-leb (length t) (length out) none); bytes = rw (lt-leb (length t) (length out) none) }
+
+module _ {t out o o′ : List ℕ} {n : ℕ} (p : Stored o 0 t o′ n) (h : length o ≡ 0) where
+  part-keeps : o′ ++ out ≡ out
+  part-keeps = of o′ (ap length (p .slice) ∙ put-length o 0 t ∙ h)
+    where
+      of : (s : List ℕ) → length s ≡ 0 → s ++ out ≡ out
+      of [] e = refl
+      of (b ∷ s) e = absurd (omega arith)
+
+  pub measured-none : length (o′ ++ out) < n → WroteAll t out (Refused refusal.NoRoom) (o′ ++ out)
+  measured-none g = rw part-keeps (stored-none p (rw part-keeps at g))
+
+  pub measured-whole : {out′ : List ℕ} {m : ℕ} → n ≤ length (o′ ++ out) → Stored (o′ ++ out) 0 t out′ m → WroteAll t out (Length m) out′
+  measured-whole {out′} {m} g q =
+      let r : Stored out 0 t out′ m = rw part-keeps at q in
+      let l : n ≤ length out = rw part-keeps at g in
+      stored-whole r (omega (arith, stored-length p, stored-length r))
+
+-- what was written as one text was written as any text that equals it
+pub wrote-as : (out : List ℕ) {t u o : List ℕ} {r : Written} → t ≡ u → (r ≡ writtenAs t out) × (o ≡ written t out) → (r ≡ writtenAs u out) × (o ≡ written u out)
+wrote-as out e w =
+    (w .0 ∙ ap (λ (s : List ℕ). writtenAs s out) e, w .1 ∙ ap (λ (s : List ℕ). written s out) e)

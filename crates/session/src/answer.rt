@@ -1,0 +1,110 @@
+// A session's answer, written into a lent slice or refused by 12.
+use crate::Written;
+use crate::print::put_refused;
+use crate::steps::put_answers;
+use plan::Plan;
+use plan::PlanRead;
+use plan::Refusal;
+use rounds::Calendar;
+use rounds::Verdict;
+ghost use mathlib.Core.Path.{_≡_};
+ghost use Prim.Native.Nat.{_+_, _*_, _-_, _≤_};
+ghost use lib.ListN.{length, drop};
+ghost use Rattle.text.specs.Lent.{Stored, written};
+ghost use Rattle.plan.specs.Refusals.{refusedLine};
+ghost use Rattle.rounds.specs.Rounds.{outcome};
+ghost use Rattle.plan.specs.declared.PlanAnswer.the-variants as planAnswer;
+ghost use Rattle.plan.specs.PlanRead.{planHead};
+ghost use Rattle.plan.specs.PlanAnswers.{planRead};
+ghost use Rattle.session.specs.Sessions.{judgedSession, dispatchOutput};
+ghost use Rattle.session.specs.Written.{writtenAs, sessionAnswer};
+ghost use Rattle.session.specs.Judged.{Judged};
+
+// The answers of a session whose plan was judged: the steps', from a place of the text on, or the plan's one line.
+fn put_session(
+    text: &[u8],
+    from: usize,
+    line: usize,
+    p: Plan,
+    v: Verdict,
+    c: Calendar,
+    out: &mut [u8],
+) -> usize
+    requires { ⌜ from ≤ length (now text) ⌝ }
+    requires { ⌜ length (now text) ≤ 65536 ⌝ }
+    requires { ⌜ line ≤ 65537 ⌝ }
+    requires { ⌜ Judged p v c ⌝ }
+    ensures { λ r. ⌜ Stored (now (out .entry)) 0 (judgedSession p (outcome p) (drop from (now (text .entry))) line) (now (out .exit)) r ⌝ }
+    ensures { λ r. ⌜ r + 9 * from ≤ 9 * length (now (text .entry)) + 71 ⌝ }
+{
+    match v {
+        Verdict::Settled(_) => {
+            let run = runs::new_run();
+            put_answers(text, from, line, p, c, run, out, 0)
+        }
+        Verdict::NoStrategy(windows) => put_refused(out, 0, Refusal::NoStrategy(windows)),
+        Verdict::Unsettled(rounds) => put_refused(out, 0, Refusal::Unsettled(rounds)),
+    }
+}
+
+// The whole answer of a session whose plan was judged. It is measured first, on a part without places, unless the length of the steps tells that there is room.
+fn write_session(
+    text: &[u8],
+    from: usize,
+    line: usize,
+    p: Plan,
+    v: Verdict,
+    c: Calendar,
+    out: &mut [u8],
+) -> Written
+    requires { ⌜ from ≤ length (now text) ⌝ }
+    requires { ⌜ length (now text) ≤ 65536 ⌝ }
+    requires { ⌜ line ≤ 65537 ⌝ }
+    requires { ⌜ Judged p v c ⌝ }
+    ensures { λ r. ⌜ r ≡ writtenAs (judgedSession p (outcome p) (drop from (now (text .entry))) line) (now (out .entry)) ⌝ }
+    ensures { λ _. ⌜ now (out .exit) ≡ written (judgedSession p (outcome p) (drop from (now (text .entry))) line) (now (out .entry)) ⌝ }
+{
+    let steps = text.len() - from;
+    let most = 9 * steps + 71;
+    if most <= out.len() {
+        let length = put_session(text, from, line, p, v, c, out);
+        return Written::Length(length);
+    }
+    let length_of_session = put_session(text, from, line, p, v, c, &mut out[..0]);
+    if out.len() < length_of_session {
+        return Written::Refused(Refusal::NoRoom);
+    }
+    let length = put_session(text, from, line, p, v, c, out);
+    Written::Length(length)
+}
+
+// The answer to a session text whose plan was read and judged.
+pub fn answer_judged(
+    text: &[u8],
+    head: PlanRead,
+    v: Verdict,
+    c: Calendar,
+    out: &mut [u8],
+) -> Written
+    requires { ⌜ head ≡ planRead (now text) (planHead (now text)) ⌝ }
+    requires { ⌜ head .answer ≡ planAnswer.Accepted ⌝ }
+    requires { ⌜ Judged (head .plan) v c ⌝ }
+    ensures { λ r. ⌜ r ≡ sessionAnswer (now (text .entry)) (now (out .entry)) ⌝ }
+    ensures { λ _. ⌜ now (out .exit) ≡ written (dispatchOutput (now (text .entry))) (now (out .entry)) ⌝ }
+{
+    let p = head.plan;
+    write_session(text, head.at, head.line, p, v, c, out)
+}
+
+// The one line of a refused plan.
+fn write_refused(out: &mut [u8], x: Refusal) -> Written
+    ensures { λ r. ⌜ r ≡ writtenAs (refusedLine x) (now (out .entry)) ⌝ }
+    ensures { λ _. ⌜ now (out .exit) ≡ written (refusedLine x) (now (out .entry)) ⌝ }
+{
+    let length_of_line = put_refused(&mut out[..0], 0, x);
+    if out.len() < length_of_line {
+        return Written::Refused(Refusal::NoRoom);
+    }
+    let length = put_refused(out, 0, x);
+    Written::Length(length)
+}
