@@ -51,9 +51,9 @@ use Rattle.rounds.specs.Rounds.{
   outcomeFrom,
   outcome,
 }
-use Rattle.rounds.specs.Bits.{hasEvent, eventSet}
-use Rattle.rounds.specs.Calendars.{thenTables, beforeStarts, termsOf, leastCs, mostCs, allTerms, allCs, calendarOf, calendar}
-use Rattle.rounds.specs.CalendarText.{termLines, jobText, jobTexts, calendarText, outcomeText, answered, calendarOutput}
+use Rattle.calendars.specs.Bits.{hasEvent, eventSet}
+use Rattle.calendars.specs.Calendars.{thenTables, beforeStarts, termsOf, leastCs, mostCs, allTerms, allCs, calendarOf, calendar}
+use Rattle.calendars.specs.CalendarText.{termLines, jobText, jobTexts, calendarText, outcomeText, answered, calendarOutput}
 use Rattle.runs.specs.Offers.{timeOf, isInForce, endFrom, offerOf, openingIn}
 use Rattle.runs.specs.Steps.{asked, started, closed, finished, stepped}
 use Rattle.session.specs.StepRead.{timed, finishIn, finishStep, startIn, startStep, stepIn, linedStep, stepLine}

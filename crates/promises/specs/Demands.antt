@@ -17,7 +17,7 @@ use Rattle.plan.specs.PlanLaws.{planAlone-written, planAlone-again, planAlone-f
 use Rattle.bounds.specs.Tables.{Rows}
 use Rattle.rounds.specs.declared.Verdict.the-variants.{Settled, NoStrategy}
 use Rattle.rounds.specs.Rounds.{settled, outcome, verdict}
-use Rattle.rounds.specs.Calendars.{calendar}
+use Rattle.calendars.specs.Calendars.{calendar}
 use Rattle.runs.specs.declared.Phase.the-variants.{Waiting}
 use Rattle.runs.specs.declared.Run.{Run}
 use Rattle.runs.specs.declared.Step.{Step}

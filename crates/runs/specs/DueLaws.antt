@@ -15,9 +15,9 @@ use Rattle.plan.specs.declared.Plan.{Plan}
 use Rattle.plan.specs.declared.Refusal.the-variants as refusal
 use Rattle.plan.specs.Limits.{mostJobs}
 use Rattle.plan.specs.PlanRead.{noJob}
-use Rattle.rounds.specs.declared.Terms.{Terms}
-use Rattle.rounds.specs.declared.Calendar.{Calendar}
-use Rattle.rounds.specs.Calendars.{mostEvents, noTerms}
+use Rattle.calendars.specs.declared.Terms.{Terms}
+use Rattle.calendars.specs.declared.Calendar.{Calendar}
+use Rattle.calendars.specs.Calendars.{mostEvents, noTerms}
 use Rattle.runs.specs.declared.Due.{Due}
 use Rattle.runs.specs.declared.Offer.{Offer}
 use Rattle.runs.specs.declared.Opening.the-variants.{Shut}

@@ -19,8 +19,8 @@ use mir.Facts.{toZ-ofZ}
 use Rattle.clock.specs.declared.RunTime.{RunTime}
 use Rattle.clock.specs.Clock.{movedBy}
 use Rattle.plan.specs.declared.Plan.{Plan}
-use Rattle.rounds.specs.Bits.{hasEvent}
-use Rattle.rounds.specs.Calendars.{eventsBefore}
+use Rattle.calendars.specs.Bits.{hasEvent}
+use Rattle.calendars.specs.Calendars.{eventsBefore}
 use Rattle.runs.specs.declared.Probe.{Probe}
 use Rattle.runs.specs.declared.Run.{Run}
 use Rattle.runs.specs.TestLaws.{and-with-true, and-with-false, or-with-true}

@@ -19,10 +19,10 @@ use Rattle.clock.specs.Spans.{Near}
 use Rattle.plan.specs.declared.Plan.{Plan}
 use Rattle.plan.specs.Limits.{leastC, greatestC, mostJobs}
 use Rattle.bounds.specs.Tables.{anyBelow}
-use Rattle.rounds.specs.declared.Terms.{Terms}
-use Rattle.rounds.specs.declared.Calendar.{Calendar}
-use Rattle.rounds.specs.Bits.{hasEvent}
-use Rattle.rounds.specs.Calendars.{eventsBefore, mostEvents}
+use Rattle.calendars.specs.declared.Terms.{Terms}
+use Rattle.calendars.specs.declared.Calendar.{Calendar}
+use Rattle.calendars.specs.Bits.{hasEvent}
+use Rattle.calendars.specs.Calendars.{eventsBefore, mostEvents}
 use Rattle.runs.specs.declared.Phase.{Phase}
 use Rattle.runs.specs.declared.Phase.the-variants.{Waiting, Running}
 use Rattle.runs.specs.declared.Probe.{Probe}

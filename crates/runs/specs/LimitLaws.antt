@@ -19,9 +19,9 @@ use Rattle.clock.specs.declared.RunTime.{RunTime}
 use Rattle.bounds.specs.Tables.{anyBelow}
 use Rattle.plan.specs.declared.Plan.{Plan}
 use Rattle.plan.specs.Limits.{leastC, greatestC}
-use Rattle.rounds.specs.declared.Terms.{Terms}
-use Rattle.rounds.specs.declared.Calendar.{Calendar}
-use Rattle.rounds.specs.Calendars.{eventsBefore, mostEvents, noTerms}
+use Rattle.calendars.specs.declared.Terms.{Terms}
+use Rattle.calendars.specs.declared.Calendar.{Calendar}
+use Rattle.calendars.specs.Calendars.{eventsBefore, mostEvents, noTerms}
 use Rattle.runs.specs.declared.Phase.{Phase}
 use Rattle.runs.specs.declared.Phase.the-variants.{Waiting, Running}
 use Rattle.runs.specs.declared.Probe.{Probe}

@@ -18,10 +18,10 @@ use Rattle.whole.specs.Order.{leZ-true-iff}
 use Rattle.text.specs.Numbers.{within}
 use Rattle.clock.specs.Clock.{onRun}
 use Rattle.plan.specs.declared.Plan.{Plan}
-use Rattle.rounds.specs.declared.Terms.{Terms}
-use Rattle.rounds.specs.declared.Calendar.{Calendar}
-use Rattle.rounds.specs.Bits.{hasEvent}
-use Rattle.rounds.specs.Calendars.{eventsBefore, mostEvents, noTerms}
+use Rattle.calendars.specs.declared.Terms.{Terms}
+use Rattle.calendars.specs.declared.Calendar.{Calendar}
+use Rattle.calendars.specs.Bits.{hasEvent}
+use Rattle.calendars.specs.Calendars.{eventsBefore, mostEvents, noTerms}
 use Rattle.runs.specs.declared.Run.{Run}
 use Rattle.runs.specs.TestLaws.{true-not-false, and-true, and-left, and-right}
 use Rattle.runs.specs.Offers.{timeOf, isInForce, greater, lesser, endFrom, offerOf}

@@ -10,10 +10,10 @@ use Rattle.clock.specs.declared.RunTime.{RunTime}
 use Rattle.clock.specs.Clock.{onRun}
 use Rattle.plan.specs.declared.Plan.{Plan}
 use Rattle.plan.specs.declared.Refusal.the-variants as refusal
-use Rattle.rounds.specs.declared.Terms.{Terms}
-use Rattle.rounds.specs.declared.Calendar.{Calendar}
-use Rattle.rounds.specs.Bits.{hasEvent}
-use Rattle.rounds.specs.Calendars.{eventsBefore, mostEvents, noTerms}
+use Rattle.calendars.specs.declared.Terms.{Terms}
+use Rattle.calendars.specs.declared.Calendar.{Calendar}
+use Rattle.calendars.specs.Bits.{hasEvent}
+use Rattle.calendars.specs.Calendars.{eventsBefore, mostEvents, noTerms}
 use Rattle.runs.specs.declared.Probe.{Probe}
 use Rattle.runs.specs.declared.Phase.{Phase}
 use Rattle.runs.specs.declared.Phase.the-variants.{Waiting, Running}

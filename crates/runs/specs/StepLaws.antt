@@ -20,7 +20,7 @@ use Rattle.plan.specs.Refusals.{outsideLimits}
 use Rattle.plan.specs.Limits.{mostJobs}
 use Rattle.plan.specs.PlanWritten.{judgedPlan}
 use Rattle.plan.specs.PlanRead.{noJob}
-use Rattle.rounds.specs.declared.Calendar.{Calendar}
+use Rattle.calendars.specs.declared.Calendar.{Calendar}
 use Rattle.runs.specs.declared.Answer.the-variants.{Final}
 use Rattle.runs.specs.declared.Due.{Due}
 use Rattle.runs.specs.declared.Phase.{Phase}

@@ -3,12 +3,12 @@
 use crate::MOST_TERMS;
 use crate::Probe;
 use crate::Run;
+use calendars::MOST_EVENTS;
 use clock::RunTime;
 use plan::MOST_JOBS;
-use rounds::MOST_EVENTS;
 ghost use mathlib.Core.Path.{_≡_};
 ghost use Prim.Native.Nat.{_+_, _*_, _≤_, _<_};
-ghost use Rattle.rounds.specs.Calendars.{mostEvents};
+ghost use Rattle.calendars.specs.Calendars.{mostEvents};
 ghost use Rattle.runs.specs.Ends.{pickOf, pickedTime, timeOn, endIn, endOf, TermsFit, EndFits};
 
 // The earlier of two times at the upper end, the later one at the lower end.

@@ -5,6 +5,7 @@ mod limits;
 mod offers;
 mod steps;
 
+use calendars::Terms;
 use clock::RunTime;
 pub use limits::is_calendar;
 pub use limits::is_run;
@@ -13,13 +14,12 @@ pub use limits::is_time;
 pub use limits::jobs_done;
 use plan::MOST_JOBS;
 use plan::Refusal;
-use rounds::Terms;
 pub use steps::new_run;
 pub use steps::refused_with;
 pub use steps::step_due;
 pub use steps::step_inside;
 
-// The places of a calendar's c on one side: a row of rounds::MOST_EVENTS for each job.
+// The places of a calendar's c on one side: a row of calendars::MOST_EVENTS for each job.
 const MOST_TERMS: usize = 324;
 
 // The last time that a run or a step can name.

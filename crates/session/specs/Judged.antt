@@ -6,9 +6,9 @@ use Rattle.plan.specs.declared.Plan.{Plan}
 use Rattle.plan.specs.Accepted.{Accepted}
 use Rattle.bounds.specs.Tables.{Rows}
 use Rattle.rounds.specs.declared.Verdict.{Verdict}
-use Rattle.rounds.specs.declared.Calendar.{Calendar}
+use Rattle.calendars.specs.declared.Calendar.{Calendar}
 use Rattle.rounds.specs.Rounds.{settled, outcome, verdict}
-use Rattle.rounds.specs.Calendars.{calendar}
+use Rattle.calendars.specs.Calendars.{calendar}
 use Rattle.runs.specs.ValueLimits.{isCalendar}
 
 pub record Judged (p : Plan) (v : Verdict) (c : Calendar) : Type 0 where

@@ -13,9 +13,9 @@ use Rattle.plan.specs.Refusals.{refusedLine}
 use Rattle.plan.specs.Accepted.{Accepted}
 use Rattle.rounds.specs.declared.Verdict.{Verdict}
 use Rattle.rounds.specs.declared.Verdict.the-variants.{Settled, NoStrategy, Unsettled}
-use Rattle.rounds.specs.declared.Calendar.{Calendar}
+use Rattle.calendars.specs.declared.Calendar.{Calendar}
 use Rattle.rounds.specs.Rounds.{Outcome, settled, noStrategy, unsettled, outcome, verdictOf}
-use Rattle.rounds.specs.Calendars.{calendar}
+use Rattle.calendars.specs.Calendars.{calendar}
 use Rattle.runs.specs.Steps.{noProbes, newRun}
 use Rattle.runs.specs.ValueLimits.{areTimes, isPhase, isRun, isCalendar}
 use Rattle.runs.specs.LimitLaws.{areTimes-none}

@@ -9,9 +9,9 @@ use Rattle.plan.specs.declared.Refusal.the-variants as refusal
 use Rattle.plan.specs.Refusals.{refusedLine}
 use Rattle.plan.specs.Reading.{Reading, read, refused}
 use Rattle.plan.specs.PlanRead.{planHead}
-use Rattle.rounds.specs.declared.Calendar.{Calendar}
+use Rattle.calendars.specs.declared.Calendar.{Calendar}
 use Rattle.rounds.specs.Rounds.{Outcome, settled, noStrategy, unsettled, outcome}
-use Rattle.rounds.specs.Calendars.{calendar}
+use Rattle.calendars.specs.Calendars.{calendar}
 use Rattle.runs.specs.declared.Step.{Step}
 use Rattle.runs.specs.declared.Answered.{Answered}
 use Rattle.runs.specs.declared.Run.{Run}

@@ -2,10 +2,10 @@
 use crate::Written;
 use crate::print::put_refused;
 use crate::steps::put_answers;
+use calendars::Calendar;
 use plan::Plan;
 use plan::PlanRead;
 use plan::Refusal;
-use rounds::Calendar;
 use rounds::Verdict;
 ghost use mathlib.Core.Path.{_≡_};
 ghost use Prim.Native.Nat.{_+_, _*_, _-_, _≤_};

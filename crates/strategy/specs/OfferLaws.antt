@@ -24,9 +24,9 @@ use Rattle.plan.specs.PlanRead.{filled}
 use Rattle.bounds.specs.Events.{startNode}
 use Rattle.bounds.specs.Tables.{Cell, off, upto, Rows, at, listed}
 use Rattle.bounds.specs.BuildLaws.{both-true, getD-listed, length-listed}
-use Rattle.rounds.specs.declared.Terms.{Terms}
-use Rattle.rounds.specs.Bits.{hasEvent, eventSet}
-use Rattle.rounds.specs.Calendars.{isOn, weight, fromBelow, fromAbove, eventsBefore, termsOf, leastCs, mostCs, mostEvents, noTerms, allTerms, allCs, calendarOf}
+use Rattle.calendars.specs.declared.Terms.{Terms}
+use Rattle.calendars.specs.Bits.{hasEvent, eventSet}
+use Rattle.calendars.specs.Calendars.{isOn, weight, fromBelow, fromAbove, eventsBefore, termsOf, leastCs, mostCs, mostEvents, noTerms, allTerms, allCs, calendarOf}
 use Rattle.runs.specs.declared.Run.{Run}
 use Rattle.runs.specs.declared.Offer.{Offer}
 use Rattle.runs.specs.Offers.{timeOf, isInForce, greater, lesser, endFrom, offerOf}

@@ -27,9 +27,9 @@ use Rattle.plan.specs.PlanRead.{noJob}
 use Rattle.bounds.specs.Events.{startNode, finishNode}
 use Rattle.bounds.specs.Tables.{upto, Rows, at}
 use Rattle.bounds.specs.Elimination.{thenSet}
-use Rattle.rounds.specs.declared.Calendar.{Calendar}
+use Rattle.calendars.specs.declared.Calendar.{Calendar}
 use Rattle.rounds.specs.Rounds.{joined, settled, outcome}
-use Rattle.rounds.specs.Calendars.{thenTables, beforeStarts, calendarOf, calendar}
+use Rattle.calendars.specs.Calendars.{thenTables, beforeStarts, calendarOf, calendar}
 use Rattle.runs.specs.declared.Phase.the-variants.{Waiting, Running}
 use Rattle.runs.specs.declared.Probe.{Probe}
 use Rattle.runs.specs.declared.Phase.{Phase}

@@ -17,7 +17,7 @@ use Rattle.plan.specs.declared.Plan.{Plan}
 use Rattle.bounds.specs.Events.{eventOf, startNode, finishNode, nodes}
 use Rattle.bounds.specs.Tables.{Rows, at, bounds}
 use Rattle.bounds.specs.Elimination.{withoutFinish, withoutStart, thenSet, withoutPlace, eliminated}
-use Rattle.rounds.specs.Calendars.{thenTables, beforeStarts}
+use Rattle.calendars.specs.Calendars.{thenTables, beforeStarts}
 use Rattle.strategy.specs.Histories.{History, ranFor, turn}
 use Rattle.strategy.specs.Strategies.{Forced}
 use Rattle.strategy.specs.Keeping.{Holds, when, gap, Keeps, Timely}

@@ -14,7 +14,7 @@ use Rattle.bounds.specs.Tables.{Cell, off, upto, Rows, at, contradiction, bound
 use Rattle.bounds.specs.Elimination.{finishCell, startCell}
 use Rattle.rounds.specs.declared.Verdict.the-variants.{Settled, NoStrategy}
 use Rattle.rounds.specs.Rounds.{settled, outcome, verdict}
-use Rattle.rounds.specs.Calendars.{calendar}
+use Rattle.calendars.specs.Calendars.{calendar}
 use Rattle.runs.specs.declared.Phase.the-variants.{Waiting}
 use Rattle.runs.specs.declared.Run.{Run}
 use Rattle.runs.specs.declared.Choice.the-variants.{At, Auto}

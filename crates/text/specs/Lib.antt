@@ -12,4 +12,5 @@ pub mod DigitLaws
 pub mod NumberLaws
 pub mod DigitsReadLaws
 pub mod LentLaws
+pub mod LeftLaws
 pub mod Unique

@@ -4,7 +4,7 @@ use mathlib.Core.Path.{_∙_}
 use native.Mathlib.Omega.{arith}
 use denote.Ref.{now}
 use borrow.Author.Needs.{needs}
-use Rattle.rounds.specs.Calendars.{mostEvents}
+use Rattle.calendars.specs.Calendars.{mostEvents}
 use Rattle.runs.specs.Ends.{pickOf}
 use Rattle.runs.specs.EndLaws.{endOf-later, endOf-first}
 use Rattle.runs.proofs.ends.end_of.Statement.{statement}

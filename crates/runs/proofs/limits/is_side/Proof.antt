@@ -10,7 +10,7 @@ use lib.ListN.{getD}
 use mir.Syntax.{w32}
 use mir.Val.{SFits}
 use mir.Facts.{toZ-ofZ}
-use Rattle.rounds.specs.Calendars.{mostEvents}
+use Rattle.calendars.specs.Calendars.{mostEvents}
 use Rattle.runs.specs.ValueLimits.{isOut}
 use Rattle.runs.specs.LimitLaws.{anyFrom, anyFrom-more, anyFrom-found, anyFrom-none, outAt, isSide-past, isSide-walk, shift-some, shift-none}
 use Rattle.runs.proofs.limits.is_side.Statement.{statement}

@@ -10,7 +10,7 @@ use mir.Facts.{toZ-ofZ}
 use denote.Ref.{now}
 use Rattle.clock.specs.declared.RunTime.{RunTime}
 use Rattle.clock.specs.Clock.{onRun}
-use Rattle.rounds.specs.Calendars.{mostEvents}
+use Rattle.calendars.specs.Calendars.{mostEvents}
 use Rattle.runs.specs.Ends.{pickOf, endOf}
 use Rattle.runs.specs.DueLaws.{offerOf-due}
 use borrow.Author.Needs.{needs}

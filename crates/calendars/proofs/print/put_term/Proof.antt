@@ -1,0 +1,63 @@
+-- `put_term`: the key, the event, the comma, the number and the LF in a row, by `stored-append`; the event's name has at most 22 bytes, the number twenty.
+use native.Mathlib.Omega.{arith}
+use borrow.Author.Needs.{needs}
+use Rattle.whole.specs.SplitLaws.{cast-wide}
+use Rattle.text.specs.LentLaws.{stored-append, stored-near}
+use Rattle.calendars.specs.CalendarTextLaws.{eventBytes-short, stored-narrow}
+use Rattle.calendars.proofs.print.put_term.Statement.{statement}
+use Rattle.calendars.proofs.print.put_term.Tie as tie
+
+put-bytes-requires : tie.Need-put-bytes-requires
+put-bytes-requires c κs = search needs
+
+put-event-requires : tie.Need-put-event-requires
+put-event-requires c κs = search needs
+
+put-byte-requires : tie.Need-put-byte-requires
+put-byte-requires c κs =
+    let s = c .before .before .before .before .before .before .before .before .before .before .before in
+    omega (arith, eventBytes-short (s .args .jobs) (s .args .e) (s .fits .e .fits))
+
+cast-put-number : tie.Need-cast-put-number
+cast-put-number c = cast-wide tt (c .before .before .before .before .before .before .before .before .before .before .before .before .before .before .before .fits .c)
+
+put-number-requires : tie.Need-put-number-requires
+put-number-requires c κs =
+    let s = c .before .before .before .before .before .before .before .before .before .before .before .before .before .before .before in
+    omega (arith, eventBytes-short (s .args .jobs) (s .args .e) (s .fits .e .fits))
+
+put-byte-requires-2 : tie.Need-put-byte-requires-2
+put-byte-requires-2 c κs =
+    let s = c .before .before .before .before .before .before .before .before .before .before .before .before .before .before .before .before .before .before .before in
+    omega (
+      arith,
+      eventBytes-short (s .args .jobs) (s .args .e) (s .fits .e .fits),
+      stored-near (cast-wide tt (s .fits .c)) (c .before .before .before .put-number .ensures),
+    )
+
+same-length : tie.Need-same-length
+same-length c = search needs
+
+returns : tie.Need-returns
+returns c =
+    let f = c .before .before .before .before .before .before .before .before .before .before .before .before .before .before .before .before .before .before .before .before .before .before .fits .c in
+    stored-append
+    (c .before .before .before .before .before .before .before .before .before .before .before .before .before .before .before .before .before .before .put-bytes .ensures)
+    (stored-append
+    (c .before .before .before .before .before .before .before .before .before .before .before .before .before .before .put-event .ensures)
+    (stored-append
+    (c .before .before .before .before .before .before .before .before .before .before .put-byte .ensures)
+    (stored-append (stored-narrow f (c .before .before .before .before .before .before .put-number .ensures)) (c .before .before .put-byte2 .ensures))))
+
+pub put-term-spec : {M : Type 1} → statement M
+put-term-spec =
+    tie.close
+    (tie.spec
+    put-bytes-requires
+    put-event-requires
+    put-byte-requires
+    cast-put-number
+    put-number-requires
+    put-byte-requires-2
+    same-length
+    returns)

@@ -1,0 +1,288 @@
+-- The laws of sets of events.
+-- Members: a digit is a member or none (`hasEvent-digit`); an event of a set moved down is one so much later (`hasEvent-shift`), so membership is one digit
+-- (`hasEvent-at`); a set below 2^k has no event from k on (`hasEvent-past`); two sets with the same events are one (`hasEvent-unique`).
+-- Made: the events of `eventSet` are the places that hold true (`hasEvent-set`), and it has a bit for each place (`eventSet-fits`); one place more is one event
+-- more, or none (`eventSet-more`; of a listed set `eventSet-listed`, `eventSet-listed-fits`). A set and an event has that event (`hasEvent-with`) and no other more (`hasEvent-with-other`), and needs no bits beyond both
+-- (`withEvent-fits`); it is the bits of both (`withEvent-or`).
+-- The count is the count of ones (`eventCount-ones`); of `eventSet` it is the count of the places that hold true (`eventCount-set`).
+-- The next event from e on is the trailing zeros of the set moved down by e (`nextFrom-zeros`); it is not before e (`nextFrom-past`), it is in the set
+-- (`nextFrom-has`), and none before it is (`nextFrom-least`, `nextFrom-found`). So a walk that does nothing at an event outside the set can go on at the next event
+-- (`nextFrom-skips`).
+
+use Prim.Native.Nat.{ℕ, zero, suc, _+_, _*_, _-_, _/_, _%_, _^_, _≤_, _<_}
+use mathlib.Core.Path.{_≡_, refl, sym, ap, _∙_}
+use mathlib.Core.Logic.{_⊎_, inl, inr, ⊎-elim}
+use mathlib.Core.Bool.{Bool, true, false, cond, true≢false}
+use mathlib.Core.List.{List, [], _∷_, _++_}
+use native.Mathlib.Nat.{pow-suc, pow-succ', div-div-eq-div-mul, div-one, zero-add, add-zero, suc-add, add-suc}
+use native.Mathlib.Numerals.{add-one}
+use native.Mathlib.Omega.{arith}
+use lib.Bits.{bitOr, or-step, or-zero-r, or-lt}
+use lib.Count.{ones, ones-step, trailingZeros, under}
+use lib.Dec.{eqb, leb}
+use lib.ListN.{length, getD}
+use lib.Pow.{pow-lt, pow-mono}
+use borrow.Author.Tests.{eqb-true, eqb-false, eq-eqb, ne-eqb, leb-true, leb-false}
+use Rattle.bounds.specs.Tables.{listed}
+use Rattle.calendars.specs.Bits.{hasEvent, eventSet, countTrue, withEvent, mostBits, countFrom, eventCount, nextFrom}
+
+-- ---- members
+
+digit-cases : (s : ℕ) → (s % 2 ≡ 0) ⊎ (s % 2 ≡ 1)
+digit-cases s = of (s % 2) refl
+  where
+    of : (d : ℕ) → s % 2 ≡ d → (s % 2 ≡ 0) ⊎ (s % 2 ≡ 1)
+    of zero e = inl e
+    of (suc d) e = inr (omega arith)
+
+hasEvent-even : (s : ℕ) → s % 2 ≡ 0 → hasEvent 0 s ≡ false
+unfolding hasEvent
+hasEvent-even s h = ne-eqb (s % 2) 1 (λ e. omega arith)
+
+hasEvent-odd : (s : ℕ) → s % 2 ≡ 1 → hasEvent 0 s ≡ true
+unfolding hasEvent
+hasEvent-odd s h = eq-eqb (s % 2) 1 h
+
+pub hasEvent-digit : (s : ℕ) → s % 2 ≡ cond (hasEvent 0 s) 1 0
+hasEvent-digit s = ⊎-elim (λ z. rw (hasEvent-even s z) z) (λ o. rw (hasEvent-odd s o) o) (digit-cases s)
+
+pub shift-suc : (s k : ℕ) → s / 2 / 2 ^ k ≡ s / 2 ^ suc k
+shift-suc s k = div-div-eq-div-mul s 2 (2 ^ k) ∙ ap (λ (x : ℕ). s / x) (sym (pow-succ' 2 k))
+
+pub shift-half : (s k : ℕ) → s / 2 ^ k / 2 ≡ s / 2 ^ suc k
+shift-half s k = div-div-eq-div-mul s (2 ^ k) 2 ∙ ap (λ (x : ℕ). s / x) (sym (pow-suc 2 k))
+
+pub hasEvent-shift : (k e s : ℕ) → hasEvent e (s / 2 ^ k) ≡ hasEvent (k + e) s
+unfolding hasEvent
+hasEvent-shift zero e s = rw (zero-add, div-one)
+hasEvent-shift (suc k) e s = rw (← shift-suc s k, suc-add) (hasEvent-shift k e (s / 2))
+
+pub hasEvent-at : (e s : ℕ) → hasEvent e s ≡ eqb (s / 2 ^ e % 2) 1
+unfolding hasEvent
+hasEvent-at zero s = rw (div-one)
+hasEvent-at (suc e) s = rw (← shift-suc s e) (hasEvent-at e (s / 2))
+
+hasEvent-none : (e : ℕ) → hasEvent e 0 ≡ false
+unfolding hasEvent
+hasEvent-none zero = refl
+hasEvent-none (suc e) = hasEvent-none e
+
+pub hasEvent-past : (k e s : ℕ) → s < 2 ^ k → k ≤ e → hasEvent e s ≡ false
+unfolding hasEvent
+hasEvent-past zero e s h l = let z : s ≡ 0 = omega arith in rw z (hasEvent-none e)
+hasEvent-past (suc k) zero s h l = absurd (omega arith)
+hasEvent-past (suc k) (suc e) s h l = hasEvent-past k e (s / 2) (omega arith) (omega arith)
+
+pub hasEvent-unique : (k s t : ℕ) → s < 2 ^ k → t < 2 ^ k → ((e : ℕ) → e < k → hasEvent e s ≡ hasEvent e t) → s ≡ t
+unfolding hasEvent
+hasEvent-unique zero s t h g same = omega arith
+hasEvent-unique (suc k) s t h g same =
+    let rest : s / 2 ≡ t / 2 = hasEvent-unique k (s / 2) (t / 2) (omega arith) (omega arith) (λ e l. same (suc e) (omega arith)) in
+    let digit : s % 2 ≡ t % 2 = hasEvent-digit s ∙ ap (λ (b : Bool). cond b 1 0) (same 0 (omega arith)) ∙ sym (hasEvent-digit t) in
+    omega arith
+
+-- ---- made
+
+digit-below : (b : Bool) → cond b 1 0 < 2
+digit-below true = omega arith
+digit-below false = omega arith
+
+cons-half : (b : Bool) (s : ℕ) → (cond b 1 0 + 2 * s) / 2 ≡ s
+cons-half b s = omega (arith, digit-below b)
+
+cons-mod : (b : Bool) (s : ℕ) → (cond b 1 0 + 2 * s) % 2 ≡ cond b 1 0
+cons-mod b s = omega (arith, digit-below b)
+
+cons-digit : (b : Bool) (s : ℕ) → hasEvent 0 (cond b 1 0 + 2 * s) ≡ b
+cons-digit true s = hasEvent-odd (1 + 2 * s) (omega arith)
+cons-digit false s = hasEvent-even (0 + 2 * s) (omega arith)
+
+pub hasEvent-set : (bs : List Bool) (e : ℕ) → hasEvent e (eventSet bs) ≡ getD bs e false
+unfolding hasEvent eventSet
+hasEvent-set [] e = hasEvent-none e
+hasEvent-set (b ∷ bs) zero = cons-digit b (eventSet bs)
+hasEvent-set (b ∷ bs) (suc e) = rw (cons-half b (eventSet bs)) (hasEvent-set bs e)
+
+pub eventSet-fits : (bs : List Bool) → eventSet bs < 2 ^ length bs
+unfolding eventSet
+eventSet-fits [] = omega arith
+eventSet-fits (b ∷ bs) = omega (arith, digit-below b, eventSet-fits bs, pow-suc 2 (length bs))
+
+-- a set and an event, digit by digit
+withEvent-zero : (s : ℕ) → withEvent 0 s ≡ 1 + 2 * (s / 2)
+unfolding withEvent
+withEvent-zero s = ⊎-elim (λ z. rw (hasEvent-even s z) (omega arith)) (λ o. rw (hasEvent-odd s o) (omega arith)) (digit-cases s)
+
+withEvent-suc : (e s : ℕ) → withEvent (suc e) s ≡ s % 2 + 2 * withEvent e (s / 2)
+unfolding withEvent hasEvent
+withEvent-suc e s = of (hasEvent e (s / 2))
+  where
+    of : (b : Bool) → cond b s (s + 2 ^ suc e) ≡ s % 2 + 2 * cond b (s / 2) (s / 2 + 2 ^ e)
+    of true = omega arith
+    of false = omega arith
+
+pub hasEvent-with : (e s : ℕ) → hasEvent e (withEvent e s) ≡ true
+unfolding hasEvent
+hasEvent-with zero s = rw (withEvent-zero s) (hasEvent-odd (1 + 2 * (s / 2)) (omega arith))
+hasEvent-with (suc e) s =
+    let rest : (s % 2 + 2 * withEvent e (s / 2)) / 2 ≡ withEvent e (s / 2) = omega arith in
+    rw (withEvent-suc e s, rest) (hasEvent-with e (s / 2))
+
+pub hasEvent-with-other : (d e s : ℕ) → (d ≡ e → ⊥) → hasEvent d (withEvent e s) ≡ hasEvent d s
+unfolding hasEvent
+hasEvent-with-other zero zero s ne = absurd (ne refl)
+hasEvent-with-other (suc d) zero s ne =
+    let rest : (1 + 2 * (s / 2)) / 2 ≡ s / 2 = omega arith in
+    rw (withEvent-zero s, rest)
+hasEvent-with-other zero (suc e) s ne =
+    let digit : (s % 2 + 2 * withEvent e (s / 2)) % 2 ≡ s % 2 = omega arith in
+    rw (withEvent-suc e s, digit)
+hasEvent-with-other (suc d) (suc e) s ne =
+    let rest : (s % 2 + 2 * withEvent e (s / 2)) / 2 ≡ withEvent e (s / 2) = omega arith in
+    rw (withEvent-suc e s, rest) (hasEvent-with-other d e (s / 2) (λ h. ne (ap suc h)))
+
+pub withEvent-or : (e s : ℕ) → bitOr s (2 ^ e) ≡ withEvent e s
+withEvent-or zero s = omega (arith, or-step s 1, or-zero-r (s / 2), withEvent-zero s)
+withEvent-or (suc e) s =
+    let half : 2 ^ suc e / 2 ≡ 2 ^ e = omega (arith, pow-suc 2 e) in
+    let even : 2 ^ suc e % 2 ≡ 0 = omega (arith, pow-suc 2 e) in
+    or-step s (2 ^ suc e) ∙ rw (half, even, withEvent-or e (s / 2)) (omega (arith, withEvent-suc e s))
+
+pub withEvent-fits : (k e s : ℕ) → e < k → s < 2 ^ k → withEvent e s < 2 ^ k
+withEvent-fits k e s l h = rw (← withEvent-or e s) (or-lt k s (2 ^ e) h (pow-lt l))
+
+pub eventSet-more : (bs : List Bool) (b : Bool) → eventSet (bs ++ (b ∷ [])) ≡ cond b (withEvent (length bs) (eventSet bs)) (eventSet bs)
+unfolding eventSet
+eventSet-more [] true = sym (withEvent-zero 0)
+eventSet-more [] false = refl
+eventSet-more (a ∷ bs) true =
+    ap (λ (s : ℕ). cond a 1 0 + 2 * s) (eventSet-more bs true)
+    ∙ sym (withEvent-suc (length bs) (cond a 1 0 + 2 * eventSet bs) ∙ rw (cons-half a (eventSet bs), cons-mod a (eventSet bs)))
+eventSet-more (a ∷ bs) false = ap (λ (s : ℕ). cond a 1 0 + 2 * s) (eventSet-more bs false)
+
+-- a set made event by event
+listed-more : {A : Type 0} (k : ℕ) (f : ℕ → A) → listed (suc k) f ≡ listed k f ++ (f k ∷ [])
+unfolding listed
+listed-more zero f = refl
+listed-more (suc k) f = ap (λ l. f 0 ∷ l) (listed-more k (λ i. f (suc i)))
+
+listed-length : {A : Type 0} (k : ℕ) (f : ℕ → A) → length (listed k f) ≡ k
+unfolding listed
+listed-length zero f = refl
+listed-length (suc k) f = ap suc (listed-length k (λ i. f (suc i)))
+
+pub eventSet-listed : (k : ℕ) (f : ℕ → Bool) → eventSet (listed (k + 1) f) ≡ cond (f k) (withEvent k (eventSet (listed k f))) (eventSet (listed k f))
+eventSet-listed k f =
+    ap (λ (n : ℕ). eventSet (listed n f)) (add-one k) ∙ ap eventSet (listed-more k f) ∙ eventSet-more (listed k f) (f k)
+    ∙ ap (λ (n : ℕ). cond (f k) (withEvent n (eventSet (listed k f))) (eventSet (listed k f))) (listed-length k f)
+
+pub eventSet-listed-fits : (k : ℕ) (f : ℕ → Bool) → eventSet (listed k f) < 2 ^ k
+eventSet-listed-fits k f = rw (listed-length k f) at (eventSet-fits (listed k f))
+
+-- ---- the count
+
+countFrom-suc : (s e n : ℕ) → countFrom s (suc e) n ≡ countFrom (s / 2) e n
+unfolding countFrom hasEvent
+countFrom-suc s e zero = refl
+countFrom-suc s e (suc n) = ap (λ (x : ℕ). cond (hasEvent e (s / 2)) 1 0 + x) (countFrom-suc s (suc e) n)
+
+countFrom-ones : (n s : ℕ) → s < 2 ^ n → countFrom s 0 n ≡ ones s
+unfolding countFrom ones
+countFrom-ones zero s h = let z : s ≡ 0 = omega arith in rw z
+countFrom-ones (suc n) s h =
+    ap (λ (x : ℕ). cond (hasEvent 0 s) 1 0 + x) (countFrom-suc s 0 n ∙ countFrom-ones n (s / 2) (omega arith))
+    ∙ ap (λ (x : ℕ). x + ones (s / 2)) (sym (hasEvent-digit s)) ∙ sym (ones-step s)
+
+pub eventCount-ones : (s : ℕ) → s < 2 ^ mostBits → eventCount s ≡ ones s
+eventCount-ones s h = countFrom-ones mostBits s h
+
+ones-set : (bs : List Bool) → ones (eventSet bs) ≡ countTrue bs
+unfolding eventSet countTrue ones
+ones-set [] = refl
+ones-set (b ∷ bs) =
+    ones-step (cond b 1 0 + 2 * eventSet bs)
+    ∙ rw (cons-half b (eventSet bs), cons-mod b (eventSet bs), ones-set bs)
+
+pub eventCount-set : (bs : List Bool) → length bs ≤ mostBits → eventCount (eventSet bs) ≡ countTrue bs
+eventCount-set bs h = eventCount-ones (eventSet bs) (omega (arith, eventSet-fits bs, pow-mono h)) ∙ ones-set bs
+
+-- ---- the next event
+
+nextFrom-suc : (s e n : ℕ) → nextFrom s (suc e) n ≡ suc (nextFrom (s / 2) e n)
+unfolding nextFrom hasEvent
+nextFrom-suc s e zero = refl
+nextFrom-suc s e (suc n) = of (hasEvent e (s / 2)) (nextFrom-suc s (suc e) n)
+  where
+    of : (b : Bool) → nextFrom s (suc (suc e)) n ≡ suc (nextFrom (s / 2) (suc e) n)
+        → cond b (suc e) (nextFrom s (suc (suc e)) n) ≡ suc (cond b e (nextFrom (s / 2) (suc e) n))
+    of true h = refl
+    of false h = h
+
+nextFrom-first : (s n : ℕ) → nextFrom s 0 n ≡ trailingZeros n s
+unfolding nextFrom trailingZeros
+nextFrom-first s zero = refl
+nextFrom-first s (suc n) = ap (cond (hasEvent 0 s) 0) (nextFrom-suc s 0 n ∙ ap suc (nextFrom-first (s / 2) n)) ∙ of (hasEvent 0 s) (s % 2) (hasEvent-digit s)
+  where
+    of : (b : Bool) (d : ℕ) → d ≡ cond b 1 0 → cond b 0 (suc (trailingZeros n (s / 2))) ≡ under d (trailingZeros n (s / 2))
+    of true d h = rw h
+    of false d h = rw h
+
+pub nextFrom-zeros : (s e n : ℕ) → nextFrom s e n ≡ e + trailingZeros n (s / 2 ^ e)
+nextFrom-zeros s zero n = nextFrom-first s n ∙ rw (zero-add, div-one)
+nextFrom-zeros s (suc e) n =
+    nextFrom-suc s e n ∙ ap suc (nextFrom-zeros (s / 2) e n) ∙ rw (shift-suc, suc-add)
+
+pub nextFrom-past : (s e n : ℕ) → e ≤ nextFrom s e n
+unfolding nextFrom
+nextFrom-past s e zero = omega arith
+nextFrom-past s e (suc n) = of (hasEvent e s) (nextFrom-past s (suc e) n)
+  where
+    of : (b : Bool) → suc e ≤ nextFrom s (suc e) n → e ≤ cond b e (nextFrom s (suc e) n)
+    of true h = omega arith
+    of false h = omega arith
+
+pub nextFrom-least : (s e n d : ℕ) → e ≤ d → d < nextFrom s e n → hasEvent d s ≡ false
+unfolding nextFrom
+nextFrom-least s e zero d l h = absurd (omega arith)
+nextFrom-least s e (suc n) d l h = of (hasEvent e s) refl (nextFrom-least s (suc e) n d) h
+  where
+    of : (b : Bool) → hasEvent e s ≡ b → (suc e ≤ d → d < nextFrom s (suc e) n → hasEvent d s ≡ false)
+        → d < cond b e (nextFrom s (suc e) n) → hasEvent d s ≡ false
+    of true y rest g = absurd (omega arith)
+    of false y rest g = at (eqb d e) refl
+      where
+        at : (t : Bool) → eqb d e ≡ t → hasEvent d s ≡ false
+        at true k = rw (eqb-true d e k) y
+        at false k = rest (omega (arith, eqb-false d e k)) g
+
+pub nextFrom-has : (s e n : ℕ) → nextFrom s e n < e + n → hasEvent (nextFrom s e n) s ≡ true
+unfolding nextFrom
+nextFrom-has s e zero h = absurd (omega arith)
+nextFrom-has s e (suc n) h = of (hasEvent e s) refl (nextFrom-has s (suc e) n) h
+  where
+    of : (b : Bool) → hasEvent e s ≡ b → (nextFrom s (suc e) n < suc e + n → hasEvent (nextFrom s (suc e) n) s ≡ true)
+        → cond b e (nextFrom s (suc e) n) < e + suc n → hasEvent (cond b e (nextFrom s (suc e) n)) s ≡ true
+    of true y rest g = y
+    of false y rest g = rest (omega arith)
+
+pub nextFrom-found : (s e n d : ℕ) → e ≤ d → hasEvent d s ≡ true → nextFrom s e n ≤ d
+nextFrom-found s e n d l y = of (leb (nextFrom s e n) d) refl
+  where
+    of : (b : Bool) → leb (nextFrom s e n) d ≡ b → nextFrom s e n ≤ d
+    of true h = leb-true (nextFrom s e n) d h
+    of false h = absurd (true≢false (sym y ∙ nextFrom-least s e n d l (leb-false (nextFrom s e n) d h)))
+
+-- a walk f from event e on over n events, which does nothing at an event outside the set
+module _ {A : Type 0} (s : ℕ) (f : ℕ → ℕ → A) (past : (e n : ℕ) → hasEvent e s ≡ false → f e (suc n) ≡ f (suc e) n) where
+  skips : (gap e n : ℕ) → ((d : ℕ) → e ≤ d → d < e + gap → hasEvent d s ≡ false) → f e (gap + n) ≡ f (e + gap) n
+  skips zero e n none = rw (zero-add, add-zero)
+  skips (suc gap) e n none =
+      ap (f e) (suc-add gap n) ∙ past e (gap + n) (none e (omega arith) (omega arith))
+      ∙ skips gap (suc e) n (λ d l h. none d (omega arith) (omega arith))
+      ∙ ap (λ (k : ℕ). f k n) (suc-add e gap ∙ sym (add-suc e gap))
+
+  pub nextFrom-skips : (e m k count : ℕ) → e ≤ k → k ≤ nextFrom s e m → k ≤ count → f e (count - e) ≡ f k (count - k)
+  nextFrom-skips e m k count l h g =
+      let left : count - e ≡ (k - e) + (count - k) = omega arith in
+      let place : e + (k - e) ≡ k = omega arith in
+      ap (f e) left ∙ skips (k - e) e (count - k) (λ d a b. nextFrom-least s e m d a (omega arith)) ∙ ap (λ (j : ℕ). f j (count - k)) place

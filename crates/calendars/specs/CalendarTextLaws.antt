@@ -1,0 +1,242 @@
+-- The laws of the calendar's text.
+-- How long it is: an event's name has at most 22 bytes (`eventBytes-short`), a term's line 52 (`termLine-short`), and the whole text `mostCalendarBytes`, where
+-- every number of the calendar fits its type (`calendarText-short`). A line of a key and a number stands before what follows it (`keyed-append`).
+-- One turn of a writer: the next term of a side (`termLines-next`, `termLines-stop`; by what is left, `left-term`, `left-terms`), and the next job (`left-job`,
+-- `left-jobs`).
+-- What writers did: numbers as they are handed over (`stored-narrow`, `stored-line`, `stored-count`), an event's name from its parts (`stored-event`), a line and
+-- what is behind it (`stored-keyed`), and how far a term moves the place (`stored-term-near`).
+
+use Prim.Native.Nat.{ℕ, zero, suc, _+_, _*_, _-_, _/_, _^_, _≤_, _<_}
+use mathlib.Core.Path.{_≡_, sym, ap, _∙_, subst}
+use mathlib.Core.Bool.{Bool, true, false, cond}
+use mathlib.Core.List.{List, [], _∷_, _++_, append-assoc}
+use native.Mathlib.Numerals.{add-one}
+use native.Mathlib.Omega.{arith}
+use lib.Dec.{ltb}
+use lib.IntN.{ℤ, pos}
+use lib.ListN.{length, getD, length-append}
+use mir.Syntax.{w32, w64}
+use mir.Val.{SFits, toZ, ofZ}
+use mir.Facts.{toZ-ofZ, sfits-widen}
+use Rattle.whole.specs.Rules.{wholes}
+use Rattle.whole.specs.SplitLaws.{cast-wide}
+use Rattle.text.specs.Bytes.{bytes}
+use Rattle.text.specs.Lent.{Stored}
+use Rattle.text.specs.LentLaws.{stored-append, stored-number}
+use Rattle.text.specs.Lines.{LF, comma}
+use Rattle.text.specs.Numbers.{decimal, digits}
+use Rattle.text.specs.DigitLaws.{digits-short}
+use Rattle.text.specs.NumberLaws.{decimal-short, decimal-above}
+use Rattle.plan.specs.Limits.{mostJobs}
+use Rattle.plan.specs.PlanWritten.{keyed}
+use Rattle.calendars.specs.Bits.{hasEvent, mostBits, nextEvent}
+use Rattle.calendars.specs.BitsLaws.{nextFrom-past, nextFrom-has, nextFrom-skips}
+use Rattle.calendars.specs.declared.Terms.{Terms}
+use Rattle.calendars.specs.declared.Calendar.{Calendar}
+use Rattle.calendars.specs.Calendars.{eventsAhead, mostEvents, noTerms}
+use Rattle.text.specs.LeftLaws.{Left, left-past, left-end}
+use Rattle.calendars.specs.CalendarText.{eventLetter, eventKind, eventJob, eventBytes, termLine, termLines, jobHead, jobText, jobTexts, calendarText, mostJobBytes, mostCalendarBytes}
+
+-- ---- how long it is
+
+eventJob-fits : (jobs e : ℕ) → e < 2 ^ 64 → eventJob jobs e < 2 ^ 64
+eventJob-fits jobs e h = of (ltb e (2 * jobs))
+  where
+    of : (b : Bool) → cond b (e / 2) ((e - 2 * jobs) / 2) + 1 < 2 ^ 64
+    of true = omega arith
+    of false = omega arith
+
+pub eventBytes-short : (jobs e : ℕ) → e < 2 ^ 64 → length (eventBytes jobs e) ≤ 22
+eventBytes-short jobs e h = omega (arith, digits-short (eventJob jobs e) (eventJob-fits jobs e h))
+
+pub termLine-short : (jobs : ℕ) (key : List ℕ) (e : ℕ) (c : ℤ) → length key ≤ 8 → e < 2 ^ 64 → SFits w64 c → length (termLine jobs key e c) ≤ 52
+termLine-short jobs key e c k h f =
+    omega (
+      arith,
+      length-append key (eventBytes jobs e ++ (comma ∷ (decimal c ++ (LF ∷ [])))),
+      length-append (eventBytes jobs e) (comma ∷ (decimal c ++ (LF ∷ []))),
+      length-append (decimal c) (LF ∷ []),
+      eventBytes-short jobs e h,
+      decimal-short c f,
+    )
+
+-- a line of a key and a number, before s
+keyed-short : (key : List ℕ) (z : ℤ) (s : List ℕ) → length key ≤ 8 → length (decimal z) ≤ 20 → length (keyed key z s) ≤ 29 + length s
+keyed-short key z s k d = omega (arith, length-append key (decimal z ++ (LF ∷ s)), length-append (decimal z) (LF ∷ s))
+
+count-short : (n : ℕ) → n < 2 ^ 64 → length (decimal (pos n)) ≤ 20
+count-short n h = rw (decimal-above (pos n) (omega wholes)) (digits-short n h)
+
+pub keyed-append : (key : List ℕ) (z : ℤ) (s : List ℕ) → keyed key z s ≡ keyed key z [] ++ s
+keyed-append key z s = sym (append-assoc key (decimal z ++ (LF ∷ [])) s ∙ ap (λ (x : List ℕ). key ++ x) (append-assoc (decimal z) (LF ∷ []) s))
+
+-- every number of a calendar fits its type
+pub record CalendarFits (c : Calendar) : Type 0 where
+  pub low : (i : ℕ) → SFits w64 (getD (c .terms) i noTerms .low .0)
+  pub high : (i : ℕ) → SFits w64 (getD (c .terms) i noTerms .high .0)
+  pub least : (k : ℕ) → SFits w32 (getD (c .«at_least») k (pos 0))
+  pub most : (k : ℕ) → SFits w32 (getD (c .«at_most») k (pos 0))
+
+wide : {z : ℤ} → SFits w32 z → SFits w64 z
+wide f = sfits-widen tt f
+
+termLines-short : (jobs : ℕ) (key : List ℕ) (set : ℕ) (cs : List ℤ) (row : ℕ) → length key ≤ 8 → ((k : ℕ) → SFits w32 (getD cs k (pos 0)))
+    → (e n : ℕ) → e + n ≤ mostBits → length (termLines jobs key set cs row e n) ≤ 52 * n
+unfolding termLines
+termLines-short jobs key set cs row l f e zero h = omega arith
+termLines-short jobs key set cs row l f e (suc n) h = of (hasEvent e set) (termLines-short jobs key set cs row l f (suc e) n (omega arith))
+  where
+    line : List ℕ
+    line = termLine jobs key e (getD cs (row + e) (pos 0))
+
+    of : (b : Bool) → length (termLines jobs key set cs row (suc e) n) ≤ 52 * n
+        → length (cond b line [] ++ termLines jobs key set cs row (suc e) n) ≤ 52 * suc n
+    of true r = omega (arith, length-append line (termLines jobs key set cs row (suc e) n), termLine-short jobs key e (getD cs (row + e) (pos 0)) l (omega arith) (wide (f (row + e))))
+    of false r = omega arith
+
+jobHead-short : (i : ℕ) (t : Terms) → i < mostJobs → SFits w64 (t .low .0) → SFits w64 (t .high .0) → length (jobHead i t) ≤ 87
+unfolding bytes
+jobHead-short i t h f g =
+    let high = keyed (bytes "high=") (t .high .0) [] in
+    let low = keyed (bytes "low=") (t .low .0) high in
+    omega (
+      arith,
+      keyed-short (bytes "job=") (pos (i + 1)) low (omega arith) (count-short (i + 1) (omega arith)),
+      keyed-short (bytes "low=") (t .low .0) high (omega arith) (decimal-short (t .low .0) f),
+      keyed-short (bytes "high=") (t .high .0) [] (omega arith) (decimal-short (t .high .0) g),
+    )
+
+module _ (jobs : ℕ) (c : Calendar) (few : jobs ≤ mostJobs) (fits : CalendarFits c) where
+  jobText-short : (i : ℕ) → i < mostJobs → length (jobText jobs i (getD (c .terms) i noTerms) (c .«at_least») (c .«at_most»)) ≤ mostJobBytes
+  unfolding jobText bytes
+  jobText-short i h =
+      let t = getD (c .terms) i noTerms in
+      let count = eventsAhead jobs i in
+      let below = termLines jobs (bytes "atleast=") (t .below .0) (c .«at_least») (i * mostEvents) 0 count in
+      let above = termLines jobs (bytes "atmost=") (t .above .0) (c .«at_most») (i * mostEvents) 0 count in
+      omega (
+        arith,
+        length-append (jobHead i t) (below ++ above),
+        length-append below above,
+        jobHead-short i t (omega arith) (fits .low i) (fits .high i),
+        termLines-short jobs (bytes "atleast=") (t .below .0) (c .«at_least») (i * mostEvents) (omega arith) (fits .least) 0 count (omega arith),
+        termLines-short jobs (bytes "atmost=") (t .above .0) (c .«at_most») (i * mostEvents) (omega arith) (fits .most) 0 count (omega arith),
+      )
+
+  jobTexts-short : (i n : ℕ) → i + n ≤ mostJobs → length (jobTexts jobs c i n) ≤ mostJobBytes * n
+  unfolding jobTexts
+  jobTexts-short i zero h = omega arith
+  jobTexts-short i (suc n) h =
+      omega (
+        arith,
+        length-append (jobText jobs i (getD (c .terms) i noTerms) (c .«at_least») (c .«at_most»)) (jobTexts jobs c (suc i) n),
+        jobText-short i (omega arith),
+        jobTexts-short (suc i) n (omega arith),
+      )
+
+  pub calendarText-short : (m : ℕ) → m < 2 ^ 64 → length (calendarText jobs m c) ≤ mostCalendarBytes
+  unfolding calendarText bytes
+  calendarText-short m h =
+      omega (
+        arith,
+        keyed-short (bytes "settled=") (pos m) (jobTexts jobs c 0 jobs) (omega arith) (count-short m h),
+        jobTexts-short 0 jobs (omega arith),
+      )
+
+-- ---- the terms of one side
+
+module _ (jobs : ℕ) (key : List ℕ) (set : ℕ) (cs : List ℤ) (row : ℕ) where
+  termLines-past : (e n : ℕ) → hasEvent e set ≡ false → termLines jobs key set cs row e (suc n) ≡ termLines jobs key set cs row (suc e) n
+  unfolding termLines
+  termLines-past e n h = rw h
+
+  termLines-here : (e n : ℕ) → hasEvent e set ≡ true
+      → termLines jobs key set cs row e (suc n) ≡ termLine jobs key e (getD cs (row + e) (pos 0)) ++ termLines jobs key set cs row (suc e) n
+  unfolding termLines
+  termLines-here e n h = rw h
+
+  -- count events, of which those from event e on are left; k is the next one in the set
+  module _ (e k count : ℕ) (next : k ≡ nextEvent set e) where
+    pub termLines-next : e + 1 ≤ count → k < count → count ≤ mostBits
+        → termLines jobs key set cs row e (count - e)
+        ≡ termLine jobs key k (getD cs (row + k) (pos 0)) ++ termLines jobs key set cs row (k + 1) (count - (k + 1))
+    termLines-next l h m =
+        let left : count - k ≡ suc (count - (k + 1)) = omega arith in
+        nextFrom-skips set (termLines jobs key set cs row) termLines-past e mostBits k count (omega (arith, nextFrom-past set e mostBits)) (omega arith) (omega arith)
+        ∙ ap (termLines jobs key set cs row k) left
+        ∙ termLines-here k (count - (k + 1)) (rw next (nextFrom-has set e mostBits (omega arith)))
+        ∙ ap (λ (j : ℕ). termLine jobs key k (getD cs (row + k) (pos 0)) ++ termLines jobs key set cs row j (count - (k + 1))) (sym (add-one k))
+
+    pub termLines-stop : e ≤ count → count ≤ k → termLines jobs key set cs row e (count - e) ≡ []
+    unfolding termLines
+    termLines-stop l h =
+        let none : count - count ≡ 0 = omega arith in
+        nextFrom-skips set (termLines jobs key set cs row) termLines-past e mostBits count count l (omega arith) (omega arith)
+        ∙ ap (termLines jobs key set cs row count) none
+
+    -- what is left of a text, before and after the next term
+    module _ {out s o : List ℕ} {at j : ℕ} (l : Left out at s o j (termLines jobs key set cs row e (count - e))) where
+      pub left-term : {o′ : List ℕ} {j′ : ℕ} → e + 1 ≤ count → k < count → count ≤ mostBits → SFits w32 (getD cs (row + k) (pos 0))
+          → Stored o j (termLine jobs key k (toZ w32 (ofZ w32 (getD cs (row + k) (pos 0))))) o′ j′
+          → Left out at s o′ j′ (termLines jobs key set cs row (k + 1) (count - (k + 1)))
+      left-term {o′} {j′} a b m f d =
+          left-past
+          (subst (λ (t : List ℕ). Left out at s o j t) (termLines-next a b m) l)
+          (subst (λ (z : ℤ). Stored o j (termLine jobs key k z) o′ j′) (toZ-ofZ f) d)
+
+      pub left-terms : e ≤ count → count ≤ k → Stored out at s o j
+      left-terms a b = left-end (subst (λ (t : List ℕ). Left out at s o j t) (termLines-stop a b) l)
+
+-- ---- the jobs
+
+module _ (jobs : ℕ) (c : Calendar) (i count : ℕ) where
+  jobTexts-next : i < count
+      → jobTexts jobs c i (count - i)
+      ≡ jobText jobs i (getD (c .terms) i noTerms) (c .«at_least») (c .«at_most») ++ jobTexts jobs c (i + 1) (count - (i + 1))
+  unfolding jobTexts
+  jobTexts-next h = let left : count - i ≡ suc (count - (i + 1)) = omega arith in rw (left, add-one i)
+
+  jobTexts-end : count ≤ i → jobTexts jobs c i (count - i) ≡ []
+  unfolding jobTexts
+  jobTexts-end h = let left : count - i ≡ 0 = omega arith in rw left
+
+  -- what is left of a text, before and after the job at place i
+  module _ {out s o : List ℕ} {at j : ℕ} (l : Left out at s o j (jobTexts jobs c i (count - i))) where
+    pub left-job : {o′ : List ℕ} {j′ : ℕ} → i < count → Stored o j (jobText jobs i (getD (c .terms) i noTerms) (c .«at_least») (c .«at_most»)) o′ j′
+        → Left out at s o′ j′ (jobTexts jobs c (i + 1) (count - (i + 1)))
+    left-job h d = left-past (subst (λ (t : List ℕ). Left out at s o j t) (jobTexts-next h) l) d
+
+    pub left-jobs : count ≤ i → Stored out at s o j
+    left-jobs h = left-end (subst (λ (t : List ℕ). Left out at s o j t) (jobTexts-end h) l)
+
+-- ---- for writers
+
+-- a c as it is handed over
+pub stored-narrow : {out out′ : List ℕ} {at at′ : ℕ} {c : ℤ} → SFits w32 c
+    → Stored out at (decimal (toZ w64 (ofZ w64 (toZ w32 (ofZ w32 c))))) out′ at′ → Stored out at (decimal c) out′ at′
+stored-narrow f d = rw (toZ-ofZ f) at (stored-number (cast-wide tt f) d)
+
+-- a count and a LF behind a key
+pub stored-count : {out out′ : List ℕ} {at at′ : ℕ} (n : ℕ) → Stored out at (digits n) out′ at′ → Stored out at (decimal (pos n)) out′ at′
+stored-count n d = rw (decimal-above (pos n) (omega wholes)) d
+
+-- a number as it is handed over
+pub stored-line : {out out′ : List ℕ} {at at′ : ℕ} (key : List ℕ) {z : ℤ} → SFits w64 z
+    → Stored out at (keyed key (toZ w64 (ofZ w64 z)) []) out′ at′ → Stored out at (keyed key z []) out′ at′
+stored-line key f d = rw (toZ-ofZ f) at d
+
+-- a line, and the lines behind it
+pub stored-keyed : {out s o o′ : List ℕ} {at j j′ : ℕ} (key : List ℕ) (z : ℤ)
+    → Stored out at (keyed key z []) o j → Stored o j s o′ j′ → Stored out at (keyed key z s) o′ j′
+stored-keyed {s = s} key z p q = rw (keyed-append key z s) (stored-append p q)
+
+-- how far a term moves the place
+pub stored-term-near : {o o′ : List ℕ} {j j′ : ℕ} (jobs : ℕ) (key : List ℕ) (k : ℕ) {c : ℤ} → length key ≤ 8 → k < mostBits → SFits w32 c
+    → Stored o j (termLine jobs key k (toZ w32 (ofZ w32 c))) o′ j′ → j′ ≤ j + 52
+stored-term-near jobs key k {c} l h f d = omega (arith, d .place, termLine-short jobs key k (toZ w32 (ofZ w32 c)) l (omega arith) (cast-wide tt f))
+
+-- the letter, the kind and the job as they were worked out
+pub stored-event : {out out′ : List ℕ} {at at′ letter kind job : ℕ} (jobs e : ℕ)
+    → letter ≡ eventLetter jobs e → kind ≡ eventKind e → job ≡ eventJob jobs e
+    → Stored out at (letter ∷ kind ∷ digits job) out′ at′ → Stored out at (eventBytes jobs e) out′ at′
+stored-event jobs e p q r d = rw (← p, ← q, ← r) d

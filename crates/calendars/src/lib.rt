@@ -1,0 +1,44 @@
+// The calendar of a settled plan, and its text.
+
+use clock::WindowTime;
+
+// A set of events before a start, as bits in the calendar's order: the previous window's events first, by job, s before f, then the
+// present window's. The origin is not among them.
+pub struct Events(pub u64);
+
+// What bounds the start of one job: the origin's two bounds on the window's own clock, and the events that bound it from below and
+// from above.
+pub struct Terms {
+    pub low: WindowTime,
+    pub high: WindowTime,
+    pub below: Events,
+    pub above: Events,
+}
+
+// The most events before a start: a start and a finish for each job of two windows.
+pub const MOST_EVENTS: usize = 36;
+
+const MOST_TERMS: usize = 324;
+
+// A calendar. The c of event e for the job at place i stands at i * MOST_EVENTS + e, of `at_least` in start >= E + c and of `at_most` in
+// start <= E + c; places that no bit names are no part of the calendar, and hold zeros where the calendar was made here.
+pub struct Calendar {
+    pub terms: [Terms; plan::MOST_JOBS],
+    pub at_least: [i32; MOST_TERMS],
+    pub at_most: [i32; MOST_TERMS],
+}
+
+// The two sides of a start: the events that bound it from below, and those that bound it from above.
+enum Side {
+    Below,
+    Above,
+}
+
+mod bits;
+mod print;
+mod recorded;
+mod walk;
+
+pub use print::put_calendar;
+pub use walk::calendar_of;
+pub use walk::empty_calendar;
