@@ -3,6 +3,7 @@
 -- is. These files are definitions alone; the laws stand after them.
 pub mod Limits
 pub mod Refusals
+pub mod Written
 pub mod Reading
 pub mod EventNames
 pub mod PlanRead
@@ -13,6 +14,7 @@ pub mod PlanAnswers
 pub mod ReadAt
 pub mod Accepted
 -- ---- laws
+pub mod WrittenLaws
 pub mod EventNameLaws
 pub mod ListLaws
 pub mod PairLaws

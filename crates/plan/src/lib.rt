@@ -85,6 +85,12 @@ pub enum Refusal {
     NoRoom,
 }
 
+// What writing into a lent slice comes to: the length written; or the refusal, which is 12.
+pub enum Written {
+    Length(usize),
+    Refused(Refusal),
+}
+
 // An event's name as it was read; Bad where the bytes are no name.
 pub enum NameRead {
     Value(EventName),
@@ -189,6 +195,7 @@ mod number_line;
 mod pairs;
 mod reader;
 mod refusals;
+mod refused;
 
 pub use names::event_name;
 pub use reader::read_head;
@@ -197,3 +204,5 @@ pub use refusals::ends;
 pub use refusals::fault_at;
 pub use refusals::number;
 pub use refusals::value;
+pub use refused::put_refused;
+pub use refused::write_refused;

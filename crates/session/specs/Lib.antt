@@ -3,7 +3,6 @@
 pub mod StepRead
 pub mod AnswerText
 pub mod Sessions
-pub mod Written
 pub mod StepAt
 pub mod Judged
 -- ---- laws
@@ -11,7 +10,6 @@ pub mod StepReadLaws
 pub mod AnswerTextLaws
 pub mod SessionLaws
 pub mod GoingLaws
-pub mod WrittenLaws
 pub mod JudgedLaws
 pub mod HeadLaws
 pub mod Unique

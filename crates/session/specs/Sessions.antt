@@ -9,6 +9,8 @@ use Rattle.plan.specs.declared.Refusal.the-variants as refusal
 use Rattle.plan.specs.Refusals.{refusedLine}
 use Rattle.plan.specs.Reading.{Reading, read, refused}
 use Rattle.plan.specs.PlanRead.{planHead}
+use Rattle.plan.specs.declared.Written.{Written}
+use Rattle.plan.specs.Written.{writtenAs}
 use Rattle.calendars.specs.declared.Calendar.{Calendar}
 use Rattle.rounds.specs.Rounds.{Outcome, settled, noStrategy, unsettled, outcome}
 use Rattle.calendars.specs.Calendars.{calendar}
@@ -57,3 +59,7 @@ sessionOf (refused x part) = refusedLine x
 
 abbrev pub dispatchOutput : List ℕ → List ℕ
 dispatchOutput s = sessionOf (planHead s)
+
+-- the answer to a session text and a lent slice
+abbrev pub sessionAnswer : List ℕ → List ℕ → Written
+sessionAnswer s out = writtenAs (dispatchOutput s) out

@@ -5,10 +5,9 @@ use Prim.Native.Nat.{ℕ}
 use Rattle.text.specs.Unique.{only}
 use Rattle.text.specs.Lent.{written}
 use Rattle.session.specs.declared.StepLine.{StepLine}
-use Rattle.session.specs.declared.Written.{Written}
+use Rattle.plan.specs.declared.Written.{Written}
 use Rattle.session.specs.StepRead.{stepIn}
-use Rattle.session.specs.Sessions.{dispatchOutput}
-use Rattle.session.specs.Written.{sessionAnswer}
+use Rattle.session.specs.Sessions.{dispatchOutput, sessionAnswer}
 
 pub read-step-unique : (l : List ℕ) {r q : StepLine} → r ≡ stepIn l → q ≡ stepIn l → r ≡ q
 read-step-unique l = only

@@ -16,8 +16,8 @@ ghost use Rattle.rounds.specs.Rounds.{outcome};
 ghost use Rattle.plan.specs.declared.PlanAnswer.the-variants as planAnswer;
 ghost use Rattle.plan.specs.PlanRead.{planHead};
 ghost use Rattle.plan.specs.PlanAnswers.{planRead};
-ghost use Rattle.session.specs.Sessions.{judgedSession, dispatchOutput};
-ghost use Rattle.session.specs.Written.{writtenAs, sessionAnswer};
+ghost use Rattle.session.specs.Sessions.{judgedSession, dispatchOutput, sessionAnswer};
+ghost use Rattle.plan.specs.Written.{writtenAs};
 ghost use Rattle.session.specs.Judged.{Judged};
 
 // The answers of a session whose plan was judged: the steps', from a place of the text on, or the plan's one line.
@@ -94,17 +94,4 @@ pub fn answer_judged(
 {
     let p = head.plan;
     write_session(text, head.at, head.line, p, v, c, out)
-}
-
-// The one line of a refused plan.
-fn write_refused(out: &mut [u8], x: Refusal) -> Written
-    ensures { λ r. ⌜ r ≡ writtenAs (refusedLine x) (now (out .entry)) ⌝ }
-    ensures { λ _. ⌜ now (out .exit) ≡ written (refusedLine x) (now (out .entry)) ⌝ }
-{
-    let length_of_line = put_refused(&mut out[..0], 0, x);
-    if out.len() < length_of_line {
-        return Written::Refused(Refusal::NoRoom);
-    }
-    let length = put_refused(out, 0, x);
-    Written::Length(length)
 }

@@ -19,12 +19,6 @@ enum StepAt {
     Bad(Refusal),
 }
 
-// What writing into a lent slice comes to: the length written; or the refusal, which is 12.
-pub enum Written {
-    Length(usize),
-    Refused(Refusal),
-}
-
 mod answer;
 mod print;
 mod read;

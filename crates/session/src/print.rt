@@ -1,6 +1,5 @@
 // Answer lines, written into a lent slice: each writer stores its line from a place on, as far as there is room, and answers the place behind it.
 use clock::RunTime;
-use plan::Refusal;
 use runs::Answer;
 use runs::Offer;
 ghost use mathlib.Core.Path.{_≡_};
@@ -9,18 +8,7 @@ ghost use Prim.Native.Nat.{_+_, _^_, _≤_};
 ghost use Rattle.text.specs.Bytes.{bytes};
 ghost use Rattle.text.specs.Numbers.{digits, decimal};
 ghost use Rattle.text.specs.Lent.{Stored};
-ghost use Rattle.plan.specs.Refusals.{refusedLine};
 ghost use Rattle.session.specs.AnswerText.{turnText, offerLine, answerLine, endsSession};
-
-// The digits of n, and the byte behind them.
-fn put_ended_count(out: &mut [u8], at: usize, n: u64, end: u8) -> usize
-    requires { ⌜ at ≤ 2 ^ 61 ⌝ }
-    ensures { λ r. ⌜ Stored (now (out .entry)) at (digits n ++ (end ∷ [])) (now (out .exit)) r ⌝ }
-    ensures { λ r. ⌜ r ≤ at + 21 ⌝ }
-{
-    let behind = text::put_count(out, at, n);
-    text::put_byte(out, behind, end)
-}
 
 // A time, and the byte behind it.
 fn put_ended_time(out: &mut [u8], at: usize, t: RunTime, end: u8) -> usize
@@ -29,8 +17,7 @@ fn put_ended_time(out: &mut [u8], at: usize, t: RunTime, end: u8) -> usize
     ensures { λ r. ⌜ r ≤ at + 21 ⌝ }
 {
     let time = t.0;
-    let behind = text::put_number(out, at, time);
-    text::put_byte(out, behind, end)
+    text::put_ended_number(out, at, time, end)
 }
 
 // Window, job and time, up to the line's end.
@@ -39,8 +26,8 @@ fn put_turn(out: &mut [u8], at: usize, j: u64, i: usize, t: RunTime) -> usize
     ensures { λ r. ⌜ Stored (now (out .entry)) at (turnText j i (t .0)) (now (out .exit)) r ⌝ }
     ensures { λ r. ⌜ r ≤ at + 63 ⌝ }
 {
-    let job = put_ended_count(out, at, j, b',');
-    let time = put_ended_count(out, job, i as u64, b',');
+    let job = text::put_ended_count(out, at, j, b',');
+    let time = text::put_ended_count(out, job, i as u64, b',');
     put_ended_time(out, time, t, b'\n')
 }
 
@@ -77,19 +64,6 @@ fn put_final(out: &mut [u8], at: usize, j: u64, i: usize, t: RunTime) -> usize
     put_turn(out, turn, j, i, t)
 }
 
-// The line of a refusal.
-pub fn put_refused(out: &mut [u8], at: usize, x: Refusal) -> usize
-    requires { ⌜ at ≤ 2 ^ 59 ⌝ }
-    ensures { λ r. ⌜ Stored (now (out .entry)) at (refusedLine x) (now (out .exit)) r ⌝ }
-    ensures { λ r. ⌜ r ≤ at + 71 ⌝ }
-{
-    let number = plan::number(x);
-    let value = plan::value(x);
-    let first = text::put_bytes(out, at, b"refused=");
-    let second = put_ended_count(out, first, number, b',');
-    put_ended_count(out, second, value, b'\n')
-}
-
 // The line of an answer.
 pub fn put_answer(out: &mut [u8], at: usize, a: Answer) -> usize
     requires { ⌜ at ≤ 2 ^ 59 ⌝ }
@@ -104,7 +78,7 @@ pub fn put_answer(out: &mut [u8], at: usize, a: Answer) -> usize
             job,
             finish,
         } => put_final(out, at, window, job, finish),
-        Answer::Refused(x) => put_refused(out, at, x),
+        Answer::Refused(x) => plan::put_refused(out, at, x),
     }
 }
 

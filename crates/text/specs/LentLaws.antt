@@ -6,7 +6,7 @@
 -- For writers: one turn of the copy (`put-past`, `put-end`), and digits from the last one on (`put-last`, `put-digits-more`,
 -- `put-digits-one`).
 
-use Prim.Native.Nat.{ℕ, suc, _+_, _/_, _%_, _≤_, _<_}
+use Prim.Native.Nat.{ℕ, suc, _+_, _/_, _%_, _≤_, _<_, _^_}
 use mathlib.Core.Path.{_≡_, refl, sym, ap, _∙_}
 use mathlib.Core.List.{List, [], _∷_, _++_}
 use native.Mathlib.Nat.{add-zero, add-suc, suc-add, zero-add}
@@ -20,7 +20,7 @@ use mir.Syntax.{w64}
 use mir.Val.{SFits, toZ, ofZ}
 use mir.Facts.{toZ-ofZ}
 use Rattle.text.specs.Numbers.{zeroDigit, digits, decimal}
-use Rattle.text.specs.DigitLaws.{digits-one, digits-more, digits-length-one, digits-length-more}
+use Rattle.text.specs.DigitLaws.{digits-short, digits-one, digits-more, digits-length-one, digits-length-more}
 use Rattle.text.specs.NumberLaws.{decimal-short}
 use Rattle.text.specs.Lent.{written, put, Stored}
 
@@ -111,3 +111,11 @@ stored-number f p = rw (toZ-ofZ f) at p
 -- how far a number moves the place
 pub stored-near : {out out′ : List ℕ} {at at′ : ℕ} {z : ℤ} → SFits w64 z → Stored out at (decimal (toZ w64 (ofZ w64 z))) out′ at′ → at′ ≤ at + 20
 stored-near {z = z} f p = omega (arith, stored-number f p .place, decimal-short z f)
+
+-- ---- a number and the byte behind it move the place by at most 21
+
+pub count-near : (n b : ℕ) {out out′ : List ℕ} {at at′ : ℕ} → n < 2 ^ 64 → Stored out at (digits n ++ (b ∷ [])) out′ at′ → at′ ≤ at + 21
+count-near n b h p = omega (arith, p .place, digits-short n h, length-append (digits n) (b ∷ []))
+
+pub number-near : (z : ℤ) (b : ℕ) {out out′ : List ℕ} {at at′ : ℕ} → SFits w64 z → Stored out at (decimal z ++ (b ∷ [])) out′ at′ → at′ ≤ at + 21
+number-near z b f p = omega (arith, p .place, decimal-short z f, length-append (decimal z) (b ∷ []))

@@ -22,10 +22,13 @@ enum Digits {
 // Above every i64; a number below a tenth of it has room for one more digit.
 const TOO_LARGE: u64 = 10_000_000_000_000_000_000;
 
+mod ended;
 mod line;
 mod numbers;
 mod write;
 
+pub use ended::put_ended_count;
+pub use ended::put_ended_number;
 pub use line::has_key;
 pub use line::len_to;
 pub use numbers::number_after;

@@ -1,7 +1,7 @@
 -- `answer_judged`: from where the plan ended on the session says what its verdict says, by `head-accepted`.
 use denote.Ref.{now}
 use Rattle.session.specs.HeadLaws.{HeadRead, head-accepted}
-use Rattle.session.specs.WrittenLaws.{wrote-as}
+use Rattle.plan.specs.WrittenLaws.{wrote-as}
 use borrow.Author.Needs.{needs}
 use Rattle.session.proofs.answer.answer_judged.Statement.{statement}
 use Rattle.session.proofs.answer.answer_judged.Tie as tie

@@ -7,7 +7,7 @@ use Rattle.runs.specs.declared.Run.{Run}
 use Rattle.runs.specs.Inside.{Inside}
 use Rattle.session.specs.Sessions.{answers}
 use Rattle.session.specs.JudgedLaws.{judged-inside, judged-settled, judged-refused, judged-unsettled}
-use Rattle.session.specs.WrittenLaws.{stored-as}
+use Rattle.plan.specs.WrittenLaws.{stored-as}
 use borrow.Author.Needs.{needs}
 use Rattle.session.proofs.answer.put_session.Statement.{statement}
 use Rattle.session.proofs.answer.put_session.Tie as tie

@@ -1,7 +1,7 @@
 -- `write_session`: what surely has room is written (`stored-whole`), all else by its measure (`measured-none`, `measured-whole`).
 use mathlib.Core.Path.{refl}
 use native.Mathlib.Omega.{arith}
-use Rattle.session.specs.WrittenLaws.{stored-whole, measured-none, measured-whole}
+use Rattle.plan.specs.WrittenLaws.{stored-whole, measured-none, measured-whole}
 use borrow.Author.Needs.{needs}
 use Rattle.session.proofs.answer.write_session.Statement.{statement}
 use Rattle.session.proofs.answer.write_session.Tie as tie

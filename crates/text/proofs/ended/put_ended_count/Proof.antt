@@ -1,11 +1,10 @@
 -- `put_ended_count`: the digits and the byte, in a row (`stored-append`), and how far they go (`count-near`).
 use native.Mathlib.Omega.{arith}
 use Rattle.text.specs.DigitLaws.{digits-short}
-use Rattle.text.specs.LentLaws.{stored-append}
-use Rattle.session.specs.AnswerTextLaws.{count-near}
+use Rattle.text.specs.LentLaws.{stored-append, count-near}
 use borrow.Author.Needs.{needs}
-use Rattle.session.proofs.print.put_ended_count.Statement.{statement}
-use Rattle.session.proofs.print.put_ended_count.Tie as tie
+use Rattle.text.proofs.ended.put_ended_count.Statement.{statement}
+use Rattle.text.proofs.ended.put_ended_count.Tie as tie
 
 put-count-requires : tie.Need-put-count-requires
 put-count-requires c κs = search needs

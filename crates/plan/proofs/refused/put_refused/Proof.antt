@@ -1,10 +1,10 @@
 -- `put_refused`: the key and two counts in a row, by `refusedLine-stored`.
 use native.Mathlib.Omega.{arith}
 use Rattle.text.specs.Bytes.{bytes}
-use Rattle.session.specs.AnswerTextLaws.{refusedLine-stored}
+use Rattle.plan.specs.WrittenLaws.{refusedLine-stored}
 use borrow.Author.Needs.{needs}
-use Rattle.session.proofs.print.put_refused.Statement.{statement}
-use Rattle.session.proofs.print.put_refused.Tie as tie
+use Rattle.plan.proofs.refused.put_refused.Statement.{statement}
+use Rattle.plan.proofs.refused.put_refused.Tie as tie
 
 number-requires : tie.Need-number-requires
 number-requires c κs = search needs

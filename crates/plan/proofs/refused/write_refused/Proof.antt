@@ -1,9 +1,9 @@
 -- `write_refused`: by the measure of the line (`measured-none`, `measured-whole`).
 use mathlib.Core.Path.{refl}
-use Rattle.session.specs.WrittenLaws.{measured-none, measured-whole}
+use Rattle.plan.specs.WrittenLaws.{measured-none, measured-whole}
 use borrow.Author.Needs.{needs}
-use Rattle.session.proofs.answer.write_refused.Statement.{statement}
-use Rattle.session.proofs.answer.write_refused.Tie as tie
+use Rattle.plan.proofs.refused.write_refused.Statement.{statement}
+use Rattle.plan.proofs.refused.write_refused.Tie as tie
 
 slice-relend-prefix-put-refused : tie.Need-slice-relend-prefix-put-refused
 slice-relend-prefix-put-refused c = search needs

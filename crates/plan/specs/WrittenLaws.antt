@@ -6,16 +6,21 @@
 use Prim.Native.Nat.{ℕ, _+_, _≤_, _<_}
 use mathlib.Core.Path.{_≡_, refl, sym, ap, subst, _∙_}
 use mathlib.Core.Bool.{Bool, true, false, cond}
-use mathlib.Core.List.{List, [], _∷_, _++_}
+use mathlib.Core.List.{List, [], _∷_, _++_, append-assoc}
 use native.Mathlib.Omega.{arith}
 use lib.ListN.{length}
 use borrow.Author.Tests.{le-leb, lt-leb}
 use Rattle.text.specs.Lent.{written, put, Stored}
-use Rattle.text.specs.LentLaws.{put-length, put-written}
+use Rattle.text.specs.LentLaws.{put-length, put-written, stored-append}
+use Rattle.text.specs.Bytes.{bytes}
+use Rattle.text.specs.Lines.{LF, comma}
+use Rattle.text.specs.Numbers.{digits}
+use Rattle.plan.specs.declared.Refusal.{Refusal}
 use Rattle.plan.specs.declared.Refusal.the-variants as refusal
-use Rattle.session.specs.declared.Written.{Written}
-use Rattle.session.specs.declared.Written.the-variants.{Length, Refused}
-use Rattle.session.specs.Written.{writtenAs}
+use Rattle.plan.specs.Refusals.{number, value, refusedLine}
+use Rattle.plan.specs.declared.Written.{Written}
+use Rattle.plan.specs.declared.Written.the-variants.{Length, Refused}
+use Rattle.plan.specs.Written.{writtenAs}
 
 -- what a writer of a whole text answers and leaves
 pub record WroteAll (t out : List ℕ) (r : Written) (out′ : List ℕ) : Type 0 where
@@ -66,3 +71,14 @@ module _ {t out o o′ : List ℕ} {n : ℕ} (p : Stored o 0 t o′ n) (h : leng
 pub wrote-as : (out : List ℕ) {t u o : List ℕ} {r : Written} → t ≡ u → (r ≡ writtenAs t out) × (o ≡ written t out) → (r ≡ writtenAs u out) × (o ≡ written u out)
 wrote-as out e w =
     (w .0 ∙ ap (λ (s : List ℕ). writtenAs s out) e, w .1 ∙ ap (λ (s : List ℕ). written s out) e)
+
+-- ---- the line of a refusal, stored part by part
+
+module _ {out out′ out″ out‴ : List ℕ} {at at′ at″ at‴ : ℕ} where
+  pub refusedLine-stored : (x : Refusal) {n d : ℕ} → n ≡ number x → d ≡ value x
+      → Stored out at (bytes "refused=") out′ at′ → Stored out′ at′ (digits n ++ (comma ∷ [])) out″ at″ → Stored out″ at″ (digits d ++ (LF ∷ [])) out‴ at‴
+      → Stored out at (refusedLine x) out‴ at‴
+  unfolding refusedLine
+  refusedLine-stored x {n} {d} a b p q r =
+      let e : (digits n ++ (comma ∷ [])) ++ (digits d ++ (LF ∷ [])) ≡ digits n ++ (comma ∷ (digits d ++ (LF ∷ []))) = simp append-assoc in
+      rw (← a, ← b) (stored-append p (rw e at (stored-append q r)))
