@@ -1,11 +1,11 @@
 // A session's answer, written into a lent slice or refused by 12.
-use crate::Written;
-use crate::print::put_refused;
 use crate::steps::put_answers;
 use calendars::Calendar;
 use plan::Plan;
 use plan::PlanRead;
 use plan::Refusal;
+use plan::Written;
+use plan::put_refused;
 use rounds::Verdict;
 ghost use mathlib.Core.Path.{_≡_};
 ghost use Prim.Native.Nat.{_+_, _*_, _-_, _≤_};

@@ -2,10 +2,10 @@
 use crate::StepAt;
 use crate::print::ends_session;
 use crate::print::put_answer;
-use crate::print::put_refused;
 use crate::read::read_step_at;
 use calendars::Calendar;
 use plan::Plan;
+use plan::put_refused;
 use runs::Due;
 use runs::Run;
 ghost use mathlib.Core.Path.{_≡_};

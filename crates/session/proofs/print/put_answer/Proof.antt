@@ -1,5 +1,6 @@
 -- `put_answer`: each arm is a clause of `answerLine`.
 use Rattle.session.specs.AnswerText.{answerLine}
+use native.Mathlib.Omega.{arith}
 use borrow.Author.Needs.{needs}
 use Rattle.session.proofs.print.put_answer.Statement.{statement}
 use Rattle.session.proofs.print.put_answer.Tie as tie
@@ -54,7 +55,9 @@ same-length-4 c = search needs
 
 returns-4 : tie.Need-returns-4
 unfolding answerLine
-returns-4 c = rw (c .before .before .before .before .before .a4 .given .1) (c .before .before .put-refused .ensures)
+returns-4 c =
+    let w = c .before .before .put-refused .ensures in
+    rw (c .before .before .before .before .before .a4 .given .1) (w .0, omega (arith, w .1))
 
 pub put-answer-spec : {M : Type 1} → statement M
 put-answer-spec =

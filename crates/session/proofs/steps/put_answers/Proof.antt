@@ -51,7 +51,7 @@ returns c =
     let a = c .before .before .before .before .before .before .before .before .before .before .before .before .before .before .args in
     let d =
     going-refused (a .t4) (a .t5) (now (a .text)) (now (a .out)) (a .from) (a .line) (a .at) (a .run) (l .loop .out) (l .loop .run) (l .loop .place) (l .loop .number) (l .loop .end) (l .loop .inv)
-    (c .before .before .before .before .before .before .before .before .loop-test .taken) _ _ (c .before .before .put-refused .ensures .1) _ (c .before .before .before .before .before .before .before .read-step-at .ensures .0 ∙ ap (stepTold _ _ _) (c .before .before .before .before .before .read .given .1)) (c .before .before .put-refused .ensures .0) in
+    (c .before .before .before .before .before .before .before .before .loop-test .taken) (c .before .before .put-refused .last .0) (c .before .before .put-refused .result) (omega (arith, c .before .before .put-refused .ensures .1)) _ (c .before .before .before .before .before .before .before .read-step-at .ensures .0 ∙ ap (stepTold _ _ _) (c .before .before .before .before .before .read .given .1)) (c .before .before .put-refused .ensures .0) in
     (d .stored, d .short)
 
 enum-known-read-2 : tie.Need-enum-known-read-2 Inv-loop μ-loop
