@@ -9,3 +9,4 @@ pub mod Put
 pub mod SameLaws
 pub mod PutLaws
 pub mod GivenLaws
+pub mod NamedLaws
