@@ -1,9 +1,9 @@
 -- The own bounds and the bounds between windows name events that an accepted plan has, with weights below the mark (`own-named`, `own-named-both`,
 -- `between-named`). So the own bounds, put into an empty array, are C(0) (`own-is`).
-use Prim.Native.Nat.{ℕ, zero, suc, _+_, _*_, _-_, _≤_, _<_}
-use mathlib.Core.Path.{_≡_, refl, sym, ap, subst, _∙_}
+use Prim.Native.Nat.{ℕ, zero, suc, _+_, _-_, _≤_, _<_}
+use mathlib.Core.Path.{_≡_, refl, subst}
 use mathlib.Core.Bool.{Bool, true, false, cond, _||_}
-use mathlib.Core.List.{List, [], _∷_, _++_}
+use mathlib.Core.List.{List, [], _∷_}
 use native.Mathlib.Omega.{arith}
 use lib.IntN.{ℤ, pos, negℤ}
 use lib.Signed.{_≤ℤ_, _<ℤ_}
@@ -23,7 +23,7 @@ use Rattle.plan.specs.PlanWritten.{boundsOf}
 use Rattle.plan.specs.Accepted.{BoundAccepted, Accepted}
 use Rattle.plan.specs.ListLaws.{All}
 use Rattle.bounds.specs.declared.Event.{Event}
-use Rattle.bounds.specs.declared.Event.the-variants.{Origin, Start, Finish}
+use Rattle.bounds.specs.declared.Event.the-variants.{Start, Finish}
 use Rattle.bounds.specs.Events.{nodeOf, earliest, latest, eventOf, nodes}
 use Rattle.bounds.specs.BuildLaws.{eventOf-nodeOf}
 use Rattle.bounds.specs.FitLaws.{earliest-in, latest-in}
