@@ -10,3 +10,4 @@ pub mod SameLaws
 pub mod PutLaws
 pub mod GivenLaws
 pub mod NamedLaws
+pub mod PutGivenLaws

@@ -1,12 +1,22 @@
-// The events that a plan's given bounds name.
+// A plan's given bounds: the events that they name, and how they are put into a table.
+use bounds::Table;
+use bounds::put;
+use plan::Bound;
 use plan::EventName;
 use plan::Kind;
 use plan::Letter;
 use plan::Plan;
 ghost use mathlib.Core.Path.{_≡_};
+ghost use mathlib.Core.Bool.{_||_};
+ghost use mathlib.Core.List.{[], _∷_};
 ghost use Prim.Native.Nat.{_≤_};
+ghost use Rattle.plan.specs.EventNames.{isNext};
+ghost use Rattle.plan.specs.PlanWritten.{boundsOf};
+ghost use Rattle.plan.specs.Accepted.{BoundAccepted};
 ghost use Rattle.bounds.specs.Events.{nodeOf};
-ghost use Rattle.rounds.specs.Given.{placeOf, named};
+ghost use Rattle.bounds.specs.Flat.{AllTimed, flat, putBounds};
+ghost use Rattle.bounds.specs.Fit.{Clocked};
+ghost use Rattle.rounds.specs.Given.{placeOf, named, meant, givenBounds};
 
 // The place of job i of this window or of the next.
 fn place_of(p: Plan, letter: Letter, i: usize) -> usize
@@ -32,4 +42,81 @@ pub fn node_of(p: Plan, e: EventName) -> usize
         Kind::Start => 1 + 2 * k,
         Kind::Finish => 2 + 2 * k,
     }
+}
+
+// '`bound=A,B,c` means A - B <= c', put into a table. Answers whether there is a contradiction.
+fn put_bound<'a>(
+    weights: &mut [i32; Table::SIZE],
+    early: &'a [i32; Table::SIDE],
+    late: &'a [i32; Table::SIDE],
+    p: Plan,
+    d: Bound,
+) -> bool
+    requires { ⌜ (AllTimed (now early) (now late)) × (p .jobs ≤ 9) × (BoundAccepted (p .jobs) d) ⌝ }
+    ensures { λ r. ⌜ flat r (now (weights .exit)) ≡ putBounds (now (early .entry)) (now (late .entry)) (meant p d ∷ []) (now (weights .entry)) ⌝ }
+{
+    let a = d.a;
+    let b = d.b;
+    let c = d.c;
+    let y = node_of(p, b);
+    let z = node_of(p, a);
+    put(weights, early, late, y, z, c, 0)
+}
+
+// Whether one of two letters is n.
+fn one_next(a: Letter, b: Letter) -> bool
+    ensures { λ r. ⌜ r ≡ (isNext a || isNext b) ⌝ }
+{
+    match a {
+        Letter::This => match b {
+            Letter::This => false,
+            Letter::Next => true,
+        },
+        Letter::Next => true,
+    }
+}
+
+// A given bound, where it is one of those that are put: those with an n event, or those with two t events.
+fn put_due<'a>(
+    weights: &mut [i32; Table::SIZE],
+    early: &'a [i32; Table::SIDE],
+    late: &'a [i32; Table::SIDE],
+    p: Plan,
+    d: Bound,
+    between: bool,
+) -> bool
+    requires { ⌜ (AllTimed (now early) (now late)) × (p .jobs ≤ 9) × (BoundAccepted (p .jobs) d) ⌝ }
+    ensures { λ r. ⌜ flat r (now (weights .exit)) ≡ putBounds (now (early .entry)) (now (late .entry)) (givenBounds p between (d ∷ [])) (now (weights .entry)) ⌝ }
+{
+    let a = d.a;
+    let b = d.b;
+    let first = a.letter;
+    let second = b.letter;
+    if one_next(first, second) != between {
+        return false;
+    }
+    put_bound(weights, early, late, p, d)
+}
+
+// 'all given bounds with an n event', or 'all given bounds with two t events'.
+pub fn put_given<'a>(
+    weights: &mut [i32; Table::SIZE],
+    early: &'a [i32; Table::SIDE],
+    late: &'a [i32; Table::SIDE],
+    p: Plan,
+    between: bool,
+) -> bool
+    requires { ⌜ Clocked p (now early) (now late) ⌝ }
+    ensures { λ r. ⌜ flat r (now (weights .exit)) ≡ putBounds (now (early .entry)) (now (late .entry)) (givenBounds p between (boundsOf p)) (now (weights .entry)) ⌝ }
+{
+    let count = p.bounds;
+    let mut i = 0;
+    while i < count {
+        let d = p.bound[i];
+        if put_due(weights, early, late, p, d, between) {
+            return true;
+        }
+        i += 1;
+    }
+    false
 }
