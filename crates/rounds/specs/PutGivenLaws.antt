@@ -1,6 +1,6 @@
 -- How the given bounds are put: one by its nodes (`meant-is`), where it is due (`given-due`, `given-other`), and one place after the other (`given-first`,
--- `given-end`).
-use Prim.Native.Nat.{ℕ, _+_, _≤_, _<_}
+-- `given-end`), after the bounds that every plan has (`ownBounds-is`, `betweenBounds-is`).
+use Prim.Native.Nat.{ℕ, _+_, _-_, _≤_, _<_}
 use mathlib.Core.Path.{_≡_, refl, ap, ap₂, _∙_}
 use mathlib.Core.Bool.{Bool, true, false, cond, Bool·beq}
 use mathlib.Core.List.{List, [], _∷_, _++_}
@@ -17,7 +17,7 @@ use Rattle.plan.specs.Accepted.{Accepted}
 use Rattle.bounds.specs.Events.{nodeOf}
 use Rattle.bounds.specs.Flat.{putAt, putBounds}
 use Rattle.bounds.specs.BoundsLaws.{putBounds-one}
-use Rattle.rounds.specs.Given.{named, meant, hasNext, givenBounds}
+use Rattle.rounds.specs.Given.{named, meant, hasNext, givenBounds, inOrder, ranges, orders, ownBounds, betweenBounds}
 
 -- ---- one bound
 
@@ -79,3 +79,13 @@ module _ (p : Plan) (accepted : Accepted p) (between : Bool) (i : ℕ) where
 
   pub given-end : p .bounds ≤ i → givenBounds p between (drop i (boundsOf p)) ≡ []
   given-end h = ap (givenBounds p between) (drop-of-length-le (boundsOf p) {i = i} (simp length-take (omega arith))) ∙ given-nil p between
+
+-- ---- after the bounds that every plan has
+
+pub ownBounds-is : (p : Plan) → ownBounds p ≡ ranges p (p .jobs) ++ (orders (p .jobs - 1) ++ givenBounds p false (boundsOf p))
+unfolding ownBounds
+ownBounds-is p = refl
+
+pub betweenBounds-is : (p : Plan) → betweenBounds p ≡ (inOrder (p .jobs - 1) ∷ []) ++ givenBounds p true (boundsOf p)
+unfolding betweenBounds
+betweenBounds-is p = refl

@@ -1,13 +1,16 @@
-// 'A window's own bounds', put into a table.
+// 'A window's own bounds' and the bounds between windows, put into a table.
+use crate::given::put_given;
 use bounds::Table;
 use bounds::put;
+use plan::Plan;
 ghost use mathlib.Core.Path.{_≡_};
 ghost use Prim.Native.Nat.{ℕ, _+_, _*_, _≤_, _<_};
 ghost use Rattle.bounds.specs.declared.Event.the-variants.{Start, Finish};
 ghost use Rattle.bounds.specs.Events.{startNode, eventOf};
 ghost use Rattle.bounds.specs.Flat.{AllTimed, flat, putBounds};
 ghost use mathlib.Core.List.{[], _∷_};
-ghost use Rattle.rounds.specs.Given.{inOrder, orders};
+ghost use Rattle.bounds.specs.Fit.{Clocked};
+ghost use Rattle.rounds.specs.Given.{inOrder, orders, ownBounds, betweenBounds};
 ghost use Rattle.rounds.specs.Put.{rangeOf, rangeOfPlace, rangesOf};
 
 // 'each event lies between earliest and latest': the event of node y. Answers whether there is a contradiction.
@@ -96,4 +99,42 @@ fn put_orders<'a>(
         }
     }
     false
+}
+
+// 'A window's own bounds'. Answers whether there is a contradiction.
+pub fn put_own<'a>(
+    weights: &mut [i32; Table::SIZE],
+    early: &'a [i32; Table::SIDE],
+    late: &'a [i32; Table::SIDE],
+    p: Plan,
+) -> bool
+    requires { ⌜ Clocked p (now early) (now late) ⌝ }
+    ensures { λ r. ⌜ flat r (now (weights .exit)) ≡ putBounds (now (early .entry)) (now (late .entry)) (ownBounds p) (now (weights .entry)) ⌝ }
+{
+    let jobs = p.jobs;
+    if put_ranges(weights, early, late, jobs) {
+        return true;
+    }
+    let last = jobs - 1;
+    if put_orders(weights, early, late, last) {
+        return true;
+    }
+    put_given(weights, early, late, p, false)
+}
+
+// The bounds between windows. Answers whether there is a contradiction.
+pub fn put_between<'a>(
+    weights: &mut [i32; Table::SIZE],
+    early: &'a [i32; Table::SIDE],
+    late: &'a [i32; Table::SIDE],
+    p: Plan,
+) -> bool
+    requires { ⌜ Clocked p (now early) (now late) ⌝ }
+    ensures { λ r. ⌜ flat r (now (weights .exit)) ≡ putBounds (now (early .entry)) (now (late .entry)) (betweenBounds p) (now (weights .entry)) ⌝ }
+{
+    let last = p.jobs - 1;
+    if put_order(weights, early, late, last) {
+        return true;
+    }
+    put_given(weights, early, late, p, true)
 }
