@@ -39,8 +39,8 @@ put-requires c κs =
     let to = named-both p (d .a) (ok .a-least) (ok .a-most) in
     let y = c .before .before .node-of .ensures in
     let z = c .before .node-of2 .ensures in (
-      s .pre .0 (c .before .before .node-of .result) (omega arith),
-      s .pre .0 (c .before .node-of2 .result) (omega arith),
+      s .pre .0 _ (omega arith),
+      s .pre .0 _ (omega arith),
       λ e. subst (λ v. SFits w32 (v +ℤ pos 0)) (sym (toZ-ofZ (c-fits ok))) (c-sum-fits ok),
     )
 

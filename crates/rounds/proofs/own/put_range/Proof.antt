@@ -66,9 +66,10 @@ put-requires-2 c κs =
     let s = c .before .before .before .before .before .before in
     let a = s .args in
     let t = timeAt (a .early .now) (a .y) in
-    let in-range = s .pre .0 (a .y) (s .pre .1) .early-in in (
-      s .pre .0 (a .y) (s .pre .1),
-      s .pre .0 0 (omega arith),
+    let in-range = s .pre .0 (a .y) (s .pre .1) .early-in in
+    let node = s .pre .1 in (
+      s .pre .0 _ (omega arith),
+      s .pre .0 _ (omega arith),
       λ e. negated-fits t (toZ w32 (ofZ w32 (pos 0 -ℤ toZ w32 (ofZ w32 t)))) in-range (zero-less-back t in-range),
     )
 
