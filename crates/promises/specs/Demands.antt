@@ -21,7 +21,9 @@ use Rattle.calendars.specs.Calendars.{calendar}
 use Rattle.runs.specs.declared.Phase.the-variants.{Waiting}
 use Rattle.runs.specs.declared.Run.{Run}
 use Rattle.runs.specs.declared.Step.{Step}
-use Rattle.runs.specs.declared.Answer.the-variants.{Refused}
+use Rattle.runs.specs.declared.Choice.the-variants.{Auto}
+use Rattle.runs.specs.declared.Step.the-variants.{Start}
+use Rattle.runs.specs.declared.Answer.the-variants.{Started, Refused}
 use Rattle.runs.specs.Offers.{offerOf}
 use Rattle.runs.specs.Steps.{stepped}
 use Rattle.strategy.specs.Histories.{History}
@@ -72,7 +74,12 @@ module _ (s : List ℕ) {p : Plan} {t : List ℕ} {n : ℕ} (e : planHead s ≡ 
         → OnOffer (offerOf p (calendar p c) r j i) x ↔ ((k : ℕ) → StrategyAfter p h x ((p .jobs - i) + k * p .jobs))
     offer-exact = demand-3.offer-exact p sound m c accepted r h reached
 
-    -- so refusal 11 is never given
+    -- so while the run lasts `start=auto` starts the job, at the offer's lower end
+    pub auto-taken : (j i : ℕ) → r .phase ≡ Waiting j i → j ≤ p .last
+        → stepped p (calendar p c) r (Start Auto) .answer ≡ Started j i (offerOf p (calendar p c) r j i .from)
+    auto-taken j i waits lasts = demand-3.auto-taken p sound m c accepted r h reached j i waits (planHead-accepted s e) lasts
+
+    -- and refusal 11 is never given
     pub never-11 : (st : Step) → stepped p (calendar p c) r st .answer ≡ Refused refusal.EmptyOffer → ⊥
     never-11 = demand-3.never-11 p sound m c accepted r h reached
 

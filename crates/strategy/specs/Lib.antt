@@ -34,6 +34,7 @@ pub mod StageLaws
 pub mod OfferLaws
 pub mod GameLaws
 pub mod RunLaws
+pub mod TimeLaws
 pub mod ReachedLaws
 -- what is to be read first
 pub mod Theorems

@@ -52,6 +52,8 @@ use Rattle.strategy.specs.Reaching.{OnOffer, Reached, begun}
 use Rattle.strategy.specs.Reaching as reaching
 use Rattle.strategy.specs.CellLaws.{present}
 use Rattle.strategy.specs.EliminationLaws.{below-or-last}
+use Rattle.plan.specs.Accepted.{Accepted}
+use Rattle.strategy.specs.TimeLaws.{start-time}
 use Rattle.strategy.specs.Soundness.{Sound}
 use Rattle.strategy.specs.HistoryLaws.{ran-old, ran-new}
 use Rattle.strategy.specs.SeenLaws.{turn-seen}
@@ -583,14 +585,25 @@ module _ (p : Plan) (sound : Sound p) (m : ℕ) (c : Rows) (accepted : outcome p
           ∙ ap (λ b. cond b (Shut refusal.Over) (opened J I (offerOf p (calendar p c) r J I))) (le-ltb (p .last) J lasts)
           ∙ opened-as J I (offerOf p (calendar p c) r J I) (reached-some J I phase)
 
-      -- `start=auto`, inside the range of T
-      pub reached-auto : isTime (offerOf p (calendar p c) r J I .from) ≡ true
-          → stepped p (calendar p c) r (Start Auto) .answer ≡ Started J I (offerOf p (calendar p c) r J I .from)
+      -- the lower end is in the range of T, so `start=auto` takes it
+      pub reached-time : Accepted p → isTime (offerOf p (calendar p c) r J I .from) ≡ true
+      reached-time a =
+          let n = at-turn J I phase in
+          let w = n .waits .well in
+          let o = offerOf p (calendar p c) r J I in
+          let lower : OnOffer o (o .from .0) = record { least = le-self (o .from .0); most = reached-some J I phase } in
+          start-time p a h (n .waits .j) (n .waits .i) _ (w .size) (let g = w .ig in omega arith) (subst (λ j. j ≤ p .last) (sym (n .window)) lasts) (o .from .0)
+          (reached-offer J I phase (o .from .0) .0 lower 0)
+        where
+          le-self : (t : ℤ) → t ≤ℤ t
+          le-self t = omega wholes
+
+      pub reached-auto : Accepted p → stepped p (calendar p c) r (Start Auto) .answer ≡ Started J I (offerOf p (calendar p c) r J I .from)
       unfolding stepped started
-      reached-auto inside =
+      reached-auto a =
           let o = offerOf p (calendar p c) r J I in
           ap (λ x. started r Auto x .answer) reached-open
-          ∙ ap (λ b. cond b (startedAt r J I (o .from)) (refusedWith r outsideLimits) .answer) inside
+          ∙ ap (λ b. cond b (startedAt r J I (o .from)) (refusedWith r outsideLimits) .answer) (reached-time a)
 
       pub reached-lower : stepped p (calendar p c) r (Start (At (offerOf p (calendar p c) r J I .from))) .answer
           ≡ Started J I (offerOf p (calendar p c) r J I .from)

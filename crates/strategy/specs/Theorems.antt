@@ -8,6 +8,7 @@ use lib.IntN.{ℤ, _+ℤ_}
 use lib.Signed.{_≤ℤ_}
 use lib.ListN.{length}
 use Rattle.plan.specs.declared.Plan.{Plan}
+use Rattle.plan.specs.Accepted.{Accepted}
 use Rattle.plan.specs.declared.Refusal.the-variants as refusal
 use Rattle.bounds.specs.Events.{jobAt, startNode, finishNode, nodes}
 use Rattle.bounds.specs.Tables.{Cell, off, upto, Rows, at, contradiction, bounds, judgedSet}
@@ -21,7 +22,6 @@ use Rattle.runs.specs.declared.Choice.the-variants.{At, Auto}
 use Rattle.runs.specs.declared.Step.{Step}
 use Rattle.runs.specs.declared.Step.the-variants.{Start}
 use Rattle.runs.specs.declared.Answer.the-variants.{Started, Refused}
-use Rattle.runs.specs.ValueLimits.{isTime}
 use Rattle.runs.specs.Offers.{offerOf}
 use Rattle.runs.specs.Steps.{stepped}
 use Rattle.strategy.specs.Histories.{History, seenFrom}
@@ -115,14 +115,13 @@ module _ (p : Plan) (sound : Sound p) where
       pub offer-exact : (t : ℤ) → OnOffer (offerOf p (calendar p c) r j i) t ↔ ((k : ℕ) → StrategyAfter p h t ((p .jobs - i) + k * p .jobs))
       offer-exact t = reached-offer p sound m c accepted r h reached j i waits t
 
-      -- While the run lasts, the lower end of the offer can be taken, and `start=auto` takes it (2,0 instead outside the range of T).
+      -- While the run lasts, the lower end of the offer can be taken, and `start=auto` takes it: it is in the range of T.
       pub lower-end-taken : j ≤ p .last → stepped p (calendar p c) r (Start (At (offerOf p (calendar p c) r j i .from))) .answer
           ≡ Started j i (offerOf p (calendar p c) r j i .from)
       lower-end-taken lasts = reached-lower p sound m c accepted r h reached j i waits lasts
 
-      pub auto-taken : j ≤ p .last → isTime (offerOf p (calendar p c) r j i .from) ≡ true
-          → stepped p (calendar p c) r (Start Auto) .answer ≡ Started j i (offerOf p (calendar p c) r j i .from)
-      auto-taken lasts inside = reached-auto p sound m c accepted r h reached j i waits lasts inside
+      pub auto-taken : Accepted p → j ≤ p .last → stepped p (calendar p c) r (Start Auto) .answer ≡ Started j i (offerOf p (calendar p c) r j i .from)
+      auto-taken limits lasts = reached-auto p sound m c accepted r h reached j i waits lasts limits
 
     -- Refusal 11 is never given.
     pub never-11 : (st : Step) → stepped p (calendar p c) r st .answer ≡ Refused refusal.EmptyOffer → ⊥
