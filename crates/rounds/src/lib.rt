@@ -2,6 +2,7 @@
 
 mod given;
 mod own;
+mod same;
 
 // The verdict on a plan: settled in a round, no strategy for so many windows, or neither in so many rounds.
 pub enum Verdict {
