@@ -5,9 +5,11 @@ pub mod Given
 pub mod Rounds
 pub mod TextVerdict
 pub mod Put
+pub mod Next
 -- ---- laws
 pub mod SameLaws
 pub mod PutLaws
 pub mod GivenLaws
 pub mod NamedLaws
 pub mod PutGivenLaws
+pub mod NextLaws

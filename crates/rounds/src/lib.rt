@@ -1,6 +1,7 @@
 // Rounds and the verdict on a plan.
 
 mod given;
+mod joined;
 mod own;
 mod same;
 

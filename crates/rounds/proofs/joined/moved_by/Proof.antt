@@ -1,0 +1,17 @@
+-- `rounds::joined::moved_by` meets its contract: the two cases of `movedBy`.
+use mathlib.Core.Path.{_∙_}
+use mir.Facts.{toZ-ofZ}
+use Rattle.rounds.specs.NextLaws.{movedBy-origin, movedBy-event}
+use Rattle.rounds.proofs.joined.moved_by.Statement.{statement}
+use Rattle.rounds.proofs.joined.moved_by.Tie as tie
+
+returns : tie.Need-returns
+returns c = movedBy-origin (c .before .args .window) (c .before .args .y) (c .if1 .taken)
+
+returns-2 : tie.Need-returns-2
+returns-2 c =
+    let s = c .before in
+    toZ-ofZ (s .fits .window) ∙ movedBy-event (s .args .window) (s .args .y) (c .if1 .left)
+
+pub moved-by-spec : {M : Type 1} → statement M
+moved-by-spec = tie.close (tie.spec returns returns-2)

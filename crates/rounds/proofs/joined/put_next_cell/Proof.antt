@@ -1,0 +1,116 @@
+-- `rounds::joined::put_next_cell` meets its contract: one put, at the nodes on the next window and moved by the difference of their moves.
+use Prim.Native.Nat.{ℕ, _+_, _*_, _<_}
+use mathlib.Core.Path.{_≡_, sym, _∙_, ap, ap₂, subst}
+use native.Mathlib.Omega.{arith}
+use lib.IntN.{ℤ, _-ℤ_}
+use mir.Syntax.{w32}
+use mir.Val.{toZ, ofZ}
+use mir.Facts.{toZ-ofZ}
+use Rattle.whole.specs.SplitLaws.{told-fits}
+use Rattle.bounds.specs.Spans.{Timed}
+use Rattle.bounds.specs.Flat.{weightAt, putAt}
+use Rattle.rounds.specs.Next.{onto, movedBy}
+use Rattle.rounds.specs.NextLaws.{Shifted, onto-below, movedBy-in, shifted-moving}
+use Rattle.rounds.proofs.Moved.{shifted-back, apart-fits, apart-back, moved-putting}
+use Rattle.rounds.proofs.joined.put_next_cell.Statement.{statement}
+use Rattle.rounds.proofs.joined.put_next_cell.Tie as tie
+
+mul-v : tie.Need-mul-v
+mul-v c = let n = c .pre .0 .jobs-most in omega arith
+
+add-v : tie.Need-add-v
+add-v c = let n = c .pre .0 .jobs-most in omega arith
+
+mul-v-2 : tie.Need-mul-v-2
+mul-v-2 c = let n = c .pre .0 .jobs-most in omega arith
+
+element-copy-out-v : tie.Need-element-copy-out-v
+element-copy-out-v c = let n = c .pre .0 .jobs-most in omega arith
+
+node-onto-requires : tie.Need-node-onto-requires
+node-onto-requires c κs = let n = c .before .pre .0 .jobs-most in (n, omega arith)
+
+node-onto-requires-2 : tie.Need-node-onto-requires-2
+node-onto-requires-2 c κs = let n = c .before .before .pre .0 .jobs-most in (n, omega arith)
+
+moved-by-requires : tie.Need-moved-by-requires
+moved-by-requires c κs = tt
+
+moved-by-requires-2 : tie.Need-moved-by-requires-2
+moved-by-requires-2 c κs = tt
+
+shifts : (s : tie.Start) (y : ℕ) → Shifted (movedBy (s .args .window) y)
+shifts s y = movedBy-in (s .args .window) y (s .pre .0 .window-least) (s .pre .0 .window-most)
+
+-- what the two calls of `moved_by` answer
+more-is : (c : tie.After-moved-by)
+    → let a = c .before .before .before .before .args in toZ w32 (ofZ w32 (c .moved-by .result)) ≡ movedBy (a .window) (a .z)
+more-is c =
+    let s = c .before .before .before .before in
+    shifted-back (c .moved-by .ensures ∙ ap (λ w. movedBy w (s .args .z)) (toZ-ofZ (s .fits .window))) (shifts s (s .args .z))
+
+less-is : (c : tie.After-moved-by2)
+    → let a = c .before .before .before .before .before .args in toZ w32 (ofZ w32 (c .moved-by2 .result)) ≡ movedBy (a .window) (a .y)
+less-is c =
+    let s = c .before .before .before .before .before in
+    shifted-back (c .moved-by2 .ensures ∙ ap (λ w. movedBy w (s .args .y)) (toZ-ofZ (s .fits .window))) (shifts s (s .args .y))
+
+sub-a : tie.Need-sub-a
+sub-a c =
+    let s = c .before .before .before .before .before in
+    apart-fits (c .before .moved-by .result) (c .moved-by2 .result) (more-is (c .before)) (less-is c) (shifts s (s .args .z)) (shifts s (s .args .y))
+
+-- by how much the bound moves
+apart-is : (c : tie.After-moved-by2)
+    → let a = c .before .before .before .before .before .args in
+    toZ w32 (ofZ w32 (toZ w32 (ofZ w32 (c .before .moved-by .result)) -ℤ toZ w32 (ofZ w32 (c .moved-by2 .result))))
+    ≡ movedBy (a .window) (a .z) -ℤ movedBy (a .window) (a .y)
+apart-is c =
+    let s = c .before .before .before .before .before in
+    apart-back (c .before .moved-by .result) (c .moved-by2 .result) (more-is (c .before)) (less-is c) (shifts s (s .args .z)) (shifts s (s .args .y))
+
+put-requires : tie.Need-put-requires
+put-requires c κs =
+    let s = c .before .before .before .before .before .before in
+    let a = s .args in
+    let n = s .pre .0 .jobs-most in
+    let timed : (y : ℕ) → y < 1 + 2 * a .jobs → Timed (a .early .now) (a .late .now) (onto (a .jobs) y)
+    = λ y h. s .pre .0 .times (onto (a .jobs) y) (onto-below (a .jobs) y 37 (omega arith)) in (
+      subst (λ n. Timed (a .early .now) (a .late .now) n) (sym (c .before .before .before .before .node-onto .ensures)) (timed (a .y) (s .pre .1)),
+      subst (λ n. Timed (a .early .now) (a .late .now) n) (sym (c .before .before .before .node-onto2 .ensures)) (timed (a .z) (s .pre .2)),
+      moved-putting (toZ-ofZ (told-fits w32 (weightAt (a .carried .now) (a .y) (a .z)) (c .before .before .before .before .before .v .given)))
+          (apart-is (c .before))
+          (s .pre .0 .weighed (a .y) (a .z) (s .pre .1) (s .pre .2))
+          (shifted-moving (movedBy (a .window) (a .z)) (movedBy (a .window) (a .y)) (shifts s (a .z)) (shifts s (a .y))),
+    )
+
+returns : tie.Need-returns
+returns c =
+    let s = c .before .before .before .before .before .before .before in
+    let a = s .args in
+    let from = c .before .before .before .before .before .node-onto in
+    let to = c .before .before .before .before .node-onto2 in
+    c .put .ensures
+    ∙ ap₂ (λ v w. putAt (a .early .now) (a .late .now) (from .result) (to .result) v w (a .weights .now))
+    (toZ-ofZ (told-fits w32 (weightAt (a .carried .now) (a .y) (a .z)) (c .before .before .before .before .before .before .v .given)))
+    (apart-is (c .before .before))
+    ∙ ap₂
+    (λ u x. putAt (a .early .now) (a .late .now) u x (weightAt (a .carried .now) (a .y) (a .z)) (movedBy (a .window) (a .z) -ℤ movedBy (a .window) (a .y)) (a .weights .now))
+    (from .ensures)
+    (to .ensures)
+
+pub put-next-cell-spec : {M : Type 1} → statement M
+put-next-cell-spec =
+    tie.close
+    (tie.spec
+    mul-v
+    add-v
+    mul-v-2
+    element-copy-out-v
+    node-onto-requires
+    node-onto-requires-2
+    moved-by-requires
+    moved-by-requires-2
+    sub-a
+    put-requires
+    returns)

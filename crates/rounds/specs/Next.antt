@@ -1,0 +1,34 @@
+-- A carried set as the code puts it on the next window, cell by cell: `onNext` from the side of the carried table.
+use Prim.Native.Nat.{ℕ, _+_, _*_, _≤_, _<_}
+use mathlib.Core.Bool.{cond}
+use mathlib.Core.List.{List}
+use lib.Dec.{eqb}
+use lib.IntN.{ℤ, pos, _-ℤ_}
+use lib.Signed.{_≤ℤ_}
+use Rattle.bounds.specs.Events.{nodes}
+use Rattle.bounds.specs.Flat.{weightAt, Flat, putAt, eachNode, AllTimed, Weighed}
+
+-- the node on the next window of a node of one window, and by how much its event moves; the origin stays
+unfoldable pub onto : ℕ → ℕ → ℕ
+onto jobs y = cond (eqb y 0) 0 (y + 2 * jobs)
+
+unfoldable pub movedBy : ℤ → ℕ → ℤ
+movedBy window y = cond (eqb y 0) (pos 0) window
+
+-- 'Where a set is put on the next window, its bounds to and from the origin move by `window` too.'
+abbrev pub nextAt : List ℤ → List ℤ → ℕ → ℤ → List ℤ → ℕ → ℕ → List ℤ → Flat
+nextAt early late jobs window ts y z ws = putAt early late (onto jobs y) (onto jobs z) (weightAt ts y z) (movedBy window z -ℤ movedBy window y) ws
+
+abbrev pub nextRow : List ℤ → List ℤ → ℕ → ℤ → List ℤ → ℕ → List ℤ → Flat
+nextRow early late jobs window ts y = eachNode (nextAt early late jobs window ts y) 0 (nodes jobs)
+
+abbrev pub nextRows : List ℤ → List ℤ → ℕ → ℤ → List ℤ → List ℤ → Flat
+nextRows early late jobs window ts = eachNode (nextRow early late jobs window ts) 0 (nodes jobs)
+
+-- what it takes: times in range, a window, and a carried table with its weights in range
+pub record Nexts (early late : List ℤ) (jobs : ℕ) (window : ℤ) (ts : List ℤ) : Type 0 where
+  pub times : AllTimed early late
+  pub jobs-most : jobs ≤ 9
+  pub window-least : pos 0 ≤ℤ window
+  pub window-most : window ≤ℤ pos 86400000
+  pub weighed : (y z : ℕ) → y < nodes jobs → z < nodes jobs → Weighed (weightAt ts y z)
