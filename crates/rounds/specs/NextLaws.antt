@@ -1,15 +1,32 @@
--- The next window's nodes: where a node goes and by how much it moves, case by case.
+-- The next window's nodes: where a node goes and by how much it moves, case by case. Put cell by cell, a carried table leads to the set that is
+-- judged with `onNext`.
 use Prim.Native.Nat.{ℕ, zero, suc, _+_, _*_, _-_, _≤_, _<_}
 use mathlib.Core.Path.{_≡_, refl, sym, ap, ap₂, subst, _∙_}
-use mathlib.Core.Bool.{Bool, true, false, cond}
+use mathlib.Core.Logic.{_⊎_, inl, inr, ⊎-elim}
+use mathlib.Core.Bool.{Bool, true, false, cond, _&&_, or-true}
+use mathlib.Core.List.{List}
 use native.Mathlib.Omega.{arith}
-use lib.Dec.{eqb}
-use lib.IntN.{ℤ, pos, negℤ, _-ℤ_}
-use lib.Signed.{_≤ℤ_}
-use borrow.Author.Tests.{eq-eqb, ne-eqb}
+use lib.Dec.{eqb, ltb, leb}
+use lib.IntN.{ℤ, pos, negℤ, _+ℤ_, _-ℤ_}
+use lib.Signed.{_≤ℤ_, _<ℤ_}
+use borrow.Author.Tests.{eq-eqb, ne-eqb, lt-ltb, le-ltb, ltb-true, ltb-false, le-leb, lt-leb, leb-true, leb-false}
 use Rattle.whole.specs.Rules.{wholes}
-use Rattle.bounds.specs.Flat.{Moving}
-use Rattle.rounds.specs.Next.{onto, movedBy}
+use Rattle.whole.specs.Split.{eqZ}
+use Rattle.plan.specs.declared.Plan.{Plan}
+use Rattle.plan.specs.Accepted.{Accepted}
+use Rattle.bounds.specs.Events.{nodes}
+use Rattle.bounds.specs.Tables.{Cell, off, least, plus, Rows, at, Set, contradiction, bounds}
+use Rattle.bounds.specs.BuildLaws.{at-build}
+use Rattle.bounds.specs.TablesLaws.{least-off, judgedSet-ext}
+use Rattle.bounds.specs.Spans.{Times}
+use Rattle.bounds.specs.Flat.{noBound, place, weightAt, cellOf, cellAt, rowsOf, Moving, Weighed}
+use Rattle.bounds.specs.FlatLaws.{Outcome, eachNode-outcome}
+use Rattle.bounds.specs.StartLaws.{place-one}
+use Rattle.bounds.specs.TowardsLaws.{Towards, putAt-towards, towards-end}
+use Rattle.bounds.specs.BoundsLaws.{outcome-set}
+use Rattle.bounds.specs.ClockedLaws.{nodes-room}
+use Rattle.rounds.specs.Rounds.{ownNodes, isOwn, moved, onNext}
+use Rattle.rounds.specs.Next.{onto, movedBy, nextAt, nextRow, nextRows}
 
 -- ---- one node
 
@@ -54,3 +71,191 @@ movedBy-in window y h l = by (eqb y 0)
 
 pub shifted-moving : (a b : ℤ) → Shifted a → Shifted b → Moving (a -ℤ b)
 shifted-moving a b h l = record { least = omega wholes; greatest = omega wholes }
+
+-- ---- the bounds of the next window
+
+module _ (p : Plan) where
+  onto-back : (y : ℕ) → onto (p .jobs) y - ownNodes p ≡ y
+  onto-back zero = ap (λ n. n - ownNodes p) (sym (onto-origin (p .jobs) 0 refl)) ∙ none-less (ownNodes p)
+    where
+      none-less : (n : ℕ) → 0 - n ≡ 0
+      none-less n = omega arith
+  onto-back (suc y) = ap (λ n. n - ownNodes p) (sym (onto-event (p .jobs) (suc y) (λ e. omega arith))) ∙ past (suc y) (ownNodes p)
+    where
+      past : (y n : ℕ) → (y + n) - n ≡ y
+      past y n = omega arith
+
+  onto-not-own : (y : ℕ) → isOwn p (onto (p .jobs) y) ≡ false
+  onto-not-own zero = ap (isOwn p) (sym (onto-origin (p .jobs) 0 refl))
+  onto-not-own (suc y) =
+      ap (isOwn p) (sym (onto-event (p .jobs) (suc y) (λ e. omega arith)))
+      ∙ ap₂ _&&_ (le-leb 1 (suc y + ownNodes p) (omega arith)) (lt-leb (suc y + ownNodes p) (ownNodes p) (omega arith))
+
+  moved-onto : (y : ℕ) → moved p (onto (p .jobs) y) ≡ movedBy (p .window) y
+  moved-onto zero = ap (moved p) (sym (onto-origin (p .jobs) 0 refl)) ∙ movedBy-origin (p .window) 0 refl
+  moved-onto (suc y) =
+      ap (moved p) (sym (onto-event (p .jobs) (suc y) (λ e. omega arith)))
+      ∙ ap (λ b. cond b (pos 0) (p .window)) (ne-eqb (suc y + ownNodes p) 0 (λ e. omega arith))
+      ∙ movedBy-event (p .window) (suc y) (λ e. omega arith)
+
+  pub onNext-onto : (t : Rows) (y z : ℕ) → onNext p t (onto (p .jobs) y) (onto (p .jobs) z) ≡ plus (at t y z) (movedBy (p .window) z -ℤ movedBy (p .window) y)
+  unfolding onNext
+  onNext-onto t y z =
+      rw (onto-not-own y, onto-not-own z)
+      (ap₂ (λ a b. plus (at t a b) (moved p (onto (p .jobs) z) -ℤ moved p (onto (p .jobs) y))) (onto-back y) (onto-back z)
+      ∙ ap₂ (λ a b. plus (at t y z) (a -ℤ b)) (moved-onto z) (moved-onto y))
+
+  pub onNext-own : (t : Rows) (y z : ℕ) → (isOwn p y ≡ true) ⊎ (isOwn p z ≡ true) → onNext p t y z ≡ off
+  unfolding onNext
+  onNext-own t y z (inl h) = rw h
+  onNext-own t y z (inr h) = rw (h, or-true (isOwn p y))
+
+  -- a node of two windows is one of this window's, or one of the next window's or the origin
+  pub own-or-next : (y : ℕ) → (isOwn p y ≡ true) ⊎ (y ≡ onto (p .jobs) (y - ownNodes p))
+  own-or-next zero = let none : 0 - ownNodes p ≡ 0 = omega arith in inr (onto-origin (p .jobs) (0 - ownNodes p) none)
+  own-or-next (suc y) = by (leb (suc y) (ownNodes p)) refl
+    where
+      by : (b : Bool) → leb (suc y) (ownNodes p) ≡ b → (isOwn p (suc y) ≡ true) ⊎ (suc y ≡ onto (p .jobs) (suc y - ownNodes p))
+      by true e = inl (rw (le-leb 1 (suc y) (omega arith), e))
+      by false e =
+          let above : ownNodes p < suc y = leb-false (suc y) (ownNodes p) e in
+          let past : suc y ≡ (suc y - ownNodes p) + ownNodes p = omega arith in
+          inr (past ∙ onto-event (p .jobs) (suc y - ownNodes p) (λ q. omega arith))
+
+-- ---- cell by cell
+
+moved-low : (v a : ℤ) → v ≤ℤ pos 259200000 → Moving a → (v +ℤ a) <ℤ noBound
+moved-low v a h m = omega wholes
+
+module _ (p : Plan) (early late : List ℤ) (times : Times p (nodes (p .jobs + p .jobs)) early late) (accepted : Accepted p) (set : Set) (ts : List ℤ)
+    (weighed : (y z : ℕ) → y < nodes (p .jobs) → z < nodes (p .jobs) → Weighed (weightAt ts y z)) where
+  -- what is still to be put, once the cells before place n of the carried table are
+  abbrev restFrom : ℕ → ℕ → ℕ → Cell
+  restFrom n u x = cond (ltb (place (u - ownNodes p) (x - ownNodes p)) n) off (onNext p (rowsOf (nodes (p .jobs)) ts) u x)
+
+  abbrev Stage : ℕ → List ℤ → Type 0
+  Stage n us = Towards p (nodes (p .jobs + p .jobs)) (restFrom n) set us
+
+  put-off : (n u x : ℕ) → place (u - ownNodes p) (x - ownNodes p) < n → restFrom n u x ≡ off
+  put-off n u x h = rw (lt-ltb (place (u - ownNodes p) (x - ownNodes p)) n h)
+
+  put-on : (n u x : ℕ) → n ≤ place (u - ownNodes p) (x - ownNodes p) → restFrom n u x ≡ onNext p (rowsOf (nodes (p .jobs)) ts) u x
+  put-on n u x h = rw (le-ltb (place (u - ownNodes p) (x - ownNodes p)) n h)
+
+  own-off : (n u x : ℕ) → (isOwn p u ≡ true) ⊎ (isOwn p x ≡ true) → restFrom n u x ≡ off
+  own-off n u x h = by (ltb (place (u - ownNodes p) (x - ownNodes p)) n)
+    where
+      by : (b : Bool) → cond b off (onNext p (rowsOf (nodes (p .jobs)) ts) u x) ≡ off
+      by true = refl
+      by false = onNext-own p (rowsOf (nodes (p .jobs)) ts) u x h
+
+  -- the cell of (y, z) is the only one that the step from its place to the next changes
+  elsewhere : (y z : ℕ) → z < nodes (p .jobs) → (u x : ℕ) → x < nodes (p .jobs + p .jobs)
+      → (place u x ≡ place (onto (p .jobs) y) (onto (p .jobs) z) → ⊥)
+      → restFrom (place y z) u x ≡ restFrom (place y (z + 1)) u x
+  elsewhere y z l u x h n =
+      ⊎-elim (λ a. own-off (place y z) u x (inl a) ∙ sym (own-off (place y (z + 1)) u x (inl a)))
+      (λ a.
+      ⊎-elim (λ b. own-off (place y z) u x (inr b) ∙ sym (own-off (place y (z + 1)) u x (inr b)))
+      (λ b. by a b (ltb (place (u - ownNodes p) (x - ownNodes p)) (place y z)) refl (ltb (place (u - ownNodes p) (x - ownNodes p)) (place y (z + 1))) refl)
+      (own-or-next p x))
+      (own-or-next p u)
+    where
+      by : u ≡ onto (p .jobs) (u - ownNodes p) → x ≡ onto (p .jobs) (x - ownNodes p)
+          → (b : Bool) → ltb (place (u - ownNodes p) (x - ownNodes p)) (place y z) ≡ b
+          → (c : Bool) → ltb (place (u - ownNodes p) (x - ownNodes p)) (place y (z + 1)) ≡ c
+          → restFrom (place y z) u x ≡ restFrom (place y (z + 1)) u x
+      by a b true e c f =
+          let low : place (u - ownNodes p) (x - ownNodes p) < place y z = ltb-true _ _ e in
+          put-off (place y z) u x low ∙ sym (put-off (place y (z + 1)) u x (omega arith))
+      by a b false e false f = put-on (place y z) u x (ltb-false _ _ e) ∙ sym (put-on (place y (z + 1)) u x (ltb-false _ _ f))
+      by a b false e true f =
+          let low : place y z ≤ place (u - ownNodes p) (x - ownNodes p) = ltb-false _ _ e in
+          let high : place (u - ownNodes p) (x - ownNodes p) < place y (z + 1) = ltb-true _ _ f in
+          let room = nodes-room accepted in
+          let one = place-one (u - ownNodes p) (x - ownNodes p) y z (omega arith) (omega arith) (omega arith) in
+          absurd (n (ap₂ place (a ∙ ap (onto (p .jobs)) (one .0)) (b ∙ ap (onto (p .jobs)) (one .1))))
+
+  cell-stage : (y z : ℕ) → y < nodes (p .jobs) → z < nodes (p .jobs) → (us : List ℤ) → Stage (place y z) us
+      → Outcome (Stage (place y (z + 1))) (set ≡ contradiction) (nextAt early late (p .jobs) (p .window) ts y z us)
+  cell-stage y z h l us g =
+      let room = nodes-room accepted in
+      let a = movedBy (p .window) z -ℤ movedBy (p .window) y in
+      let least-window = accepted .window-least in
+      let most-window = accepted .window-most in
+      let moves : Moving a = shifted-moving (movedBy (p .window) z) (movedBy (p .window) y) (movedBy-in (p .window) z (omega wholes) (omega wholes))
+      (movedBy-in (p .window) y (omega wholes) (omega wholes)) in
+      let same : place (onto (p .jobs) y - ownNodes p) (onto (p .jobs) z - ownNodes p) ≡ place y z = ap₂ place (onto-back p y) (onto-back p z) in
+      let cell = plus (cellOf (weightAt ts y z)) a in
+      putAt-towards p (nodes (p .jobs + p .jobs)) early late times room set us (restFrom (place y (z + 1))) (restFrom (place y z)) g (onto (p .jobs) y) (onto (p .jobs) z)
+      (onto-below (p .jobs) y (nodes (p .jobs + p .jobs)) (omega arith))
+      (onto-below (p .jobs) z (nodes (p .jobs + p .jobs)) (omega arith))
+      (weightAt ts y z)
+      a
+      (λ e. moved-low (weightAt ts y z) a (weighed y z h l .greatest e) moves)
+      (put-on (place y z) (onto (p .jobs) y) (onto (p .jobs) z) (omega (arith, same))
+      ∙ onNext-onto p (rowsOf (nodes (p .jobs)) ts) y z
+      ∙ ap (λ c. plus c a) (at-build (nodes (p .jobs)) (cellAt ts) y z h l)
+      ∙ sym (ap (least cell) (put-off (place y (z + 1)) (onto (p .jobs) y) (onto (p .jobs) z) (omega (arith, same))) ∙ least-off cell))
+      (λ u x m q n. elsewhere y z l u x q n)
+
+  -- where the same is left, an array leads to the same set
+  stage-same : (n m : ℕ) (us : List ℤ) → ((u x : ℕ) → u < nodes (p .jobs + p .jobs) → x < nodes (p .jobs + p .jobs) → restFrom n u x ≡ restFrom m u x)
+      → Stage n us → Stage m us
+  stage-same n m us e g =
+      record {
+        len = g .len;
+        kept = g .kept;
+        leads = g .leads ∙ judgedSet-ext p (nodes (p .jobs + p .jobs)) _ _ (λ u x a b. ap (least (cellAt us u x)) (e u x a b));
+      }
+
+  row-end : (y u x : ℕ) → x < nodes (p .jobs + p .jobs) → restFrom (place y (nodes (p .jobs))) u x ≡ restFrom (place (y + 1) 0) u x
+  row-end y u x h = by (ltb (place (u - ownNodes p) (x - ownNodes p)) (place y (nodes (p .jobs)))) refl
+    where
+      by : (b : Bool) → ltb (place (u - ownNodes p) (x - ownNodes p)) (place y (nodes (p .jobs))) ≡ b
+          → restFrom (place y (nodes (p .jobs))) u x ≡ restFrom (place (y + 1) 0) u x
+      by true e =
+          let room = nodes-room accepted in
+          let low : place (u - ownNodes p) (x - ownNodes p) < place y (nodes (p .jobs)) = ltb-true _ _ e in
+          put-off (place y (nodes (p .jobs))) u x low ∙ sym (put-off (place (y + 1) 0) u x (omega arith))
+      by false e =
+          let room = nodes-room accepted in
+          let low : place y (nodes (p .jobs)) ≤ place (u - ownNodes p) (x - ownNodes p) = ltb-false _ _ e in
+          put-on (place y (nodes (p .jobs))) u x low ∙ sym (put-on (place (y + 1) 0) u x (omega arith))
+
+  row-stage : (y : ℕ) (us : List ℤ) → y < nodes (p .jobs) → Stage (place y 0) us
+      → Outcome (Stage (place (y + 1) 0)) (set ≡ contradiction) (nextRow early late (p .jobs) (p .window) ts y us)
+  row-stage y us h g =
+      let o = eachNode-outcome (nextAt early late (p .jobs) (p .window) ts y) (nodes (p .jobs)) (λ z us. Stage (place y z) us) (set ≡ contradiction)
+      (λ z us l g. cell-stage y z h l us g)
+      0
+      (nodes (p .jobs))
+      (omega arith)
+      us
+      g in
+      record { fails = o .fails; keeps = λ f. stage-same (place y (nodes (p .jobs))) (place (y + 1) 0) _ (λ u x a b. row-end y u x b) (o .keeps f) }
+
+  pub nextRows-outcome : (ws : List ℤ) → Towards p (nodes (p .jobs + p .jobs)) (onNext p (rowsOf (nodes (p .jobs)) ts)) set ws
+      → Outcome (λ us. set ≡ bounds (rowsOf (nodes (p .jobs + p .jobs)) us)) (set ≡ contradiction) (nextRows early late (p .jobs) (p .window) ts ws)
+  nextRows-outcome ws t =
+      let room = nodes-room accepted in
+      let o = eachNode-outcome (nextRow early late (p .jobs) (p .window) ts) (nodes (p .jobs)) (λ y us. Stage (place y 0) us) (set ≡ contradiction)
+      (λ y us h g. row-stage y us h g)
+      0
+      (nodes (p .jobs))
+      (omega arith)
+      ws
+      (record {
+        len = t .len;
+        kept = t .kept;
+        leads =
+            t .leads
+            ∙ judgedSet-ext p (nodes (p .jobs + p .jobs)) _ _ (λ u x a b. ap (least (cellAt ws u x)) (sym (put-on (place 0 0) u x (omega arith))));
+      }) in
+      record {
+        fails = o .fails;
+        keeps = λ f.
+            towards-end p (nodes (p .jobs + p .jobs)) early late times room set _ (restFrom (place (nodes (p .jobs)) 0))
+            (λ u x a b. put-off (place (nodes (p .jobs)) 0) u x (omega arith))
+            (o .keeps f);
+      }
