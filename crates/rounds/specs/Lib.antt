@@ -11,5 +11,7 @@ pub mod SameLaws
 pub mod PutLaws
 pub mod GivenLaws
 pub mod NamedLaws
+pub mod JoinedLaws
+pub mod CarriedLaws
 pub mod PutGivenLaws
 pub mod NextLaws
