@@ -48,6 +48,14 @@ putBounds-same early late k small (b ∷ bs) a y z l past ws =
 
 -- ---- the own bounds
 
+-- a contradiction among them is one in C(0)
+pub own-none : (p : Plan) (early late : List ℤ) → Clocked p early late → (found : Bool) (us : List ℤ)
+    → flat found us ≡ putBounds early late (ownBounds p) noBounds → found ≡ true → C0 p ≡ contradiction
+own-none p early late clocked found us put f =
+    sym (own-is p early late clocked)
+    ∙ ap (λ r. cond (r .found) contradiction (bounds (rowsOf (nodes (p .jobs)) (r .weights)))) (sym put)
+    ∙ ap (λ b. cond b contradiction (bounds (rowsOf (nodes (p .jobs)) us))) f
+
 module _ (p : Plan) (early late : List ℤ) (clocked : Clocked p early late) (own : List ℤ)
     (put : flat false own ≡ putBounds early late (ownBounds p) noBounds) where
   own-towards : Towards p (nodes (p .jobs + p .jobs)) (λ y z. off) (judgedSet p (nodes (p .jobs + p .jobs)) (leastOf (ownBounds p))) own

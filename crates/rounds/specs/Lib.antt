@@ -6,6 +6,7 @@ pub mod Rounds
 pub mod TextVerdict
 pub mod Put
 pub mod Next
+pub mod Settling
 -- ---- laws
 pub mod SameLaws
 pub mod PutLaws
@@ -13,5 +14,6 @@ pub mod GivenLaws
 pub mod NamedLaws
 pub mod JoinedLaws
 pub mod CarriedLaws
+pub mod SettleLaws
 pub mod PutGivenLaws
 pub mod NextLaws

@@ -1,0 +1,222 @@
+-- The rounds as the code goes: one turn of its loop is one round, of which each way out is a way of `decided`.
+use Prim.Native.Nat.{ℕ, zero, suc, _+_, _*_, _-_, _≤_, _<_}
+use mathlib.Core.Path.{_≡_, refl, sym, ap, ap₂, subst, _∙_}
+use mathlib.Core.Bool.{Bool, true, false, cond}
+use mathlib.Core.List.{List}
+use native.Mathlib.Omega.{arith}
+use lib.IntN.{ℤ}
+use Rattle.whole.specs.Rules.{wholes}
+use Rattle.plan.specs.declared.Plan.{Plan}
+use Rattle.bounds.specs.declared.JudgedSet.{JudgedSet}
+use Rattle.bounds.specs.Events.{nodes}
+use Rattle.bounds.specs.Tables.{Rows, Set, contradiction, bounds}
+use Rattle.bounds.specs.Elimination.{thenSet, eliminated}
+use Rattle.bounds.specs.Flat.{rowsOf, setOf, weightAt, Weighed, flat, putBounds, noBounds}
+use Rattle.bounds.specs.FlatLaws as flats
+use Rattle.bounds.specs.TowardsLaws.{Towards}
+use Rattle.bounds.specs.Fit.{Fit, Clocked}
+use Rattle.bounds.specs.FitLaws.{fit-weighed}
+use Rattle.bounds.specs.PlacesLaws.{setOf-found, setOf-left}
+use Rattle.rounds.specs.declared.Verdict.{Verdict}
+use Rattle.rounds.specs.declared.Verdict.the-variants.{Settled, NoStrategy, Unsettled}
+use Rattle.rounds.specs.Given.{ownBounds, betweenBounds}
+use Rattle.rounds.specs.Rounds.{C0, onNext, joined, round, sameRows, isContradictory, failsAlone, Outcome, settled, noStrategy, unsettled, decided, roundsFrom, outcomeFrom, outcome, verdictOf, verdict}
+use Rattle.rounds.specs.SameLaws.{sameRows-unique}
+use Rattle.rounds.specs.Next.{Nexts, nextRows}
+use Rattle.rounds.specs.NextLaws.{nextRows-outcome}
+use Rattle.rounds.specs.JoinedLaws.{own-rows, between-outcome}
+use Rattle.rounds.specs.CarriedLaws.{C0-fit, joined-fit, eliminated-fit}
+use Rattle.rounds.specs.Settling.{SettledOn, Based}
+
+-- ---- the ways of one round
+
+module _ (p : Plan) (m : ℕ) (t : Rows) (s : Set) (later : Rows → Outcome) where
+  decided-none : s ≡ contradiction → decided p m t s later ≡ noStrategy (cond (failsAlone p t) m (m + 1))
+  unfolding decided
+  decided-none e = ap (λ s. decided p m t s later) e
+
+  decided-settled : (u : Rows) → s ≡ bounds u → sameRows t u ≡ true → decided p m t s later ≡ settled m u
+  unfolding decided
+  decided-settled u e h = ap (λ s. decided p m t s later) e ∙ ap (λ b. cond b (settled m u) (later u)) h
+
+  decided-later : (u : Rows) → s ≡ bounds u → sameRows t u ≡ false → decided p m t s later ≡ later u
+  unfolding decided
+  decided-later u e h = ap (λ s. decided p m t s later) e ∙ ap (λ b. cond b (settled m u) (later u)) h
+
+round-none : (p : Plan) (c0 t : Rows) → joined p c0 t ≡ contradiction → round p c0 t ≡ contradiction
+unfolding round thenSet
+round-none p c0 t e = ap (λ s. thenSet s (eliminated p (p .jobs) (p .jobs))) e
+
+round-some : (p : Plan) (c0 t u : Rows) → joined p c0 t ≡ bounds u → round p c0 t ≡ eliminated p (p .jobs) (p .jobs) u
+unfolding round thenSet
+round-some p c0 t u e = ap (λ s. thenSet s (eliminated p (p .jobs) (p .jobs))) e
+
+-- ---- the verdict and the settled table
+
+module _ (p : Plan) where
+  pub verdict-none : (K : ℕ) → outcome p ≡ noStrategy K → NoStrategy K ≡ verdict p
+  verdict-none K e = sym (ap (verdictOf p) e)
+
+  pub verdict-settled : (m : ℕ) (t : Rows) → outcome p ≡ settled m t → Settled m ≡ verdict p
+  verdict-settled m t e = sym (ap (verdictOf p) e)
+
+  pub verdict-unsettled : outcome p ≡ unsettled → Unsettled (p .rounds) ≡ verdict p
+  verdict-unsettled e = sym (ap (verdictOf p) e)
+
+  -- where it is not settled nothing is asked of the table
+  pub not-settled : (u : Rows) → ((m : ℕ) (t : Rows) → outcome p ≡ settled m t → ⊥) → SettledOn p u
+  not-settled u n = record { joins = λ m t e. absurd (n m t e); fits = λ m t e. absurd (n m t e); sound = λ m t e. absurd (n m t e) }
+
+  pub none-on : (K : ℕ) (u : Rows) → outcome p ≡ noStrategy K → SettledOn p u
+  none-on K u e = not-settled u (λ m t q. let both : noStrategy K ≡ settled m t = sym e ∙ q in let z : _≡_ {A = ℕ} 0 1 = cc in omega arith)
+
+  pub unsettled-on : (u : Rows) → outcome p ≡ unsettled → SettledOn p u
+  unsettled-on u e = not-settled u (λ m t q. let both : unsettled ≡ settled m t = sym e ∙ q in let z : _≡_ {A = ℕ} 0 1 = cc in omega arith)
+
+  -- 'A contradiction in C(0) itself is K = 1.'
+  pub first-none : C0 p ≡ contradiction → outcome p ≡ noStrategy 1
+  unfolding outcome outcomeFrom
+  first-none e = ap (outcomeFrom p) e
+
+settled-back : (m n : ℕ) (t u : Rows) → settled m t ≡ settled n u → t ≡ u
+settled-back m n t u e = cc
+
+-- ---- the rounds
+
+pub rounds-end : (p : Plan) (c0 : Rows) (m left : ℕ) (t : Rows) → left ≡ 0 → roundsFrom p c0 m left t ≡ unsettled
+unfolding roundsFrom
+rounds-end p c0 m left t e = ap (λ n. roundsFrom p c0 m n t) e
+
+rounds-more : (p : Plan) (c0 : Rows) (m left : ℕ) (t : Rows) → 0 < left
+    → roundsFrom p c0 m left t ≡ decided p m t (round p c0 t) (roundsFrom p c0 (m + 1) (left - 1))
+unfolding roundsFrom
+rounds-more p c0 m left t h = let more : left ≡ suc (left - 1) = omega arith in ap (λ n. roundsFrom p c0 m n t) more
+
+module _ (p : Plan) (early late : List ℤ) (clocked : Clocked p early late) (own : List ℤ)
+    (own-put : flat false own ≡ putBounds early late (ownBounds p) noBounds) where
+  abbrev c0 : Rows
+  c0 = rowsOf (nodes (p .jobs)) own
+
+  pub own-fit : Fit p (nodes (p .jobs)) (rowsOf (nodes (p .jobs)) own)
+  own-fit = C0-fit p c0 (own-rows p early late clocked own own-put)
+
+  pub first-round : outcome p ≡ roundsFrom p (rowsOf (nodes (p .jobs)) own) 1 (p .rounds) (rowsOf (nodes (p .jobs)) own)
+  unfolding outcome outcomeFrom
+  first-round = ap (outcomeFrom p) (own-rows p early late clocked own own-put)
+
+  -- a contradiction between windows is one of the first round
+  pub between-none : (found : Bool) (us : List ℤ) → flat found us ≡ putBounds early late (betweenBounds p) own → found ≡ true
+      → outcome p ≡ noStrategy (cond (failsAlone p (rowsOf (nodes (p .jobs)) own)) 1 (1 + 1))
+  between-none found us e f =
+      let some = clocked .accepted .rounds-least in
+      first-round
+      ∙ rounds-more p c0 1 (p .rounds) c0 (omega arith)
+      ∙ decided-none p 1 c0 (round p c0 c0) (roundsFrom p c0 2 (p .rounds - 1))
+      (round-none p c0 c0 (between-outcome p early late clocked own own-put c0 .fails (ap (λ r. r .found) (sym e) ∙ f)))
+
+  module _ (base : List ℤ) (base-put : flat false base ≡ putBounds early late (betweenBounds p) own) (ts : List ℤ)
+      (fit : Fit p (nodes (p .jobs)) (rowsOf (nodes (p .jobs)) ts)) where
+    abbrev t : Rows
+    t = rowsOf (nodes (p .jobs)) ts
+
+    weighed : (y z : ℕ) → y < nodes (p .jobs) → z < nodes (p .jobs) → Weighed (weightAt ts y z)
+    weighed = fit-weighed p (nodes (p .jobs)) ts fit (clocked .accepted) (omega arith)
+
+    pub nexts : Nexts early late (p .jobs) (p .window) ts
+    nexts =
+        let least-window = clocked .accepted .window-least in
+        record {
+          times = clocked .timed;
+          jobs-most = clocked .accepted .jobs-most;
+          window-least = omega wholes;
+          window-most = clocked .accepted .window-most;
+          weighed = weighed;
+        }
+
+    next-outcome : flats.Outcome (λ us. joined p c0 t ≡ bounds (rowsOf (nodes (p .jobs + p .jobs)) us)) (joined p c0 t ≡ contradiction)
+        (nextRows early late (p .jobs) (p .window) ts base)
+    next-outcome =
+        nextRows-outcome p early late (clocked .times) (clocked .accepted) (joined p c0 t) ts weighed base
+        (subst (Towards p (nodes (p .jobs + p .jobs)) (onNext p t) (joined p c0 t)) (ap (λ r. r .weights) (sym base-put))
+        (between-outcome p early late clocked own own-put t .keeps (ap (λ r. r .found) (sym base-put))))
+
+    -- the next window's bounds are put, in round m of which so many are left
+    module _ (m left : ℕ) (some : 0 < left) (before : outcome p ≡ roundsFrom p (rowsOf (nodes (p .jobs)) own) m left (rowsOf (nodes (p .jobs)) ts)) where
+      turn : outcome p ≡ decided p m t (round p c0 t) (roundsFrom p c0 (m + 1) (left - 1))
+      turn = before ∙ rounds-more p c0 m left t some
+
+      pub joined-none : (found : Bool) (us : List ℤ) → flat found us ≡ nextRows early late (p .jobs) (p .window) ts base → found ≡ true
+          → outcome p ≡ noStrategy (cond (failsAlone p (rowsOf (nodes (p .jobs)) ts)) m (m + 1))
+      joined-none found us put f =
+          turn
+          ∙ decided-none p m t (round p c0 t) (roundsFrom p c0 (m + 1) (left - 1))
+          (round-none p c0 t (next-outcome .fails (ap (λ r. r .found) (sym put) ∙ f)))
+
+      module _ (found : Bool) (us : List ℤ) (put : flat found us ≡ nextRows early late (p .jobs) (p .window) ts base) (f : found ≡ false) where
+        abbrev u : Rows
+        u = rowsOf (nodes (p .jobs + p .jobs)) us
+
+        joined-is : joined p c0 t ≡ bounds u
+        joined-is =
+            subst (λ us. joined p c0 t ≡ bounds (rowsOf (nodes (p .jobs + p .jobs)) us)) (ap (λ r. r .weights) (sym put))
+            (next-outcome .keeps (ap (λ r. r .found) (sym put) ∙ f))
+
+        pub joined-fits : Fit p (nodes (p .jobs + p .jobs)) (rowsOf (nodes (p .jobs + p .jobs)) us)
+        joined-fits = joined-fit p c0 t own-fit fit u joined-is
+
+        -- and the next window's events are eliminated
+        module _ (r : JudgedSet) (e : setOf (nodes (p .jobs)) r ≡ eliminated p (p .jobs) (p .jobs) (rowsOf (nodes (p .jobs + p .jobs)) us)) where
+          abbrev remains : Rows
+          remains = rowsOf (nodes (p .jobs)) (r .table .weights)
+
+          pub remains-none : r .contradiction ≡ true → outcome p ≡ noStrategy (cond (failsAlone p (rowsOf (nodes (p .jobs)) ts)) m (m + 1))
+          remains-none c =
+              turn
+              ∙ decided-none p m t (round p c0 t) (roundsFrom p c0 (m + 1) (left - 1))
+              (round-some p c0 t u joined-is ∙ sym e ∙ setOf-found (nodes (p .jobs)) r c)
+
+          module _ (c : r .contradiction ≡ false) where
+            left-is : eliminated p (p .jobs) (p .jobs) u ≡ bounds remains
+            left-is = sym e ∙ setOf-left (nodes (p .jobs)) r c
+
+            round-is : round p c0 t ≡ bounds remains
+            round-is = round-some p c0 t u joined-is ∙ left-is
+
+            pub remains-fit : Fit p (nodes (p .jobs)) (rowsOf (nodes (p .jobs)) (r .table .weights))
+            remains-fit = eliminated-fit p (p .jobs) (p .jobs) u remains joined-fits left-is
+
+            pub round-later : sameRows (rowsOf (nodes (p .jobs)) ts) (rowsOf (nodes (p .jobs)) (r .table .weights)) ≡ false
+                → outcome p ≡ roundsFrom p (rowsOf (nodes (p .jobs)) own) (m + 1) (left - 1) (rowsOf (nodes (p .jobs)) (r .table .weights))
+            round-later h = turn ∙ decided-later p m t (round p c0 t) (roundsFrom p c0 (m + 1) (left - 1)) remains round-is h
+
+            module _ (h : sameRows (rowsOf (nodes (p .jobs)) ts) (rowsOf (nodes (p .jobs)) (r .table .weights)) ≡ true) where
+              pub round-settled : outcome p ≡ settled m (rowsOf (nodes (p .jobs)) (r .table .weights))
+              round-settled = turn ∙ decided-settled p m t (round p c0 t) (roundsFrom p c0 (m + 1) (left - 1)) remains round-is h
+
+              -- the settled set is the one that was carried into the round
+              settled-joins : (n : ℕ) (v : Rows) → outcome p ≡ settled n v → thenSet (C0 p) (λ c0. joined p c0 v) ≡ bounds u
+              unfolding thenSet
+              settled-joins n v q =
+                  ap (λ s. thenSet s (λ c0. joined p c0 v)) (own-rows p early late clocked own own-put)
+                  ∙ ap (joined p c0) (sym (sameRows-unique t remains h ∙ settled-back m n remains v (sym round-settled ∙ q)))
+                  ∙ joined-is
+
+              pub round-settled-on : SettledOn p (rowsOf (nodes (p .jobs + p .jobs)) us)
+              round-settled-on = record { joins = settled-joins; fits = λ n v q. joined-fits; sound = λ n v q. ap isContradictory left-is }
+
+-- ---- one window alone
+
+pub alone-is : (p : Plan) (t : Rows) (n : ℕ) (r : JudgedSet) → setOf n r ≡ eliminated p 0 (p .jobs) t → r .contradiction ≡ failsAlone p t
+unfolding failsAlone
+alone-is p t n r e = told (r .contradiction) ∙ ap isContradictory e
+  where
+    told : (b : Bool) → b ≡ isContradictory (cond b contradiction (bounds (rowsOf n (r .table .weights))))
+    told true = refl
+    told false = refl
+
+module _ (p : Plan) (t : Rows) (m : ℕ) (b : Bool) (e : b ≡ failsAlone p t) where
+  pub alone-fails : b ≡ true → NoStrategy m ≡ NoStrategy (cond (failsAlone p t) m (m + 1))
+  alone-fails f = ap (λ b. NoStrategy (cond b m (m + 1))) (sym f ∙ e)
+
+  pub alone-holds : b ≡ false → NoStrategy (m + 1) ≡ NoStrategy (cond (failsAlone p t) m (m + 1))
+  alone-holds f = ap (λ b. NoStrategy (cond b m (m + 1))) (sym f ∙ e)
