@@ -19,7 +19,7 @@ enum StepAt {
     Bad(Refusal),
 }
 
-mod answer;
+mod judged;
 mod print;
 mod read;
 mod steps;

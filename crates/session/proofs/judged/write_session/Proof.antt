@@ -3,8 +3,8 @@ use mathlib.Core.Path.{refl}
 use native.Mathlib.Omega.{arith}
 use Rattle.plan.specs.WrittenLaws.{stored-whole, measured-none, measured-whole}
 use borrow.Author.Needs.{needs}
-use Rattle.session.proofs.answer.write_session.Statement.{statement}
-use Rattle.session.proofs.answer.write_session.Tie as tie
+use Rattle.session.proofs.judged.write_session.Statement.{statement}
+use Rattle.session.proofs.judged.write_session.Tie as tie
 
 sub-steps : tie.Need-sub-steps
 sub-steps c = search needs

@@ -9,8 +9,8 @@ use Rattle.session.specs.Sessions.{answers}
 use Rattle.session.specs.JudgedLaws.{judged-inside, judged-settled, judged-refused, judged-unsettled}
 use Rattle.plan.specs.WrittenLaws.{stored-as}
 use borrow.Author.Needs.{needs}
-use Rattle.session.proofs.answer.put_session.Statement.{statement}
-use Rattle.session.proofs.answer.put_session.Tie as tie
+use Rattle.session.proofs.judged.put_session.Statement.{statement}
+use Rattle.session.proofs.judged.put_session.Tie as tie
 
 enum-told : tie.Need-enum-told
 enum-told c = search needs

@@ -1,4 +1,4 @@
-// A session's answer, written into a lent slice or refused by 12.
+// The answer of a session whose plan was judged, written into a lent slice or refused by 12.
 use crate::steps::put_answers;
 use calendars::Calendar;
 use plan::Plan;

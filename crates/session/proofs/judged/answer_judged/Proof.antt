@@ -3,8 +3,8 @@ use denote.Ref.{now}
 use Rattle.session.specs.HeadLaws.{HeadRead, head-accepted}
 use Rattle.plan.specs.WrittenLaws.{wrote-as}
 use borrow.Author.Needs.{needs}
-use Rattle.session.proofs.answer.answer_judged.Statement.{statement}
-use Rattle.session.proofs.answer.answer_judged.Tie as tie
+use Rattle.session.proofs.judged.answer_judged.Statement.{statement}
+use Rattle.session.proofs.judged.answer_judged.Tie as tie
 
 head : (c : tie.Start) → HeadRead (now (c .args .text)) (c .args .head)
 head c = head-accepted (now (c .args .text)) (c .args .head) (c .pre .0) (c .pre .1 .0)
