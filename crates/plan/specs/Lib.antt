@@ -12,6 +12,7 @@ pub mod Pairs
 pub mod BoundNames
 pub mod PlanAnswers
 pub mod ReadAt
+pub mod PlanJudged
 pub mod Accepted
 -- ---- laws
 pub mod WrittenLaws
@@ -25,4 +26,5 @@ pub mod ReadAtLaws
 pub mod JobsLoop
 pub mod BoundsLoop
 pub mod HeadLaws
+pub mod JudgedLaws
 pub mod Unique

@@ -1,0 +1,137 @@
+-- A plan judged as a value is judged as its text would be. One line: `numberLine-judged`, `countLine-judged`, `boundLine-judged`; the groups: `jobLines-judged`, `jobsAfter-judged`, `boundsAfter-judged`.
+-- A law is stated of what is made of a reading that ends with its refusal (`Ending`), so that it serves at any place of the plan.
+use mathlib.Core.Path.{_≡_, refl, sym, _∙_, ap}
+use mathlib.Core.Bool.{Bool, true, false, cond, _&&_}
+use mathlib.Core.List.{List, [], _∷_, _++_, append-assoc, append-nil}
+use mathlib.Core.Option.{Option, none, some}
+use Prim.Native.Nat.{ℕ, zero, suc, _+_, _*_, _≤_, _<_}
+use native.Mathlib.Omega.{arith}
+use lib.IntN.{ℤ, pos}
+use lib.ListN.{length}
+use Rattle.text.specs.Bytes.{bytes}
+use Rattle.text.specs.Lines.{LF, lenTo, before, has, after}
+use Rattle.text.specs.LineLaws.{before-back, has-back, after-back}
+use Rattle.text.specs.NumberLaws.{numberIn-decimal, numberAfter-back, keyed-free}
+use Rattle.text.specs.Numbers.{decimal, within}
+use Rattle.text.specs.declared.Fault.the-variants as fault
+use Rattle.text.specs.declared.Number.the-variants as number
+use Rattle.plan.specs.declared.Job.{Job}
+use Rattle.plan.specs.declared.PlanAnswer.{PlanAnswer}
+use Rattle.plan.specs.declared.PlanAnswer.the-variants.{Accepted, Refused}
+use Rattle.plan.specs.declared.Refusal.{Refusal}
+use Rattle.plan.specs.declared.Refusal.the-variants.{Range}
+use Rattle.plan.specs.Limits.{longestRunning, latestDeadline}
+use Rattle.plan.specs.Reading.{Lined, value, bad, Reading, read, refused, Reader, next, lined, line, linedNumber, numberLine}
+use Rattle.plan.specs.PlanRead.{countLine, jobLines, jobsAfter}
+use Rattle.plan.specs.PlanWritten.{keyed, jobsText}
+use Rattle.plan.specs.PlanJudged.{andThen, numberJudged, jobJudged, jobsJudged}
+
+-- ---- one answer after another
+
+andThen-assoc : (x y z : PlanAnswer) → andThen (andThen x y) z ≡ andThen x (andThen y z)
+andThen-assoc Accepted y z = refl
+andThen-assoc (Refused r) y z = refl
+
+-- what follows an answer matters only where that accepts
+andThen-where : (x : PlanAnswer) {y z : PlanAnswer} → (x ≡ Accepted → y ≡ z) → andThen x y ≡ andThen x z
+andThen-where Accepted f = f refl
+andThen-where (Refused r) f = refl
+
+-- what is made of a reading, where a refusal stays that refusal
+abbrev pub Ending : {A : Type 0} → (Reading A → PlanAnswer) → Type 0
+Ending {A} k = (r : Refusal) (s : List ℕ) → k (refused r s) ≡ Refused r
+
+-- ---- a line
+
+-- no key has an LF
+abbrev Bare : List ℕ → Type 0
+Bare key = lenTo LF key ≡ length key
+
+record KeysBare : Type 0 where
+  pub window : Bare (bytes "window=")
+  pub rounds : Bare (bytes "rounds=")
+  pub last : Bare (bytes "last=")
+  pub jobs : Bare (bytes "jobs=")
+  pub min : Bare (bytes "min=")
+  pub max : Bare (bytes "max=")
+  pub release : Bare (bytes "release=")
+  pub deadline : Bare (bytes "deadline=")
+  pub bounds : Bare (bytes "bounds=")
+  pub bound : Bare (bytes "bound=")
+
+keys : KeysBare
+unfolding bytes lenTo
+keys = record { window = refl; rounds = refl; last = refl; jobs = refl; min = refl; max = refl; release = refl; deadline = refl; bounds = refl; bound = refl }
+
+-- a line as it is written, with the text that follows it
+pub line-back : {A : Type 0} (f : List ℕ → Lined A) (l s : List ℕ) (n : ℕ) → lenTo LF l ≡ length l → line f (l ++ (LF ∷ s)) n ≡ lined (f l) (l ++ (LF ∷ s)) n
+unfolding line
+line-back f l s n e = rw (has-back LF l s e, before-back LF l s e)
+
+-- a line that is a key and a number
+module _ (key : List ℕ) (bare : lenTo LF key ≡ length key) (lo hi z : ℤ) (s : List ℕ) (n : ℕ) where
+  pub numberLine-back : numberLine key lo hi (keyed key z s) n ≡ cond (within lo hi z) (read z s (suc n)) (refused (Range n) (keyed key z s))
+  unfolding lined linedNumber
+  numberLine-back =
+      rw (sym (append-assoc key (decimal z) (LF ∷ s)))
+      (line-back _ (key ++ decimal z) s n (keyed-free key z bare)
+      ∙ rw (numberAfter-back key lo hi (decimal z), numberIn-decimal lo hi z)
+      (by-range (within lo hi z)))
+    where
+      by-range : (b : Bool) → lined (linedNumber (cond b (number.Value z) (number.Bad fault.Range))) ((key ++ decimal z) ++ (LF ∷ s)) n
+          ≡ cond b (read z s (suc n)) (refused (Range n) ((key ++ decimal z) ++ (LF ∷ s)))
+      by-range true = ap (λ (t : List ℕ). read z t (suc n)) (after-back LF (key ++ decimal z) s (keyed-free key z bare))
+      by-range false = refl
+
+  pub numberLine-judged : {B : Type 0} (k : Reading B → PlanAnswer) → Ending k → (f : ℤ → Reader B)
+      → k (next (numberLine key lo hi (keyed key z s) n) f) ≡ andThen (numberJudged lo hi z n) (k (f z s (suc n)))
+  unfolding next
+  numberLine-judged {B} k ends f = ap (λ m. k (next m f)) numberLine-back ∙ by-range (within lo hi z)
+    where
+      by-range : (b : Bool) → k (next (cond b (read z s (suc n)) (refused (Range n) (keyed key z s))) f) ≡ andThen (cond b Accepted (Refused (Range n))) (k (f z s (suc n)))
+      by-range true = refl
+      by-range false = ends (Range n) (keyed key z s)
+
+-- a line that is a key and a count
+pub countLine-judged : (key : List ℕ) → lenTo LF key ≡ length key → (lo hi z : ℕ) (s : List ℕ) (n : ℕ) {B : Type 0} (k : Reading B → PlanAnswer) → Ending k → (f : ℕ → Reader B)
+    → k (next (countLine key lo hi (keyed key (pos z) s) n) f) ≡ andThen (numberJudged (pos lo) (pos hi) (pos z) n) (k (f z s (suc n)))
+unfolding next
+countLine-judged key bare lo hi z s n k ends f =
+    numberLine-judged key bare (pos lo) (pos hi) (pos z) s n (λ m. k (next m f)) ends _
+
+-- ---- jobs
+
+pub jobLines-judged : (j : Job) (s : List ℕ) (n : ℕ) (k : Reading Job → PlanAnswer) → Ending k
+    → k (jobLines (jobsText (j ∷ []) s) n) ≡ andThen (jobJudged n j) (k (read j s (n + 4)))
+unfolding jobLines jobsText jobJudged
+jobLines-judged j s n k ends =
+    let e1 : n + 1 ≡ suc n = omega arith in
+    let e2 : n + 2 ≡ suc (suc n) = omega arith in
+    let e3 : n + 3 ≡ suc (suc (suc n)) = omega arith in
+    let e4 : n + 4 ≡ suc (suc (suc (suc n))) = omega arith in
+    rw (e1, e2, e3, e4)
+    (numberLine-judged (bytes "min=") (keys .min) (pos 0) longestRunning (j .min) _ n k ends _
+    ∙ ap (andThen (numberJudged (pos 0) longestRunning (j .min) n))
+    (numberLine-judged (bytes "max=") (keys .max) (j .min) longestRunning (j .max) _ (suc n) k ends _
+    ∙ ap (andThen (numberJudged (j .min) longestRunning (j .max) (suc n)))
+    (numberLine-judged (bytes "release=") (keys .release) (pos 0) latestDeadline (j .release) _ (suc (suc n)) k ends _
+    ∙ ap (andThen (numberJudged (pos 0) latestDeadline (j .release) (suc (suc n))))
+    (numberLine-judged (bytes "deadline=") (keys .deadline) (pos 0) latestDeadline (j .deadline) _ (suc (suc (suc n))) k ends _)))
+    ∙ four (numberJudged (pos 0) longestRunning (j .min) n) (numberJudged (j .min) longestRunning (j .max) (suc n)) (numberJudged (pos 0) latestDeadline (j .release) (suc (suc n))) (numberJudged (pos 0) latestDeadline (j .deadline) (suc (suc (suc n)))) _)
+  where
+    four : (a b c d y : PlanAnswer) → andThen a (andThen b (andThen c (andThen d y))) ≡ andThen (andThen a (andThen b (andThen c d))) y
+    four (Refused r) b c d y = refl
+    four Accepted (Refused r) c d y = refl
+    four Accepted Accepted (Refused r) d y = refl
+    four Accepted Accepted Accepted d y = refl
+
+pub jobsAfter-judged : (done js : List Job) (s : List ℕ) (n : ℕ) (k : Reading (List Job) → PlanAnswer) → Ending k
+    → k (jobsAfter done (length js) (jobsText js s) n) ≡ andThen (jobsJudged n js) (k (read (done ++ js) s (n + 4 * length js)))
+unfolding jobsAfter jobsText jobsJudged next
+jobsAfter-judged done [] s n k ends = let e : n + 4 * 0 ≡ n = omega arith in rw (append-nil done, e)
+jobsAfter-judged done (j ∷ js) s n k ends =
+    let e : n + 4 * suc (length js) ≡ n + 4 + 4 * length js = omega arith in
+    rw e
+    (jobLines-judged j (jobsText js s) n (λ m. k (next m (λ job. jobsAfter (done ++ (job ∷ [])) (length js)))) ends
+    ∙ ap (andThen (jobJudged n j)) (jobsAfter-judged (done ++ (j ∷ [])) js s (n + 4) k ends ∙ ap (λ (l : List Job). andThen (jobsJudged (n + 4) js) (k (read l s (n + 4 + 4 * length js)))) (append-assoc done (j ∷ []) js))
+    ∙ sym (andThen-assoc (jobJudged n j) (jobsJudged (n + 4) js) _))
