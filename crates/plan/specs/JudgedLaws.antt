@@ -1,30 +1,43 @@
 -- A plan judged as a value is judged as its text would be. One line: `numberLine-judged`, `countLine-judged`, `boundLine-judged`; the groups: `jobLines-judged`, `jobsAfter-judged`, `boundsAfter-judged`.
 -- A law is stated of what is made of a reading that ends with its refusal (`Ending`), so that it serves at any place of the plan.
 use mathlib.Core.Path.{_≡_, refl, sym, _∙_, ap}
-use mathlib.Core.Bool.{Bool, true, false, cond, _&&_}
+use mathlib.Core.Bool.{Bool, true, false, not, cond, _&&_}
 use mathlib.Core.List.{List, [], _∷_, _++_, append-assoc, append-nil}
 use mathlib.Core.Option.{Option, none, some}
 use Prim.Native.Nat.{ℕ, zero, suc, _+_, _*_, _≤_, _<_}
 use native.Mathlib.Omega.{arith}
+use borrow.Author.Tests.{ltb-true, ltb-false}
+use lib.Dec.{ltb}
 use lib.IntN.{ℤ, pos}
 use lib.ListN.{length}
 use Rattle.text.specs.Bytes.{bytes}
-use Rattle.text.specs.Lines.{LF, lenTo, before, has, after}
-use Rattle.text.specs.LineLaws.{before-back, has-back, after-back}
-use Rattle.text.specs.NumberLaws.{numberIn-decimal, numberAfter-back, keyed-free}
-use Rattle.text.specs.Numbers.{decimal, within}
+use Rattle.text.specs.Lines.{LF, comma, lenTo}
+use Rattle.text.specs.DigitLaws.{digits-all, digits-free}
+use Rattle.text.specs.LineLaws.{lenTo-other, free-append, before-back, has-back, after-back, afterKey-back}
+use Rattle.text.specs.NumberLaws.{decimal-form, decimal-back, decimal-free, numberIn-decimal, numberAfter-back, keyed-free}
+use Rattle.text.specs.Numbers.{isDigit, digits, decimal, within}
 use Rattle.text.specs.declared.Fault.the-variants as fault
 use Rattle.text.specs.declared.Number.the-variants as number
 use Rattle.plan.specs.declared.Job.{Job}
+use Rattle.plan.specs.declared.Letter.{Letter}
+use Rattle.plan.specs.declared.Letter.the-variants.{This, Next}
+use Rattle.plan.specs.declared.Kind.{Kind}
+use Rattle.plan.specs.declared.Kind.the-variants.{Start, Finish}
+use Rattle.plan.specs.declared.EventName.{EventName}
+use Rattle.plan.specs.declared.Bound.{Bound}
+use Rattle.plan.specs.declared.BoundLine.the-variants as boundLine
 use Rattle.plan.specs.declared.PlanAnswer.{PlanAnswer}
 use Rattle.plan.specs.declared.PlanAnswer.the-variants.{Accepted, Refused}
 use Rattle.plan.specs.declared.Refusal.{Refusal}
-use Rattle.plan.specs.declared.Refusal.the-variants.{Range}
-use Rattle.plan.specs.Limits.{longestRunning, latestDeadline}
+use Rattle.plan.specs.declared.Refusal.the-variants.{Form, Range, Pair}
+use Rattle.plan.specs.Limits.{longestRunning, latestDeadline, leastC, greatestC}
 use Rattle.plan.specs.Reading.{Lined, value, bad, Reading, read, refused, Reader, next, lined, line, linedNumber, numberLine}
-use Rattle.plan.specs.PlanRead.{countLine, jobLines, jobsAfter}
-use Rattle.plan.specs.PlanWritten.{keyed, jobsText}
-use Rattle.plan.specs.PlanJudged.{andThen, numberJudged, jobJudged, jobsJudged}
+use Rattle.plan.specs.EventNames.{letterByte, kindByte, nameBytes, eventName}
+use Rattle.plan.specs.EventNameLaws.{eventName-back, eventName-long}
+use Rattle.plan.specs.PlanRead.{countLine, jobLines, jobsAfter, partsOf, boundParts, isJob, isWrongPair, judgedBound, boundOf, linedBound, boundIn, boundsAfter}
+use Rattle.plan.specs.PlanWritten.{keyed, jobsText, boundBytes, boundsText}
+use Rattle.plan.specs.PlanLaws.{boundBytes-append}
+use Rattle.plan.specs.PlanJudged.{andThen, numberJudged, jobJudged, jobsJudged, isOneDigit, lineJudged, boundJudged, boundsJudged}
 
 -- ---- one answer after another
 
@@ -135,3 +148,86 @@ jobsAfter-judged done (j ∷ js) s n k ends =
     (jobLines-judged j (jobsText js s) n (λ m. k (next m (λ job. jobsAfter (done ++ (job ∷ [])) (length js)))) ends
     ∙ ap (andThen (jobJudged n j)) (jobsAfter-judged (done ++ (j ∷ [])) js s (n + 4) k ends ∙ ap (λ (l : List Job). andThen (jobsJudged (n + 4) js) (k (read l s (n + 4 + 4 * length js)))) (append-assoc done (j ∷ []) js))
     ∙ sym (andThen-assoc (jobJudged n j) (jobsJudged (n + 4) js) _))
+
+-- ---- bounds
+
+letterByte-over : (l : Letter) → 100 < letterByte l
+letterByte-over This = omega arith
+letterByte-over Next = omega arith
+
+kindByte-over : (k : Kind) → 100 < kindByte k
+kindByte-over Start = omega arith
+kindByte-over Finish = omega arith
+
+-- an event's name holds neither LF nor comma
+nameBytes-free : (b : ℕ) → isDigit b ≡ false → b ≤ 100 → (e : EventName) → lenTo b (nameBytes e) ≡ length (nameBytes e)
+nameBytes-free b q h e =
+    lenTo-other b _ (λ d. omega (arith, letterByte-over (e .letter)))
+    ∙ ap suc (lenTo-other b _ (λ d. omega (arith, kindByte-over (e .kind))) ∙ ap suc (digits-free b (digits (e .job)) q (digits-all (e .job))))
+
+-- two names and a number, with a comma after each name
+boundParts-back : (a b : EventName) (s : List ℕ) → boundParts (some (nameBytes a ++ (comma ∷ (nameBytes b ++ (comma ∷ s))))) ≡ partsOf (eventName (nameBytes a)) (eventName (nameBytes b)) s
+unfolding boundParts
+boundParts-back a b s =
+    let fa = nameBytes-free comma refl (omega arith) a in
+    let fb = nameBytes-free comma refl (omega arith) b in
+    rw (has-back comma (nameBytes a) (nameBytes b ++ (comma ∷ s)) fa, before-back comma (nameBytes a) (nameBytes b ++ (comma ∷ s)) fa, after-back comma (nameBytes a) (nameBytes b ++ (comma ∷ s)) fa)
+    (rw (has-back comma (nameBytes b) s fb, before-back comma (nameBytes b) s fb, after-back comma (nameBytes b) s fb))
+
+module _ (jobs : ℕ) (given : List Bound) (d : Bound) where
+  -- a bound's line has its form where both names have one job digit
+  pub boundIn-back : boundIn jobs given (boundBytes d []) ≡ cond (isOneDigit (d .a .job) && isOneDigit (d .b .job)) (judgedBound jobs (λ a b. isWrongPair a b given) d) (boundLine.Bad fault.Form)
+  unfolding boundOf
+  boundIn-back =
+      rw (append-nil (decimal (d .c)), afterKey-back (bytes "bound=") (nameBytes (d .a) ++ (comma ∷ (nameBytes (d .b) ++ (comma ∷ decimal (d .c))))), boundParts-back (d .a) (d .b) (decimal (d .c)))
+      (by-digits (ltb (d .a .job) 10) (ltb (d .b .job) 10) refl refl)
+    where
+      by-digits : (x y : Bool) → ltb (d .a .job) 10 ≡ x → ltb (d .b .job) 10 ≡ y
+          → boundOf jobs (λ a b. isWrongPair a b given) (partsOf (eventName (nameBytes (d .a))) (eventName (nameBytes (d .b))) (decimal (d .c)))
+          ≡ cond (x && y) (judgedBound jobs (λ a b. isWrongPair a b given) d) (boundLine.Bad fault.Form)
+      by-digits true true p q = rw (eventName-back (d .a) (ltb-true (d .a .job) 10 p), eventName-back (d .b) (ltb-true (d .b .job) 10 q), decimal-form (d .c)) (rw (decimal-back (d .c)))
+      by-digits true false p q = rw (eventName-back (d .a) (ltb-true (d .a .job) 10 p), eventName-long (d .b) (ltb-false (d .b .job) 10 q))
+      by-digits false y p q = rw (eventName-long (d .a) (ltb-false (d .a .job) 10 p))
+
+  boundBytes-free : lenTo LF (boundBytes d []) ≡ length (boundBytes d [])
+  unfolding lenTo
+  boundBytes-free =
+      free-append LF (bytes "bound=") _ (keys .bound)
+      (free-append LF (nameBytes (d .a)) _ (nameBytes-free LF refl (omega arith) (d .a))
+      (ap suc
+      (free-append LF (nameBytes (d .b)) _ (nameBytes-free LF refl (omega arith) (d .b))
+      (ap suc (free-append LF (decimal (d .c)) [] (decimal-free LF refl (omega arith) (d .c)) refl)))))
+
+  pub boundLine-judged : (s : List ℕ) (n : ℕ) {B : Type 0} (k : Reading B → PlanAnswer) → Ending k → (f : Bound → Reader B)
+      → k (next (line (λ l. linedBound (boundIn jobs given l)) (boundBytes d (LF ∷ s)) n) f) ≡ andThen (boundJudged jobs given n d) (k (f d s (suc n)))
+  unfolding next lined linedBound boundJudged
+  boundLine-judged s n {B} k ends f =
+      ap (λ t. k (next (line (λ l. linedBound (boundIn jobs given l)) t n) f)) (sym (boundBytes-append d [] (LF ∷ s)))
+      ∙ ap (λ m. k (next m f)) (line-back (λ l. linedBound (boundIn jobs given l)) (boundBytes d []) s n boundBytes-free)
+      ∙ ap (λ x. k (next (lined (linedBound x) t n) f)) boundIn-back
+      ∙ by-tests (isOneDigit (d .a .job) && isOneDigit (d .b .job)) (not (isJob jobs (d .a .job) && isJob jobs (d .b .job) && within leastC greatestC (d .c))) (isWrongPair (d .a) (d .b) given)
+    where
+      t : List ℕ
+      t = boundBytes d [] ++ (LF ∷ s)
+
+      by-tests : (x y z : Bool) → k (next (lined (linedBound (cond x (cond y (boundLine.Bad fault.Range) (cond z (boundLine.Bad fault.Pair) (boundLine.Value d))) (boundLine.Bad fault.Form))) t n) f)
+          ≡ andThen (cond x (lineJudged n (cond y (boundLine.Bad fault.Range) (cond z (boundLine.Bad fault.Pair) (boundLine.Value d)))) (Refused (Form n))) (k (f d s (suc n)))
+      by-tests false y z = ends (Form n) t
+      by-tests true true z = ends (Range n) t
+      by-tests true false true = ends (Pair n) t
+      by-tests true false false = ap (λ (r : List ℕ). k (f d r (suc n))) (after-back LF (boundBytes d []) s boundBytes-free)
+
+pub boundsAfter-judged : (jobs : ℕ) (given ds : List Bound) (n : ℕ) (k : Reading (List Bound) → PlanAnswer) → Ending k
+    → k (boundsAfter jobs given (length ds) (boundsText ds) n) ≡ andThen (boundsJudged jobs given n ds) (k (read (given ++ ds) [] (n + length ds)))
+unfolding boundsAfter boundsText boundsJudged next
+boundsAfter-judged jobs given [] n k ends = let e : n + 0 ≡ n = omega arith in rw (append-nil given, e)
+boundsAfter-judged jobs given (d ∷ ds) n k ends =
+    let e : n + suc (length ds) ≡ n + 1 + length ds = omega arith in
+    let e1 : suc n ≡ n + 1 = omega arith in
+    rw e
+    (boundLine-judged jobs given d (boundsText ds) n k ends (λ b. boundsAfter jobs (given ++ (b ∷ [])) (length ds))
+    ∙ ap (andThen (boundJudged jobs given n d))
+    (ap (λ (m : ℕ). k (boundsAfter jobs (given ++ (d ∷ [])) (length ds) (boundsText ds) m)) e1
+    ∙ boundsAfter-judged jobs (given ++ (d ∷ [])) ds (n + 1) k ends
+    ∙ ap (λ (l : List Bound). andThen (boundsJudged jobs (given ++ (d ∷ [])) (n + 1) ds) (k (read l [] (n + 1 + length ds)))) (append-assoc given (d ∷ []) ds))
+    ∙ sym (andThen-assoc (boundJudged jobs given n d) (boundsJudged jobs (given ++ (d ∷ [])) (n + 1) ds) _))

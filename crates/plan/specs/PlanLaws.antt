@@ -195,7 +195,7 @@ AllBounds-at jobs given (d ∷ ds) (suc i) h l =
     let q = AllBounds-at jobs (given ++ (d ∷ [])) ds i (h .2) (omega arith) in
     (q .0, rw append-assoc at (q .1))
 
-boundBytes-append : (d : Bound) (s t : List ℕ) → boundBytes d s ++ t ≡ boundBytes d (s ++ t)
+pub boundBytes-append : (d : Bound) (s t : List ℕ) → boundBytes d s ++ t ≡ boundBytes d (s ++ t)
 boundBytes-append d s t = simp append-assoc
 
 pub record BoundsRead (jobs : ℕ) (given : List Bound) (left : ℕ) (s : List ℕ) (ds : List Bound) (t : List ℕ) : Type 0 where
