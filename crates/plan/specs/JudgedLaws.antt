@@ -4,17 +4,21 @@ use mathlib.Core.Path.{_≡_, refl, sym, _∙_, ap}
 use mathlib.Core.Bool.{Bool, true, false, not, cond, _&&_}
 use mathlib.Core.List.{List, [], _∷_, _++_, append-assoc, append-nil}
 use mathlib.Core.Option.{Option, none, some}
-use Prim.Native.Nat.{ℕ, zero, suc, _+_, _*_, _≤_, _<_}
+use Prim.Native.Nat.{ℕ, suc, _+_, _*_, _^_, _≤_, _<_}
 use native.Mathlib.Omega.{arith}
 use borrow.Author.Tests.{ltb-true, ltb-false}
 use lib.Dec.{ltb}
 use lib.IntN.{ℤ, pos}
-use lib.ListN.{length}
+use lib.ListN.{length, length-append, length-take}
+use lib.Signed.{_≤ℤ_, leZ}
+use mir.Syntax.{w64}
+use mir.Val.{SFits}
+use Rattle.whole.specs.Rules.{whole}
 use Rattle.text.specs.Bytes.{bytes}
 use Rattle.text.specs.Lines.{LF, comma, lenTo}
-use Rattle.text.specs.DigitLaws.{digits-all, digits-free}
+use Rattle.text.specs.DigitLaws.{digits-all, digits-free, digits-short}
 use Rattle.text.specs.LineLaws.{lenTo-other, free-append, before-back, has-back, after-back, afterKey-back}
-use Rattle.text.specs.NumberLaws.{decimal-form, decimal-back, decimal-free, numberIn-decimal, numberAfter-back, keyed-free}
+use Rattle.text.specs.NumberLaws.{decimal-form, decimal-back, decimal-free, decimal-short, numberIn-decimal, numberAfter-back, keyed-free}
 use Rattle.text.specs.Numbers.{isDigit, digits, decimal, within}
 use Rattle.text.specs.declared.Fault.the-variants as fault
 use Rattle.text.specs.declared.Number.the-variants as number
@@ -26,18 +30,22 @@ use Rattle.plan.specs.declared.Kind.the-variants.{Start, Finish}
 use Rattle.plan.specs.declared.EventName.{EventName}
 use Rattle.plan.specs.declared.Bound.{Bound}
 use Rattle.plan.specs.declared.BoundLine.the-variants as boundLine
+use Rattle.plan.specs.declared.Plan.{Plan}
 use Rattle.plan.specs.declared.PlanAnswer.{PlanAnswer}
 use Rattle.plan.specs.declared.PlanAnswer.the-variants.{Accepted, Refused}
 use Rattle.plan.specs.declared.Refusal.{Refusal}
 use Rattle.plan.specs.declared.Refusal.the-variants.{Form, Range, Pair}
-use Rattle.plan.specs.Limits.{longestRunning, latestDeadline, leastC, greatestC}
-use Rattle.plan.specs.Reading.{Lined, value, bad, Reading, read, refused, Reader, next, lined, line, linedNumber, numberLine}
+use Rattle.plan.specs.Limits.{longestText, longestWindow, mostRounds, mostWindows, mostJobs, longestRunning, latestDeadline, mostBounds, leastC, greatestC}
+use Rattle.plan.specs.Reading.{Lined, value, bad, Reading, read, refused, Reader, next, _>>=_, answer, lined, line, linedNumber, numberLine}
 use Rattle.plan.specs.EventNames.{letterByte, kindByte, nameBytes, eventName}
 use Rattle.plan.specs.EventNameLaws.{eventName-back, eventName-long}
-use Rattle.plan.specs.PlanRead.{countLine, jobLines, jobsAfter, partsOf, boundParts, isJob, isWrongPair, judgedBound, boundOf, linedBound, boundIn, boundsAfter}
-use Rattle.plan.specs.PlanWritten.{keyed, jobsText, boundBytes, boundsText}
-use Rattle.plan.specs.PlanLaws.{boundBytes-append}
-use Rattle.plan.specs.PlanJudged.{andThen, numberJudged, jobJudged, jobsJudged, isOneDigit, lineJudged, boundJudged, boundsJudged}
+use Rattle.plan.specs.PlanRead.{countLine, jobLines, jobsAfter, partsOf, boundParts, isJob, isWrongPair, judgedBound, boundOf, linedBound, boundIn, boundsAfter, planLines, nothingAfter}
+use Rattle.plan.specs.PlanWritten.{keyed, jobsText, boundBytes, boundsText, jobsOf, boundsOf, planText, refusalOf, judgedPlan}
+use Rattle.plan.specs.ListLaws.{All}
+use Rattle.plan.specs.HeadLaws.{planHead-short}
+use Rattle.plan.specs.ReadAt.{planRest}
+use Rattle.plan.specs.PlanLaws.{boundBytes-append, planOf}
+use Rattle.plan.specs.PlanJudged.{judgedAnswer, andThen, numberJudged, jobJudged, jobsJudged, isOneDigit, lineJudged, boundJudged, boundsJudged, planJudged}
 
 -- ---- one answer after another
 
@@ -56,25 +64,38 @@ Ending {A} k = (r : Refusal) (s : List ℕ) → k (refused r s) ≡ Refused r
 
 -- ---- a line
 
--- no key has an LF
-abbrev Bare : List ℕ → Type 0
-Bare key = lenTo LF key ≡ length key
+-- no key has an LF, and none is long
+record Key (key : List ℕ) : Type 0 where
+  pub bare : lenTo LF key ≡ length key
+  pub short : length key ≤ 9
 
-record KeysBare : Type 0 where
-  pub window : Bare (bytes "window=")
-  pub rounds : Bare (bytes "rounds=")
-  pub last : Bare (bytes "last=")
-  pub jobs : Bare (bytes "jobs=")
-  pub min : Bare (bytes "min=")
-  pub max : Bare (bytes "max=")
-  pub release : Bare (bytes "release=")
-  pub deadline : Bare (bytes "deadline=")
-  pub bounds : Bare (bytes "bounds=")
-  pub bound : Bare (bytes "bound=")
+record Keys : Type 0 where
+  pub window : Key (bytes "window=")
+  pub rounds : Key (bytes "rounds=")
+  pub last : Key (bytes "last=")
+  pub jobs : Key (bytes "jobs=")
+  pub min : Key (bytes "min=")
+  pub max : Key (bytes "max=")
+  pub release : Key (bytes "release=")
+  pub deadline : Key (bytes "deadline=")
+  pub bounds : Key (bytes "bounds=")
+  pub bound : Key (bytes "bound=")
 
-keys : KeysBare
+keys : Keys
 unfolding bytes lenTo
-keys = record { window = refl; rounds = refl; last = refl; jobs = refl; min = refl; max = refl; release = refl; deadline = refl; bounds = refl; bound = refl }
+keys =
+    record {
+      window = record { bare = refl; short = omega arith };
+      rounds = record { bare = refl; short = omega arith };
+      last = record { bare = refl; short = omega arith };
+      jobs = record { bare = refl; short = omega arith };
+      min = record { bare = refl; short = omega arith };
+      max = record { bare = refl; short = omega arith };
+      release = record { bare = refl; short = omega arith };
+      deadline = record { bare = refl; short = omega arith };
+      bounds = record { bare = refl; short = omega arith };
+      bound = record { bare = refl; short = omega arith };
+    }
 
 -- a line as it is written, with the text that follows it
 pub line-back : {A : Type 0} (f : List ℕ → Lined A) (l s : List ℕ) (n : ℕ) → lenTo LF l ≡ length l → line f (l ++ (LF ∷ s)) n ≡ lined (f l) (l ++ (LF ∷ s)) n
@@ -123,13 +144,13 @@ jobLines-judged j s n k ends =
     let e3 : n + 3 ≡ suc (suc (suc n)) = omega arith in
     let e4 : n + 4 ≡ suc (suc (suc (suc n))) = omega arith in
     rw (e1, e2, e3, e4)
-    (numberLine-judged (bytes "min=") (keys .min) (pos 0) longestRunning (j .min) _ n k ends _
+    (numberLine-judged (bytes "min=") (keys .min .bare) (pos 0) longestRunning (j .min) _ n k ends _
     ∙ ap (andThen (numberJudged (pos 0) longestRunning (j .min) n))
-    (numberLine-judged (bytes "max=") (keys .max) (j .min) longestRunning (j .max) _ (suc n) k ends _
+    (numberLine-judged (bytes "max=") (keys .max .bare) (j .min) longestRunning (j .max) _ (suc n) k ends _
     ∙ ap (andThen (numberJudged (j .min) longestRunning (j .max) (suc n)))
-    (numberLine-judged (bytes "release=") (keys .release) (pos 0) latestDeadline (j .release) _ (suc (suc n)) k ends _
+    (numberLine-judged (bytes "release=") (keys .release .bare) (pos 0) latestDeadline (j .release) _ (suc (suc n)) k ends _
     ∙ ap (andThen (numberJudged (pos 0) latestDeadline (j .release) (suc (suc n))))
-    (numberLine-judged (bytes "deadline=") (keys .deadline) (pos 0) latestDeadline (j .deadline) _ (suc (suc (suc n))) k ends _)))
+    (numberLine-judged (bytes "deadline=") (keys .deadline .bare) (pos 0) latestDeadline (j .deadline) _ (suc (suc (suc n))) k ends _)))
     ∙ four (numberJudged (pos 0) longestRunning (j .min) n) (numberJudged (j .min) longestRunning (j .max) (suc n)) (numberJudged (pos 0) latestDeadline (j .release) (suc (suc n))) (numberJudged (pos 0) latestDeadline (j .deadline) (suc (suc (suc n)))) _)
   where
     four : (a b c d y : PlanAnswer) → andThen a (andThen b (andThen c (andThen d y))) ≡ andThen (andThen a (andThen b (andThen c d))) y
@@ -192,7 +213,7 @@ module _ (jobs : ℕ) (given : List Bound) (d : Bound) where
   boundBytes-free : lenTo LF (boundBytes d []) ≡ length (boundBytes d [])
   unfolding lenTo
   boundBytes-free =
-      free-append LF (bytes "bound=") _ (keys .bound)
+      free-append LF (bytes "bound=") _ (keys .bound .bare)
       (free-append LF (nameBytes (d .a)) _ (nameBytes-free LF refl (omega arith) (d .a))
       (ap suc
       (free-append LF (nameBytes (d .b)) _ (nameBytes-free LF refl (omega arith) (d .b))
@@ -231,3 +252,187 @@ boundsAfter-judged jobs given (d ∷ ds) n k ends =
     ∙ boundsAfter-judged jobs (given ++ (d ∷ [])) ds (n + 1) k ends
     ∙ ap (λ (l : List Bound). andThen (boundsJudged jobs (given ++ (d ∷ [])) (n + 1) ds) (k (read l [] (n + 1 + length ds)))) (append-assoc given (d ∷ []) ds))
     ∙ sym (andThen-assoc (boundJudged jobs given n d) (boundsJudged jobs (given ++ (d ∷ [])) (n + 1) ds) _))
+
+-- ---- the plan
+
+-- what is made of a plan that is read alone
+abbrev alone : Reading Plan → PlanAnswer
+alone m = judgedAnswer (refusalOf (nothingAfter m))
+
+alone-ends : Ending alone
+unfolding nothingAfter refusalOf
+alone-ends r s = refl
+
+alone-read : (p : Plan) (n : ℕ) → alone (read p [] n) ≡ Accepted
+unfolding nothingAfter refusalOf
+alone-read p n = refl
+
+andThen-accepted : (x : PlanAnswer) → andThen x Accepted ≡ x
+andThen-accepted Accepted = refl
+andThen-accepted (Refused r) = refl
+
+numberJudged-range : (lo hi z : ℤ) (n : ℕ) → numberJudged lo hi z n ≡ Accepted → (lo ≤ℤ z) × (z ≤ℤ hi)
+numberJudged-range lo hi z n e = by-tests (leZ lo z) (leZ z hi) refl refl e
+  where
+    by-tests : (a b : Bool) → leZ lo z ≡ a → leZ z hi ≡ b → cond (a && b) Accepted (Refused (Range n)) ≡ Accepted → (lo ≤ℤ z) × (z ≤ℤ hi)
+    by-tests true true p q e = (omega whole, omega whole)
+    by-tests true false p q e = absurd (let z : _≡_ {A = ℕ} 0 1 = cc in omega arith)
+    by-tests false b p q e = absurd (let z : _≡_ {A = ℕ} 0 1 = cc in omega arith)
+
+-- the lines after the first four
+planRest-judged : (window : ℤ) (rounds last : ℕ) (js : List Job) (bounds : ℕ) (ds : List Bound) → (bounds ≤ mostBounds → bounds ≡ length ds)
+    → alone (planRest window rounds last (length js) (jobsText js (keyed (bytes "bounds=") (pos bounds) (boundsText ds))) 5)
+    ≡ andThen (jobsJudged 5 js)
+    (andThen (numberJudged (pos 0) (pos mostBounds) (pos bounds) (5 + 4 * length js))
+    (boundsJudged (length js) [] (6 + 4 * length js) ds))
+unfolding next
+planRest-judged window rounds last js bounds ds all =
+    jobsAfter-judged [] js (keyed (bytes "bounds=") (pos bounds) (boundsText ds)) 5 (λ m. alone (next m rest)) alone-ends
+    ∙ ap (andThen (jobsJudged 5 js))
+    (countLine-judged (bytes "bounds=") (keys .bounds .bare) 0 mostBounds bounds (boundsText ds) n alone alone-ends (afterCount js)
+    ∙ andThen-where (numberJudged (pos 0) (pos mostBounds) (pos bounds) n)
+    (λ ok.
+    let count : bounds ≡ length ds = all (omega (whole, numberJudged-range (pos 0) (pos mostBounds) (pos bounds) n ok .1)) in
+    let e : suc n ≡ 6 + 4 * length js = omega arith in
+    ap (λ (b : ℕ). alone (next (boundsAfter (length js) [] b (boundsText ds) (suc n)) (last-of js bounds))) count
+    ∙ ap (λ (i : ℕ). alone (next (boundsAfter (length js) [] (length ds) (boundsText ds) i) (last-of js bounds))) e
+    ∙ boundsAfter-judged (length js) [] ds (6 + 4 * length js) (λ m. alone (next m (last-of js bounds))) alone-ends
+    ∙ ap (andThen (boundsJudged (length js) [] (6 + 4 * length js) ds)) (alone-read (planOf window rounds last (length js) js bounds ds) (6 + 4 * length js + length ds))
+    ∙ andThen-accepted (boundsJudged (length js) [] (6 + 4 * length js) ds)))
+  where
+    n : ℕ
+    n = 5 + 4 * length js
+
+    last-of : List Job → ℕ → List Bound → Reader Plan
+    last-of job b bound = answer (planOf window rounds last (length js) job b bound)
+
+    afterCount : List Job → ℕ → Reader Plan
+    afterCount job b = do
+      bound ← boundsAfter (length js) [] b
+      last-of job b bound
+
+    rest : List Job → Reader Plan
+    rest job = do
+      b ← countLine (bytes "bounds=") 0 mostBounds
+      afterCount job b
+
+-- the arrays have their sizes, as every value's have
+pub record Placed (p : Plan) : Type 0 where
+  pub job-places : length (p .job) ≡ mostJobs
+  pub bound-places : length (p .bound) ≡ mostBounds
+
+pub jobsOf-count : (p : Plan) → Placed p → p .jobs ≤ mostJobs → p .jobs ≡ length (jobsOf p)
+jobsOf-count p q h = omega (arith, length-take (p .jobs) (p .job), q .job-places)
+
+pub boundsOf-count : (p : Plan) → Placed p → p .bounds ≤ mostBounds → p .bounds ≡ length (boundsOf p)
+boundsOf-count p q h = omega (arith, length-take (p .bounds) (p .bound), q .bound-places)
+
+planLines-judged : (p : Plan) → Placed p → alone (planLines (planText p) 1) ≡ planJudged p
+unfolding planLines planText planJudged next
+planLines-judged p q =
+    numberLine-judged (bytes "window=") (keys .window .bare) (pos 1) longestWindow (p .window) _ 1 alone alone-ends _
+    ∙ ap (andThen (numberJudged (pos 1) longestWindow (p .window) 1))
+    (countLine-judged (bytes "rounds=") (keys .rounds .bare) 1 mostRounds (p .rounds) _ 2 alone alone-ends _
+    ∙ ap (andThen (numberJudged (pos 1) (pos mostRounds) (pos (p .rounds)) 2))
+    (countLine-judged (bytes "last=") (keys .last .bare) 1 mostWindows (p .last) _ 3 alone alone-ends _
+    ∙ ap (andThen (numberJudged (pos 1) (pos mostWindows) (pos (p .last)) 3))
+    (countLine-judged (bytes "jobs=") (keys .jobs .bare) 1 mostJobs (p .jobs) _ 4 alone alone-ends (λ jobs. planRest (p .window) (p .rounds) (p .last) jobs)
+    ∙ andThen-where (numberJudged (pos 1) (pos mostJobs) (pos (p .jobs)) 4)
+    (λ ok.
+    let count : p .jobs ≡ length (jobsOf p) = jobsOf-count p q (omega (whole, numberJudged-range (pos 1) (pos mostJobs) (pos (p .jobs)) 4 ok .1)) in
+    ap (λ (jobs : ℕ). alone (planRest (p .window) (p .rounds) (p .last) jobs (jobsText (jobsOf p) (keyed (bytes "bounds=") (pos (p .bounds)) (boundsText (boundsOf p)))) 5)) count
+    ∙ planRest-judged (p .window) (p .rounds) (p .last) (jobsOf p) (p .bounds) (boundsOf p) (boundsOf-count p q)
+    ∙ ap (λ (jobs : ℕ). andThen (jobsJudged 5 (jobsOf p)) (andThen (numberJudged (pos 0) (pos mostBounds) (pos (p .bounds)) (5 + 4 * jobs)) (boundsJudged jobs [] (6 + 4 * jobs) (boundsOf p)))) (sym count)))))
+
+-- 'A plan handed over as a value is judged as its text would be.'
+pub judgedPlan-is : (p : Plan) → Placed p → length (planText p) ≤ longestText → judgedAnswer (judgedPlan p) ≡ planJudged p
+judgedPlan-is p q short = ap alone (planHead-short (planText p) short) ∙ planLines-judged p q
+
+-- ---- a value's text is never too long
+
+-- what the types of a plan tell of its numbers: none is longer than 20 bytes
+pub record JobFits (j : Job) : Type 0 where
+  pub min : SFits w64 (j .min)
+  pub max : SFits w64 (j .max)
+  pub release : SFits w64 (j .release)
+  pub deadline : SFits w64 (j .deadline)
+
+pub record BoundFits (d : Bound) : Type 0 where
+  pub a-job : d .a .job < 2 ^ 64
+  pub b-job : d .b .job < 2 ^ 64
+  pub c : SFits w64 (d .c)
+
+pub record PlanFits (p : Plan) : Type 0 where
+  pub placed : Placed p
+  pub window : SFits w64 (p .window)
+  pub rounds : p .rounds < 2 ^ 64
+  pub last : p .last < 2 ^ 64
+  pub jobs : p .jobs < 2 ^ 64
+  pub bounds : p .bounds < 2 ^ 64
+  pub job-fits : All JobFits (jobsOf p)
+  pub bound-fits : All BoundFits (boundsOf p)
+
+keyed-length : (key : List ℕ) → Key key → (z : ℤ) → length (decimal z) ≤ 20 → (s : List ℕ) → length (keyed key z s) ≤ 30 + length s
+keyed-length key q z h s = omega (arith, length-append key (decimal z ++ (LF ∷ s)), length-append (decimal z) (LF ∷ s), q .short)
+
+jobsText-length : (js : List Job) (s : List ℕ) → All JobFits js → length (jobsText js s) ≤ 120 * length js + length s
+unfolding jobsText
+jobsText-length [] s h = omega arith
+jobsText-length (j ∷ js) s h =
+    let f = h .0 in
+    omega (
+      arith,
+      keyed-length (bytes "min=") (keys .min) (j .min) (decimal-short (j .min) (f .min)) (keyed (bytes "max=") (j .max) (keyed (bytes "release=") (j .release) (keyed (bytes "deadline=") (j .deadline) (jobsText js s)))),
+      keyed-length (bytes "max=") (keys .max) (j .max) (decimal-short (j .max) (f .max)) (keyed (bytes "release=") (j .release) (keyed (bytes "deadline=") (j .deadline) (jobsText js s))),
+      keyed-length (bytes "release=") (keys .release) (j .release) (decimal-short (j .release) (f .release)) (keyed (bytes "deadline=") (j .deadline) (jobsText js s)),
+      keyed-length (bytes "deadline=") (keys .deadline) (j .deadline) (decimal-short (j .deadline) (f .deadline)) (jobsText js s),
+      jobsText-length js s (h .1),
+    )
+
+boundsText-length : (ds : List Bound) → All BoundFits ds → length (boundsText ds) ≤ 80 * length ds
+unfolding boundsText
+boundsText-length [] h = omega arith
+boundsText-length (d ∷ ds) h =
+    let f = h .0 in
+    let s₃ = decimal (d .c) ++ (LF ∷ boundsText ds) in
+    let s₂ = nameBytes (d .b) ++ (comma ∷ s₃) in
+    let s₁ = nameBytes (d .a) ++ (comma ∷ s₂) in
+    omega (
+      arith,
+      length-append (bytes "bound=") s₁,
+      keys .bound .short,
+      length-append (nameBytes (d .a)) (comma ∷ s₂),
+      digits-short (d .a .job) (f .a-job),
+      length-append (nameBytes (d .b)) (comma ∷ s₃),
+      digits-short (d .b .job) (f .b-job),
+      length-append (decimal (d .c)) (LF ∷ boundsText ds),
+      decimal-short (d .c) (f .c),
+      boundsText-length ds (h .1),
+    )
+
+count-short : (n : ℕ) → n < 2 ^ 64 → length (decimal (pos n)) ≤ 20
+unfolding decimal
+count-short n h = digits-short n h
+
+pub planText-short : (p : Plan) → PlanFits p → length (planText p) ≤ longestText
+unfolding planText
+planText-short p f =
+    let s₅ = boundsText (boundsOf p) in
+    let s₄ = jobsText (jobsOf p) (keyed (bytes "bounds=") (pos (p .bounds)) s₅) in
+    let s₃ = keyed (bytes "jobs=") (pos (p .jobs)) s₄ in
+    let s₂ = keyed (bytes "last=") (pos (p .last)) s₃ in
+    let s₁ = keyed (bytes "rounds=") (pos (p .rounds)) s₂ in
+    omega (
+      arith,
+      keyed-length (bytes "window=") (keys .window) (p .window) (decimal-short (p .window) (f .window)) s₁,
+      keyed-length (bytes "rounds=") (keys .rounds) (pos (p .rounds)) (count-short (p .rounds) (f .rounds)) s₂,
+      keyed-length (bytes "last=") (keys .last) (pos (p .last)) (count-short (p .last) (f .last)) s₃,
+      keyed-length (bytes "jobs=") (keys .jobs) (pos (p .jobs)) (count-short (p .jobs) (f .jobs)) s₄,
+      jobsText-length (jobsOf p) (keyed (bytes "bounds=") (pos (p .bounds)) s₅) (f .job-fits),
+      keyed-length (bytes "bounds=") (keys .bounds) (pos (p .bounds)) (count-short (p .bounds) (f .bounds)) s₅,
+      boundsText-length (boundsOf p) (f .bound-fits),
+      length-take (p .jobs) (p .job),
+      f .placed .job-places,
+      length-take (p .bounds) (p .bound),
+      f .placed .bound-places,
+    )

@@ -228,7 +228,7 @@ boundsAfter-then {B} {G} jobs given (suc left) s n f {b} {t} {k} e go =
 
 -- ---- the plan
 
-abbrev planOf : ℤ → ℕ → ℕ → ℕ → List Job → ℕ → List Bound → Plan
+abbrev pub planOf : ℤ → ℕ → ℕ → ℕ → List Job → ℕ → List Bound → Plan
 planOf window rounds last jobs js bounds ds =
     record {
       window = window;
