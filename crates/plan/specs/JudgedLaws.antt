@@ -1,438 +1,252 @@
--- A plan judged as a value is judged as its text would be. One line: `numberLine-judged`, `countLine-judged`, `boundLine-judged`; the groups: `jobLines-judged`, `jobsAfter-judged`, `boundsAfter-judged`.
--- A law is stated of what is made of a reading that ends with its refusal (`Ending`), so that it serves at any place of the plan.
+-- A plan as a value is judged good exactly where it is accepted: `judgedPlan-accepted` and `accepted-judged`, by way of the judgement line by line
+-- (`planJudged-accepted`, `accepted-planJudged`). That this is the judgement of the text stands in `JudgedLines`, and the text's length in `JudgedLength`.
 use mathlib.Core.Path.{_≡_, refl, sym, _∙_, ap}
 use mathlib.Core.Bool.{Bool, true, false, not, cond, _&&_}
-use mathlib.Core.List.{List, [], _∷_, _++_, append-assoc, append-nil}
+use mathlib.Core.List.{List, [], _∷_, _++_, append-nil, append-assoc}
 use mathlib.Core.Option.{Option, none, some}
-use Prim.Native.Nat.{ℕ, suc, _+_, _*_, _^_, _≤_, _<_}
+use Prim.Native.Nat.{ℕ, suc, _+_, _*_, _-_, _≤_, _<_}
 use native.Mathlib.Omega.{arith}
-use borrow.Author.Tests.{ltb-true, ltb-false}
-use lib.Dec.{ltb}
-use lib.IntN.{ℤ, pos}
-use lib.ListN.{length, length-append, length-take}
+use borrow.Author.Tests.{lt-ltb, le-leb}
+use lib.IntN.{ℤ, pos, negsuc}
+use lib.ListN.{length, take, getD, length-take}
+use lib.Seq.{getD-take, take-take}
 use lib.Signed.{_≤ℤ_, leZ}
 use mir.Syntax.{w64}
 use mir.Val.{SFits}
 use Rattle.whole.specs.Rules.{whole}
-use Rattle.text.specs.Bytes.{bytes}
-use Rattle.text.specs.Lines.{LF, comma, lenTo}
-use Rattle.text.specs.DigitLaws.{digits-all, digits-free, digits-short}
-use Rattle.text.specs.LineLaws.{lenTo-other, free-append, before-back, has-back, after-back, afterKey-back}
-use Rattle.text.specs.NumberLaws.{decimal-form, decimal-back, decimal-free, decimal-short, numberIn-decimal, numberAfter-back, keyed-free}
-use Rattle.text.specs.Numbers.{isDigit, digits, decimal, within}
 use Rattle.text.specs.declared.Fault.the-variants as fault
-use Rattle.text.specs.declared.Number.the-variants as number
 use Rattle.plan.specs.declared.Job.{Job}
-use Rattle.plan.specs.declared.Letter.{Letter}
-use Rattle.plan.specs.declared.Letter.the-variants.{This, Next}
-use Rattle.plan.specs.declared.Kind.{Kind}
-use Rattle.plan.specs.declared.Kind.the-variants.{Start, Finish}
-use Rattle.plan.specs.declared.EventName.{EventName}
 use Rattle.plan.specs.declared.Bound.{Bound}
 use Rattle.plan.specs.declared.BoundLine.the-variants as boundLine
 use Rattle.plan.specs.declared.Plan.{Plan}
 use Rattle.plan.specs.declared.PlanAnswer.{PlanAnswer}
-use Rattle.plan.specs.declared.PlanAnswer.the-variants.{Accepted, Refused}
+use Rattle.plan.specs.declared.PlanAnswer.the-variants as answer
 use Rattle.plan.specs.declared.Refusal.{Refusal}
-use Rattle.plan.specs.declared.Refusal.the-variants.{Form, Range, Pair}
+use Rattle.plan.specs.declared.Refusal.the-variants.{Form, Range}
 use Rattle.plan.specs.Limits.{longestText, longestWindow, mostRounds, mostWindows, mostJobs, longestRunning, latestDeadline, mostBounds, leastC, greatestC}
-use Rattle.plan.specs.Reading.{Lined, value, bad, Reading, read, refused, Reader, next, _>>=_, answer, lined, line, linedNumber, numberLine}
-use Rattle.plan.specs.EventNames.{letterByte, kindByte, nameBytes, eventName}
-use Rattle.plan.specs.EventNameLaws.{eventName-back, eventName-long}
-use Rattle.plan.specs.PlanRead.{countLine, jobLines, jobsAfter, partsOf, boundParts, isJob, isWrongPair, judgedBound, boundOf, linedBound, boundIn, boundsAfter, planLines, nothingAfter}
-use Rattle.plan.specs.PlanWritten.{keyed, jobsText, boundBytes, boundsText, jobsOf, boundsOf, planText, refusalOf, judgedPlan}
-use Rattle.plan.specs.ListLaws.{All}
-use Rattle.plan.specs.HeadLaws.{planHead-short}
-use Rattle.plan.specs.ReadAt.{planRest}
-use Rattle.plan.specs.PlanLaws.{boundBytes-append, planOf}
+use Rattle.plan.specs.Reading.{Reading, read, refused}
+use Rattle.plan.specs.PlanRead.{isJob, isWrongPair, noJob, noBound, planAlone}
+use Rattle.plan.specs.PlanWritten.{jobsOf, boundsOf, planText, refusalOf, judgedPlan}
 use Rattle.plan.specs.PlanJudged.{judgedAnswer, andThen, numberJudged, jobJudged, jobsJudged, isOneDigit, lineJudged, boundJudged, boundsJudged, planJudged}
+use Rattle.plan.specs.Accepted.{JobAccepted, BoundAccepted, Accepted}
+use Rattle.plan.specs.ListLaws.{All, All-at, All-of, All-map}
+use Rattle.plan.specs.PlanLaws.{isJob-range, AllBounds, AllBounds-at, planAlone-fits}
+use Rattle.plan.specs.JudgedLines.{numberJudged-range, Placed, judgedPlan-is}
+use Rattle.plan.specs.JudgedLength.{JobFits, BoundFits, PlanFits, planText-short}
 
--- ---- one answer after another
+-- ---- judged good, so accepted
 
-andThen-assoc : (x y z : PlanAnswer) → andThen (andThen x y) z ≡ andThen x (andThen y z)
-andThen-assoc Accepted y z = refl
-andThen-assoc (Refused r) y z = refl
+andThen-both : (x y : PlanAnswer) → andThen x y ≡ answer.Accepted → (x ≡ answer.Accepted) × (y ≡ answer.Accepted)
+andThen-both answer.Accepted y e = (refl, e)
+andThen-both (answer.Refused r) y e = absurd (let z : _≡_ {A = ℕ} 0 1 = cc in omega arith)
 
--- what follows an answer matters only where that accepts
-andThen-where : (x : PlanAnswer) {y z : PlanAnswer} → (x ≡ Accepted → y ≡ z) → andThen x y ≡ andThen x z
-andThen-where Accepted f = f refl
-andThen-where (Refused r) f = refl
+jobJudged-accepted : (n : ℕ) (j : Job) → jobJudged n j ≡ answer.Accepted → JobAccepted j
+unfolding jobJudged
+jobJudged-accepted n j e =
+    let q1 = andThen-both (numberJudged (pos 0) longestRunning (j .min) n) _ e in
+    let q2 = andThen-both (numberJudged (j .min) longestRunning (j .max) (n + 1)) _ (q1 .1) in
+    let q3 = andThen-both (numberJudged (pos 0) latestDeadline (j .release) (n + 2)) _ (q2 .1) in
+    let r1 = numberJudged-range (pos 0) longestRunning (j .min) n (q1 .0) in
+    let r2 = numberJudged-range (j .min) longestRunning (j .max) (n + 1) (q2 .0) in
+    let r3 = numberJudged-range (pos 0) latestDeadline (j .release) (n + 2) (q3 .0) in
+    let r4 = numberJudged-range (pos 0) latestDeadline (j .deadline) (n + 3) (q3 .1) in
+    record { min-least = r1 .0; min-most = r2 .0; max-most = r2 .1; release-least = r3 .0; release-most = r3 .1; deadline-least = r4 .0; deadline-most = r4 .1 }
 
--- what is made of a reading, where a refusal stays that refusal
-abbrev pub Ending : {A : Type 0} → (Reading A → PlanAnswer) → Type 0
-Ending {A} k = (r : Refusal) (s : List ℕ) → k (refused r s) ≡ Refused r
+jobsJudged-accepted : (n : ℕ) (js : List Job) → jobsJudged n js ≡ answer.Accepted → All JobAccepted js
+unfolding jobsJudged
+jobsJudged-accepted n [] e = tt
+jobsJudged-accepted n (j ∷ js) e =
+    let q = andThen-both (jobJudged n j) (jobsJudged (n + 4) js) e in
+    (jobJudged-accepted n j (q .0), jobsJudged-accepted (n + 4) js (q .1))
 
--- ---- a line
+module _ (jobs : ℕ) (given : List Bound) (n : ℕ) (d : Bound) where
+  boundJudged-accepted : boundJudged jobs given n d ≡ answer.Accepted → BoundAccepted jobs d × (isWrongPair (d .a) (d .b) given ≡ false)
+  unfolding boundJudged
+  boundJudged-accepted e =
+      by-tests (isOneDigit (d .a .job) && isOneDigit (d .b .job)) (isJob jobs (d .a .job)) (isJob jobs (d .b .job)) (leZ leastC (d .c)) (leZ (d .c) greatestC) (isWrongPair (d .a) (d .b) given) refl refl refl refl refl e
+    where
+      by-tests : (x p q l m w : Bool) → isJob jobs (d .a .job) ≡ p → isJob jobs (d .b .job) ≡ q → leZ leastC (d .c) ≡ l → leZ (d .c) greatestC ≡ m → isWrongPair (d .a) (d .b) given ≡ w
+          → cond x (lineJudged n (cond (not (p && q && (l && m))) (boundLine.Bad fault.Range) (cond w (boundLine.Bad fault.Pair) (boundLine.Value d)))) (answer.Refused (Form n)) ≡ answer.Accepted
+          → BoundAccepted jobs d × (isWrongPair (d .a) (d .b) given ≡ false)
+      by-tests true true true true true false hp hq hl hm hw e =
+          let ra = isJob-range jobs (d .a .job) hp in
+          let rb = isJob-range jobs (d .b .job) hq in
+          (record { a-least = ra .0; a-most = ra .1; b-least = rb .0; b-most = rb .1; c-least = omega whole; c-most = omega whole }, hw)
+      by-tests true true true true true true hp hq hl hm hw e = absurd (let z : _≡_ {A = ℕ} 0 1 = cc in omega arith)
+      by-tests true true true true false w hp hq hl hm hw e = absurd (let z : _≡_ {A = ℕ} 0 1 = cc in omega arith)
+      by-tests true true true false m w hp hq hl hm hw e = absurd (let z : _≡_ {A = ℕ} 0 1 = cc in omega arith)
+      by-tests true true false l m w hp hq hl hm hw e = absurd (let z : _≡_ {A = ℕ} 0 1 = cc in omega arith)
+      by-tests true false q l m w hp hq hl hm hw e = absurd (let z : _≡_ {A = ℕ} 0 1 = cc in omega arith)
+      by-tests false p q l m w hp hq hl hm hw e = absurd (let z : _≡_ {A = ℕ} 0 1 = cc in omega arith)
 
--- no key has an LF, and none is long
-record Key (key : List ℕ) : Type 0 where
-  pub bare : lenTo LF key ≡ length key
-  pub short : length key ≤ 9
+boundsJudged-accepted : (jobs : ℕ) (given : List Bound) (n : ℕ) (ds : List Bound) → boundsJudged jobs given n ds ≡ answer.Accepted → AllBounds jobs given ds
+unfolding boundsJudged
+boundsJudged-accepted jobs given n [] e = tt
+boundsJudged-accepted jobs given n (d ∷ ds) e =
+    let q = andThen-both (boundJudged jobs given n d) (boundsJudged jobs (given ++ (d ∷ [])) (n + 1) ds) e in
+    let r = boundJudged-accepted jobs given n d (q .0) in
+    (r .0, r .1, boundsJudged-accepted jobs (given ++ (d ∷ [])) (n + 1) ds (q .1))
 
-record Keys : Type 0 where
-  pub window : Key (bytes "window=")
-  pub rounds : Key (bytes "rounds=")
-  pub last : Key (bytes "last=")
-  pub jobs : Key (bytes "jobs=")
-  pub min : Key (bytes "min=")
-  pub max : Key (bytes "max=")
-  pub release : Key (bytes "release=")
-  pub deadline : Key (bytes "deadline=")
-  pub bounds : Key (bytes "bounds=")
-  pub bound : Key (bytes "bound=")
-
-keys : Keys
-unfolding bytes lenTo
-keys =
+pub planJudged-accepted : (p : Plan) → Placed p → planJudged p ≡ answer.Accepted → Accepted p
+unfolding planJudged
+planJudged-accepted p l e =
+    let q1 = andThen-both (numberJudged (pos 1) longestWindow (p .window) 1) _ e in
+    let q2 = andThen-both (numberJudged (pos 1) (pos mostRounds) (pos (p .rounds)) 2) _ (q1 .1) in
+    let q3 = andThen-both (numberJudged (pos 1) (pos mostWindows) (pos (p .last)) 3) _ (q2 .1) in
+    let q4 = andThen-both (numberJudged (pos 1) (pos mostJobs) (pos (p .jobs)) 4) _ (q3 .1) in
+    let q5 = andThen-both (jobsJudged 5 (jobsOf p)) _ (q4 .1) in
+    let q6 = andThen-both (numberJudged (pos 0) (pos mostBounds) (pos (p .bounds)) (5 + 4 * p .jobs)) _ (q5 .1) in
+    let r1 = numberJudged-range (pos 1) longestWindow (p .window) 1 (q1 .0) in
+    let r2 = numberJudged-range (pos 1) (pos mostRounds) (pos (p .rounds)) 2 (q2 .0) in
+    let r3 = numberJudged-range (pos 1) (pos mostWindows) (pos (p .last)) 3 (q3 .0) in
+    let r4 = numberJudged-range (pos 1) (pos mostJobs) (pos (p .jobs)) 4 (q4 .0) in
+    let r6 = numberJudged-range (pos 0) (pos mostBounds) (pos (p .bounds)) (5 + 4 * p .jobs) (q6 .0) in
+    let few : p .jobs ≤ mostJobs = omega (whole, r4 .1) in
+    let few-bounds : p .bounds ≤ mostBounds = omega (whole, r6 .1) in
+    let js = jobsJudged-accepted 5 (jobsOf p) (q5 .0) in
+    let ds = boundsJudged-accepted (p .jobs) [] (6 + 4 * p .jobs) (boundsOf p) (q6 .1) in
     record {
-      window = record { bare = refl; short = omega arith };
-      rounds = record { bare = refl; short = omega arith };
-      last = record { bare = refl; short = omega arith };
-      jobs = record { bare = refl; short = omega arith };
-      min = record { bare = refl; short = omega arith };
-      max = record { bare = refl; short = omega arith };
-      release = record { bare = refl; short = omega arith };
-      deadline = record { bare = refl; short = omega arith };
-      bounds = record { bare = refl; short = omega arith };
-      bound = record { bare = refl; short = omega arith };
+      window-least = r1 .0;
+      window-most = r1 .1;
+      rounds-least = omega (whole, r2 .0);
+      rounds-most = omega (whole, r2 .1);
+      last-least = omega (whole, r3 .0);
+      last-most = omega (whole, r3 .1);
+      jobs-least = omega (whole, r4 .0);
+      jobs-most = few;
+      bounds-most = few-bounds;
+      job-places = l .job-places;
+      bound-places = l .bound-places;
+      job-at = λ i h. rw (getD-take (p .jobs) (p .job) i noJob h) at (All-at JobAccepted (jobsOf p) noJob i js (omega (arith, length-take (p .jobs) (p .job), l .job-places)));
+      bound-at = λ i h. rw (getD-take (p .bounds) (p .bound) i noBound h) at (AllBounds-at (p .jobs) [] (boundsOf p) i ds (omega (arith, length-take (p .bounds) (p .bound), l .bound-places)) .0);
+      pair-at = λ i h.
+          rw (getD-take (p .bounds) (p .bound) i noBound h, take-take i (p .bounds) (p .bound) (omega arith))
+          at (AllBounds-at (p .jobs) [] (boundsOf p) i ds (omega (arith, length-take (p .bounds) (p .bound), l .bound-places)) .1);
     }
 
--- a line as it is written, with the text that follows it
-pub line-back : {A : Type 0} (f : List ℕ → Lined A) (l s : List ℕ) (n : ℕ) → lenTo LF l ≡ length l → line f (l ++ (LF ∷ s)) n ≡ lined (f l) (l ++ (LF ∷ s)) n
-unfolding line
-line-back f l s n e = rw (has-back LF l s e, before-back LF l s e)
-
--- a line that is a key and a number
-module _ (key : List ℕ) (bare : lenTo LF key ≡ length key) (lo hi z : ℤ) (s : List ℕ) (n : ℕ) where
-  pub numberLine-back : numberLine key lo hi (keyed key z s) n ≡ cond (within lo hi z) (read z s (suc n)) (refused (Range n) (keyed key z s))
-  unfolding lined linedNumber
-  numberLine-back =
-      rw (sym (append-assoc key (decimal z) (LF ∷ s)))
-      (line-back _ (key ++ decimal z) s n (keyed-free key z bare)
-      ∙ rw (numberAfter-back key lo hi (decimal z), numberIn-decimal lo hi z)
-      (by-range (within lo hi z)))
-    where
-      by-range : (b : Bool) → lined (linedNumber (cond b (number.Value z) (number.Bad fault.Range))) ((key ++ decimal z) ++ (LF ∷ s)) n
-          ≡ cond b (read z s (suc n)) (refused (Range n) ((key ++ decimal z) ++ (LF ∷ s)))
-      by-range true = ap (λ (t : List ℕ). read z t (suc n)) (after-back LF (key ++ decimal z) s (keyed-free key z bare))
-      by-range false = refl
-
-  pub numberLine-judged : {B : Type 0} (k : Reading B → PlanAnswer) → Ending k → (f : ℤ → Reader B)
-      → k (next (numberLine key lo hi (keyed key z s) n) f) ≡ andThen (numberJudged lo hi z n) (k (f z s (suc n)))
-  unfolding next
-  numberLine-judged {B} k ends f = ap (λ m. k (next m f)) numberLine-back ∙ by-range (within lo hi z)
-    where
-      by-range : (b : Bool) → k (next (cond b (read z s (suc n)) (refused (Range n) (keyed key z s))) f) ≡ andThen (cond b Accepted (Refused (Range n))) (k (f z s (suc n)))
-      by-range true = refl
-      by-range false = ends (Range n) (keyed key z s)
-
--- a line that is a key and a count
-pub countLine-judged : (key : List ℕ) → lenTo LF key ≡ length key → (lo hi z : ℕ) (s : List ℕ) (n : ℕ) {B : Type 0} (k : Reading B → PlanAnswer) → Ending k → (f : ℕ → Reader B)
-    → k (next (countLine key lo hi (keyed key (pos z) s) n) f) ≡ andThen (numberJudged (pos lo) (pos hi) (pos z) n) (k (f z s (suc n)))
-unfolding next
-countLine-judged key bare lo hi z s n k ends f =
-    numberLine-judged key bare (pos lo) (pos hi) (pos z) s n (λ m. k (next m f)) ends _
-
--- ---- jobs
-
-pub jobLines-judged : (j : Job) (s : List ℕ) (n : ℕ) (k : Reading Job → PlanAnswer) → Ending k
-    → k (jobLines (jobsText (j ∷ []) s) n) ≡ andThen (jobJudged n j) (k (read j s (n + 4)))
-unfolding jobLines jobsText jobJudged
-jobLines-judged j s n k ends =
-    let e1 : n + 1 ≡ suc n = omega arith in
-    let e2 : n + 2 ≡ suc (suc n) = omega arith in
-    let e3 : n + 3 ≡ suc (suc (suc n)) = omega arith in
-    let e4 : n + 4 ≡ suc (suc (suc (suc n))) = omega arith in
-    rw (e1, e2, e3, e4)
-    (numberLine-judged (bytes "min=") (keys .min .bare) (pos 0) longestRunning (j .min) _ n k ends _
-    ∙ ap (andThen (numberJudged (pos 0) longestRunning (j .min) n))
-    (numberLine-judged (bytes "max=") (keys .max .bare) (j .min) longestRunning (j .max) _ (suc n) k ends _
-    ∙ ap (andThen (numberJudged (j .min) longestRunning (j .max) (suc n)))
-    (numberLine-judged (bytes "release=") (keys .release .bare) (pos 0) latestDeadline (j .release) _ (suc (suc n)) k ends _
-    ∙ ap (andThen (numberJudged (pos 0) latestDeadline (j .release) (suc (suc n))))
-    (numberLine-judged (bytes "deadline=") (keys .deadline .bare) (pos 0) latestDeadline (j .deadline) _ (suc (suc (suc n))) k ends _)))
-    ∙ four (numberJudged (pos 0) longestRunning (j .min) n) (numberJudged (j .min) longestRunning (j .max) (suc n)) (numberJudged (pos 0) latestDeadline (j .release) (suc (suc n))) (numberJudged (pos 0) latestDeadline (j .deadline) (suc (suc (suc n)))) _)
+-- 'A plan handed over as a value is judged as its text would be': where its text would be read, it is accepted
+pub judgedPlan-accepted : (p : Plan) → Placed p → judgedPlan p ≡ none → Accepted p
+unfolding refusalOf
+judgedPlan-accepted p l e = planJudged-accepted p l (sym (judgedPlan-is p l (by-reading (planAlone (planText p)) refl e)) ∙ ap judgedAnswer e)
   where
-    four : (a b c d y : PlanAnswer) → andThen a (andThen b (andThen c (andThen d y))) ≡ andThen (andThen a (andThen b (andThen c d))) y
-    four (Refused r) b c d y = refl
-    four Accepted (Refused r) c d y = refl
-    four Accepted Accepted (Refused r) d y = refl
-    four Accepted Accepted Accepted d y = refl
+    by-reading : (m : Reading Plan) → planAlone (planText p) ≡ m → refusalOf m ≡ none → length (planText p) ≤ longestText
+    by-reading (read q t n) d e = planAlone-fits (planText p) d
+    by-reading (refused r t) d e = absurd (let z : _≡_ {A = ℕ} 0 1 = cc in omega arith)
 
-pub jobsAfter-judged : (done js : List Job) (s : List ℕ) (n : ℕ) (k : Reading (List Job) → PlanAnswer) → Ending k
-    → k (jobsAfter done (length js) (jobsText js s) n) ≡ andThen (jobsJudged n js) (k (read (done ++ js) s (n + 4 * length js)))
-unfolding jobsAfter jobsText jobsJudged next
-jobsAfter-judged done [] s n k ends = let e : n + 4 * 0 ≡ n = omega arith in rw (append-nil done, e)
-jobsAfter-judged done (j ∷ js) s n k ends =
-    let e : n + 4 * suc (length js) ≡ n + 4 + 4 * length js = omega arith in
-    rw e
-    (jobLines-judged j (jobsText js s) n (λ m. k (next m (λ job. jobsAfter (done ++ (job ∷ [])) (length js)))) ends
-    ∙ ap (andThen (jobJudged n j)) (jobsAfter-judged (done ++ (j ∷ [])) js s (n + 4) k ends ∙ ap (λ (l : List Job). andThen (jobsJudged (n + 4) js) (k (read l s (n + 4 + 4 * length js)))) (append-assoc done (j ∷ []) js))
-    ∙ sym (andThen-assoc (jobJudged n j) (jobsJudged (n + 4) js) _))
+-- ---- accepted, so judged good
 
--- ---- bounds
+numberJudged-inside : (lo hi z : ℤ) (n : ℕ) → lo ≤ℤ z → z ≤ℤ hi → numberJudged lo hi z n ≡ answer.Accepted
+numberJudged-inside lo hi z n h g =
+    let e : leZ lo z ≡ true = omega whole in
+    let d : leZ z hi ≡ true = omega whole in
+    rw (e, d)
 
-letterByte-over : (l : Letter) → 100 < letterByte l
-letterByte-over This = omega arith
-letterByte-over Next = omega arith
+accepted-jobJudged : (n : ℕ) (j : Job) → JobAccepted j → jobJudged n j ≡ answer.Accepted
+unfolding jobJudged
+accepted-jobJudged n j a =
+    rw (
+      numberJudged-inside (pos 0) longestRunning (j .min) n (a .min-least) (omega (whole, a .min-most, a .max-most)),
+      numberJudged-inside (j .min) longestRunning (j .max) (n + 1) (a .min-most) (a .max-most),
+      numberJudged-inside (pos 0) latestDeadline (j .release) (n + 2) (a .release-least) (a .release-most),
+    )
+    (numberJudged-inside (pos 0) latestDeadline (j .deadline) (n + 3) (a .deadline-least) (a .deadline-most))
 
-kindByte-over : (k : Kind) → 100 < kindByte k
-kindByte-over Start = omega arith
-kindByte-over Finish = omega arith
+accepted-jobsJudged : (n : ℕ) (js : List Job) → All JobAccepted js → jobsJudged n js ≡ answer.Accepted
+unfolding jobsJudged
+accepted-jobsJudged n [] a = refl
+accepted-jobsJudged n (j ∷ js) a = rw (accepted-jobJudged n j (a .0)) (accepted-jobsJudged (n + 4) js (a .1))
 
--- an event's name holds neither LF nor comma
-nameBytes-free : (b : ℕ) → isDigit b ≡ false → b ≤ 100 → (e : EventName) → lenTo b (nameBytes e) ≡ length (nameBytes e)
-nameBytes-free b q h e =
-    lenTo-other b _ (λ d. omega (arith, letterByte-over (e .letter)))
-    ∙ ap suc (lenTo-other b _ (λ d. omega (arith, kindByte-over (e .kind))) ∙ ap suc (digits-free b (digits (e .job)) q (digits-all (e .job))))
+module _ (jobs : ℕ) (few : jobs ≤ mostJobs) where
+  accepted-boundJudged : (given : List Bound) (n : ℕ) (d : Bound) → BoundAccepted jobs d → isWrongPair (d .a) (d .b) given ≡ false → boundJudged jobs given n d ≡ answer.Accepted
+  unfolding boundJudged
+  accepted-boundJudged given n d a w =
+      let cl : leZ leastC (d .c) ≡ true = omega (whole, a .c-least) in
+      let cm : leZ (d .c) greatestC ≡ true = omega (whole, a .c-most) in
+      rw (
+        lt-ltb (d .a .job) 10 (omega (arith, a .a-most)),
+        lt-ltb (d .b .job) 10 (omega (arith, a .b-most)),
+        le-leb 1 (d .a .job) (a .a-least),
+        le-leb (d .a .job) jobs (a .a-most),
+        le-leb 1 (d .b .job) (a .b-least),
+        le-leb (d .b .job) jobs (a .b-most),
+        cl,
+        cm,
+        w,
+      )
 
--- two names and a number, with a comma after each name
-boundParts-back : (a b : EventName) (s : List ℕ) → boundParts (some (nameBytes a ++ (comma ∷ (nameBytes b ++ (comma ∷ s))))) ≡ partsOf (eventName (nameBytes a)) (eventName (nameBytes b)) s
-unfolding boundParts
-boundParts-back a b s =
-    let fa = nameBytes-free comma refl (omega arith) a in
-    let fb = nameBytes-free comma refl (omega arith) b in
-    rw (has-back comma (nameBytes a) (nameBytes b ++ (comma ∷ s)) fa, before-back comma (nameBytes a) (nameBytes b ++ (comma ∷ s)) fa, after-back comma (nameBytes a) (nameBytes b ++ (comma ∷ s)) fa)
-    (rw (has-back comma (nameBytes b) s fb, before-back comma (nameBytes b) s fb, after-back comma (nameBytes b) s fb))
+  accepted-boundsJudged : (given : List Bound) (n : ℕ) (ds : List Bound) → AllBounds jobs given ds → boundsJudged jobs given n ds ≡ answer.Accepted
+  unfolding boundsJudged
+  accepted-boundsJudged given n [] a = refl
+  accepted-boundsJudged given n (d ∷ ds) a = rw (accepted-boundJudged given n d (a .0) (a .1)) (accepted-boundsJudged (given ++ (d ∷ [])) (n + 1) ds (a .2))
 
-module _ (jobs : ℕ) (given : List Bound) (d : Bound) where
-  -- a bound's line has its form where both names have one job digit
-  pub boundIn-back : boundIn jobs given (boundBytes d []) ≡ cond (isOneDigit (d .a .job) && isOneDigit (d .b .job)) (judgedBound jobs (λ a b. isWrongPair a b given) d) (boundLine.Bad fault.Form)
-  unfolding boundOf
-  boundIn-back =
-      rw (append-nil (decimal (d .c)), afterKey-back (bytes "bound=") (nameBytes (d .a) ++ (comma ∷ (nameBytes (d .b) ++ (comma ∷ decimal (d .c))))), boundParts-back (d .a) (d .b) (decimal (d .c)))
-      (by-digits (ltb (d .a .job) 10) (ltb (d .b .job) 10) refl refl)
+-- what is told at each place is told of all
+AllBounds-of : (jobs : ℕ) (given ds : List Bound) → ((i : ℕ) → i < length ds → BoundAccepted jobs (getD ds i noBound) × (isWrongPair (getD ds i noBound .a) (getD ds i noBound .b) (given ++ take i ds) ≡ false)) → AllBounds jobs given ds
+AllBounds-of jobs given [] f = tt
+AllBounds-of jobs given (d ∷ ds) f =
+    let q = f 0 (omega arith) in
+    (q .0, rw append-nil at (q .1), AllBounds-of jobs (given ++ (d ∷ [])) ds (λ i h. let r = f (suc i) (omega arith) in (r .0, rw append-assoc (r .1))))
+
+module _ (p : Plan) (a : Accepted p) where
+  jobs-accepted : All JobAccepted (jobsOf p)
+  jobs-accepted = All-of JobAccepted (p .job) noJob (p .jobs) (omega (arith, a .jobs-most, a .job-places)) (a .job-at)
+
+  bounds-accepted : AllBounds (p .jobs) [] (boundsOf p)
+  bounds-accepted =
+      AllBounds-of (p .jobs) [] (boundsOf p)
+      (λ i h.
+      let l : i < p .bounds = omega (arith, length-take (p .bounds) (p .bound)) in
+      (rw (getD-take (p .bounds) (p .bound) i noBound l) (a .bound-at i l), rw (getD-take (p .bounds) (p .bound) i noBound l, take-take i (p .bounds) (p .bound) (omega arith)) (a .pair-at i l)))
+
+  pub accepted-planJudged : planJudged p ≡ answer.Accepted
+  unfolding planJudged
+  accepted-planJudged =
+      rw (
+        numberJudged-inside (pos 1) longestWindow (p .window) 1 (a .window-least) (a .window-most),
+        numberJudged-inside (pos 1) (pos mostRounds) (pos (p .rounds)) 2 (omega (whole, a .rounds-least)) (omega (whole, a .rounds-most)),
+        numberJudged-inside (pos 1) (pos mostWindows) (pos (p .last)) 3 (omega (whole, a .last-least)) (omega (whole, a .last-most)),
+        numberJudged-inside (pos 1) (pos mostJobs) (pos (p .jobs)) 4 (omega (whole, a .jobs-least)) (omega (whole, a .jobs-most)),
+        accepted-jobsJudged 5 (jobsOf p) jobs-accepted,
+        numberJudged-inside (pos 0) (pos mostBounds) (pos (p .bounds)) (5 + 4 * p .jobs) (omega whole) (omega (whole, a .bounds-most)),
+      )
+      (accepted-boundsJudged (p .jobs) (a .jobs-most) [] (6 + 4 * p .jobs) (boundsOf p) bounds-accepted)
+
+  accepted-fits : PlanFits p
+  accepted-fits =
+      record {
+        placed = record { job-places = a .job-places; bound-places = a .bound-places };
+        window = fits (p .window) (omega (whole, a .window-least)) (omega (whole, a .window-most));
+        rounds = omega (arith, a .rounds-most);
+        last = omega (arith, a .last-most);
+        jobs = omega (arith, a .jobs-most);
+        bounds = omega (arith, a .bounds-most);
+        job-fits = All-map job-fits (jobsOf p) jobs-accepted;
+        bound-fits = All-map bound-fits (boundsOf p) (All-of (BoundAccepted (p .jobs)) (p .bound) noBound (p .bounds) (omega (arith, a .bounds-most, a .bound-places)) (a .bound-at));
+      }
     where
-      by-digits : (x y : Bool) → ltb (d .a .job) 10 ≡ x → ltb (d .b .job) 10 ≡ y
-          → boundOf jobs (λ a b. isWrongPair a b given) (partsOf (eventName (nameBytes (d .a))) (eventName (nameBytes (d .b))) (decimal (d .c)))
-          ≡ cond (x && y) (judgedBound jobs (λ a b. isWrongPair a b given) d) (boundLine.Bad fault.Form)
-      by-digits true true p q = rw (eventName-back (d .a) (ltb-true (d .a .job) 10 p), eventName-back (d .b) (ltb-true (d .b .job) 10 q), decimal-form (d .c)) (rw (decimal-back (d .c)))
-      by-digits true false p q = rw (eventName-back (d .a) (ltb-true (d .a .job) 10 p), eventName-long (d .b) (ltb-false (d .b .job) 10 q))
-      by-digits false y p q = rw (eventName-long (d .a) (ltb-false (d .a .job) 10 p))
+      fits : (z : ℤ) → leastC ≤ℤ z → z ≤ℤ greatestC → SFits w64 z
+      fits (pos n) h g = record { sfits = omega (whole, g) }
+      fits (negsuc n) h g = record { sfits = omega (whole, h) }
 
-  boundBytes-free : lenTo LF (boundBytes d []) ≡ length (boundBytes d [])
-  unfolding lenTo
-  boundBytes-free =
-      free-append LF (bytes "bound=") _ (keys .bound .bare)
-      (free-append LF (nameBytes (d .a)) _ (nameBytes-free LF refl (omega arith) (d .a))
-      (ap suc
-      (free-append LF (nameBytes (d .b)) _ (nameBytes-free LF refl (omega arith) (d .b))
-      (ap suc (free-append LF (decimal (d .c)) [] (decimal-free LF refl (omega arith) (d .c)) refl)))))
+      job-fits : (j : Job) → JobAccepted j → JobFits j
+      job-fits j b =
+          record {
+            min = fits (j .min) (omega (whole, b .min-least)) (omega (whole, b .min-most, b .max-most));
+            max = fits (j .max) (omega (whole, b .min-least, b .min-most)) (omega (whole, b .max-most));
+            release = fits (j .release) (omega (whole, b .release-least)) (omega (whole, b .release-most));
+            deadline = fits (j .deadline) (omega (whole, b .deadline-least)) (omega (whole, b .deadline-most));
+          }
 
-  pub boundLine-judged : (s : List ℕ) (n : ℕ) {B : Type 0} (k : Reading B → PlanAnswer) → Ending k → (f : Bound → Reader B)
-      → k (next (line (λ l. linedBound (boundIn jobs given l)) (boundBytes d (LF ∷ s)) n) f) ≡ andThen (boundJudged jobs given n d) (k (f d s (suc n)))
-  unfolding next lined linedBound boundJudged
-  boundLine-judged s n {B} k ends f =
-      ap (λ t. k (next (line (λ l. linedBound (boundIn jobs given l)) t n) f)) (sym (boundBytes-append d [] (LF ∷ s)))
-      ∙ ap (λ m. k (next m f)) (line-back (λ l. linedBound (boundIn jobs given l)) (boundBytes d []) s n boundBytes-free)
-      ∙ ap (λ x. k (next (lined (linedBound x) t n) f)) boundIn-back
-      ∙ by-tests (isOneDigit (d .a .job) && isOneDigit (d .b .job)) (not (isJob jobs (d .a .job) && isJob jobs (d .b .job) && within leastC greatestC (d .c))) (isWrongPair (d .a) (d .b) given)
-    where
-      t : List ℕ
-      t = boundBytes d [] ++ (LF ∷ s)
+      bound-fits : (d : Bound) → BoundAccepted (p .jobs) d → BoundFits d
+      bound-fits d b =
+          record { a-job = omega (arith, b .a-most, a .jobs-most); b-job = omega (arith, b .b-most, a .jobs-most); c = fits (d .c) (b .c-least) (b .c-most) }
 
-      by-tests : (x y z : Bool) → k (next (lined (linedBound (cond x (cond y (boundLine.Bad fault.Range) (cond z (boundLine.Bad fault.Pair) (boundLine.Value d))) (boundLine.Bad fault.Form))) t n) f)
-          ≡ andThen (cond x (lineJudged n (cond y (boundLine.Bad fault.Range) (cond z (boundLine.Bad fault.Pair) (boundLine.Value d)))) (Refused (Form n))) (k (f d s (suc n)))
-      by-tests false y z = ends (Form n) t
-      by-tests true true z = ends (Range n) t
-      by-tests true false true = ends (Pair n) t
-      by-tests true false false = ap (λ (r : List ℕ). k (f d r (suc n))) (after-back LF (boundBytes d []) s boundBytes-free)
-
-pub boundsAfter-judged : (jobs : ℕ) (given ds : List Bound) (n : ℕ) (k : Reading (List Bound) → PlanAnswer) → Ending k
-    → k (boundsAfter jobs given (length ds) (boundsText ds) n) ≡ andThen (boundsJudged jobs given n ds) (k (read (given ++ ds) [] (n + length ds)))
-unfolding boundsAfter boundsText boundsJudged next
-boundsAfter-judged jobs given [] n k ends = let e : n + 0 ≡ n = omega arith in rw (append-nil given, e)
-boundsAfter-judged jobs given (d ∷ ds) n k ends =
-    let e : n + suc (length ds) ≡ n + 1 + length ds = omega arith in
-    let e1 : suc n ≡ n + 1 = omega arith in
-    rw e
-    (boundLine-judged jobs given d (boundsText ds) n k ends (λ b. boundsAfter jobs (given ++ (b ∷ [])) (length ds))
-    ∙ ap (andThen (boundJudged jobs given n d))
-    (ap (λ (m : ℕ). k (boundsAfter jobs (given ++ (d ∷ [])) (length ds) (boundsText ds) m)) e1
-    ∙ boundsAfter-judged jobs (given ++ (d ∷ [])) ds (n + 1) k ends
-    ∙ ap (λ (l : List Bound). andThen (boundsJudged jobs (given ++ (d ∷ [])) (n + 1) ds) (k (read l [] (n + 1 + length ds)))) (append-assoc given (d ∷ []) ds))
-    ∙ sym (andThen-assoc (boundJudged jobs given n d) (boundsJudged jobs (given ++ (d ∷ [])) (n + 1) ds) _))
-
--- ---- the plan
-
--- what is made of a plan that is read alone
-abbrev alone : Reading Plan → PlanAnswer
-alone m = judgedAnswer (refusalOf (nothingAfter m))
-
-alone-ends : Ending alone
-unfolding nothingAfter refusalOf
-alone-ends r s = refl
-
-alone-read : (p : Plan) (n : ℕ) → alone (read p [] n) ≡ Accepted
-unfolding nothingAfter refusalOf
-alone-read p n = refl
-
-andThen-accepted : (x : PlanAnswer) → andThen x Accepted ≡ x
-andThen-accepted Accepted = refl
-andThen-accepted (Refused r) = refl
-
-numberJudged-range : (lo hi z : ℤ) (n : ℕ) → numberJudged lo hi z n ≡ Accepted → (lo ≤ℤ z) × (z ≤ℤ hi)
-numberJudged-range lo hi z n e = by-tests (leZ lo z) (leZ z hi) refl refl e
+-- the converse: an accepted plan's text is read
+pub accepted-judged : (p : Plan) → Accepted p → judgedPlan p ≡ none
+accepted-judged p a = by-refusal (judgedPlan p) (judgedPlan-is p (f .placed) (planText-short p f) ∙ accepted-planJudged p a)
   where
-    by-tests : (a b : Bool) → leZ lo z ≡ a → leZ z hi ≡ b → cond (a && b) Accepted (Refused (Range n)) ≡ Accepted → (lo ≤ℤ z) × (z ≤ℤ hi)
-    by-tests true true p q e = (omega whole, omega whole)
-    by-tests true false p q e = absurd (let z : _≡_ {A = ℕ} 0 1 = cc in omega arith)
-    by-tests false b p q e = absurd (let z : _≡_ {A = ℕ} 0 1 = cc in omega arith)
+    f : PlanFits p
+    f = accepted-fits p a
 
--- the lines after the first four
-planRest-judged : (window : ℤ) (rounds last : ℕ) (js : List Job) (bounds : ℕ) (ds : List Bound) → (bounds ≤ mostBounds → bounds ≡ length ds)
-    → alone (planRest window rounds last (length js) (jobsText js (keyed (bytes "bounds=") (pos bounds) (boundsText ds))) 5)
-    ≡ andThen (jobsJudged 5 js)
-    (andThen (numberJudged (pos 0) (pos mostBounds) (pos bounds) (5 + 4 * length js))
-    (boundsJudged (length js) [] (6 + 4 * length js) ds))
-unfolding next
-planRest-judged window rounds last js bounds ds all =
-    jobsAfter-judged [] js (keyed (bytes "bounds=") (pos bounds) (boundsText ds)) 5 (λ m. alone (next m rest)) alone-ends
-    ∙ ap (andThen (jobsJudged 5 js))
-    (countLine-judged (bytes "bounds=") (keys .bounds .bare) 0 mostBounds bounds (boundsText ds) n alone alone-ends (afterCount js)
-    ∙ andThen-where (numberJudged (pos 0) (pos mostBounds) (pos bounds) n)
-    (λ ok.
-    let count : bounds ≡ length ds = all (omega (whole, numberJudged-range (pos 0) (pos mostBounds) (pos bounds) n ok .1)) in
-    let e : suc n ≡ 6 + 4 * length js = omega arith in
-    ap (λ (b : ℕ). alone (next (boundsAfter (length js) [] b (boundsText ds) (suc n)) (last-of js bounds))) count
-    ∙ ap (λ (i : ℕ). alone (next (boundsAfter (length js) [] (length ds) (boundsText ds) i) (last-of js bounds))) e
-    ∙ boundsAfter-judged (length js) [] ds (6 + 4 * length js) (λ m. alone (next m (last-of js bounds))) alone-ends
-    ∙ ap (andThen (boundsJudged (length js) [] (6 + 4 * length js) ds)) (alone-read (planOf window rounds last (length js) js bounds ds) (6 + 4 * length js + length ds))
-    ∙ andThen-accepted (boundsJudged (length js) [] (6 + 4 * length js) ds)))
-  where
-    n : ℕ
-    n = 5 + 4 * length js
-
-    last-of : List Job → ℕ → List Bound → Reader Plan
-    last-of job b bound = answer (planOf window rounds last (length js) job b bound)
-
-    afterCount : List Job → ℕ → Reader Plan
-    afterCount job b = do
-      bound ← boundsAfter (length js) [] b
-      last-of job b bound
-
-    rest : List Job → Reader Plan
-    rest job = do
-      b ← countLine (bytes "bounds=") 0 mostBounds
-      afterCount job b
-
--- the arrays have their sizes, as every value's have
-pub record Placed (p : Plan) : Type 0 where
-  pub job-places : length (p .job) ≡ mostJobs
-  pub bound-places : length (p .bound) ≡ mostBounds
-
-pub jobsOf-count : (p : Plan) → Placed p → p .jobs ≤ mostJobs → p .jobs ≡ length (jobsOf p)
-jobsOf-count p q h = omega (arith, length-take (p .jobs) (p .job), q .job-places)
-
-pub boundsOf-count : (p : Plan) → Placed p → p .bounds ≤ mostBounds → p .bounds ≡ length (boundsOf p)
-boundsOf-count p q h = omega (arith, length-take (p .bounds) (p .bound), q .bound-places)
-
-planLines-judged : (p : Plan) → Placed p → alone (planLines (planText p) 1) ≡ planJudged p
-unfolding planLines planText planJudged next
-planLines-judged p q =
-    numberLine-judged (bytes "window=") (keys .window .bare) (pos 1) longestWindow (p .window) _ 1 alone alone-ends _
-    ∙ ap (andThen (numberJudged (pos 1) longestWindow (p .window) 1))
-    (countLine-judged (bytes "rounds=") (keys .rounds .bare) 1 mostRounds (p .rounds) _ 2 alone alone-ends _
-    ∙ ap (andThen (numberJudged (pos 1) (pos mostRounds) (pos (p .rounds)) 2))
-    (countLine-judged (bytes "last=") (keys .last .bare) 1 mostWindows (p .last) _ 3 alone alone-ends _
-    ∙ ap (andThen (numberJudged (pos 1) (pos mostWindows) (pos (p .last)) 3))
-    (countLine-judged (bytes "jobs=") (keys .jobs .bare) 1 mostJobs (p .jobs) _ 4 alone alone-ends (λ jobs. planRest (p .window) (p .rounds) (p .last) jobs)
-    ∙ andThen-where (numberJudged (pos 1) (pos mostJobs) (pos (p .jobs)) 4)
-    (λ ok.
-    let count : p .jobs ≡ length (jobsOf p) = jobsOf-count p q (omega (whole, numberJudged-range (pos 1) (pos mostJobs) (pos (p .jobs)) 4 ok .1)) in
-    ap (λ (jobs : ℕ). alone (planRest (p .window) (p .rounds) (p .last) jobs (jobsText (jobsOf p) (keyed (bytes "bounds=") (pos (p .bounds)) (boundsText (boundsOf p)))) 5)) count
-    ∙ planRest-judged (p .window) (p .rounds) (p .last) (jobsOf p) (p .bounds) (boundsOf p) (boundsOf-count p q)
-    ∙ ap (λ (jobs : ℕ). andThen (jobsJudged 5 (jobsOf p)) (andThen (numberJudged (pos 0) (pos mostBounds) (pos (p .bounds)) (5 + 4 * jobs)) (boundsJudged jobs [] (6 + 4 * jobs) (boundsOf p)))) (sym count)))))
-
--- 'A plan handed over as a value is judged as its text would be.'
-pub judgedPlan-is : (p : Plan) → Placed p → length (planText p) ≤ longestText → judgedAnswer (judgedPlan p) ≡ planJudged p
-judgedPlan-is p q short = ap alone (planHead-short (planText p) short) ∙ planLines-judged p q
-
--- ---- a value's text is never too long
-
--- what the types of a plan tell of its numbers: none is longer than 20 bytes
-pub record JobFits (j : Job) : Type 0 where
-  pub min : SFits w64 (j .min)
-  pub max : SFits w64 (j .max)
-  pub release : SFits w64 (j .release)
-  pub deadline : SFits w64 (j .deadline)
-
-pub record BoundFits (d : Bound) : Type 0 where
-  pub a-job : d .a .job < 2 ^ 64
-  pub b-job : d .b .job < 2 ^ 64
-  pub c : SFits w64 (d .c)
-
-pub record PlanFits (p : Plan) : Type 0 where
-  pub placed : Placed p
-  pub window : SFits w64 (p .window)
-  pub rounds : p .rounds < 2 ^ 64
-  pub last : p .last < 2 ^ 64
-  pub jobs : p .jobs < 2 ^ 64
-  pub bounds : p .bounds < 2 ^ 64
-  pub job-fits : All JobFits (jobsOf p)
-  pub bound-fits : All BoundFits (boundsOf p)
-
-keyed-length : (key : List ℕ) → Key key → (z : ℤ) → length (decimal z) ≤ 20 → (s : List ℕ) → length (keyed key z s) ≤ 30 + length s
-keyed-length key q z h s = omega (arith, length-append key (decimal z ++ (LF ∷ s)), length-append (decimal z) (LF ∷ s), q .short)
-
-jobsText-length : (js : List Job) (s : List ℕ) → All JobFits js → length (jobsText js s) ≤ 120 * length js + length s
-unfolding jobsText
-jobsText-length [] s h = omega arith
-jobsText-length (j ∷ js) s h =
-    let f = h .0 in
-    omega (
-      arith,
-      keyed-length (bytes "min=") (keys .min) (j .min) (decimal-short (j .min) (f .min)) (keyed (bytes "max=") (j .max) (keyed (bytes "release=") (j .release) (keyed (bytes "deadline=") (j .deadline) (jobsText js s)))),
-      keyed-length (bytes "max=") (keys .max) (j .max) (decimal-short (j .max) (f .max)) (keyed (bytes "release=") (j .release) (keyed (bytes "deadline=") (j .deadline) (jobsText js s))),
-      keyed-length (bytes "release=") (keys .release) (j .release) (decimal-short (j .release) (f .release)) (keyed (bytes "deadline=") (j .deadline) (jobsText js s)),
-      keyed-length (bytes "deadline=") (keys .deadline) (j .deadline) (decimal-short (j .deadline) (f .deadline)) (jobsText js s),
-      jobsText-length js s (h .1),
-    )
-
-boundsText-length : (ds : List Bound) → All BoundFits ds → length (boundsText ds) ≤ 80 * length ds
-unfolding boundsText
-boundsText-length [] h = omega arith
-boundsText-length (d ∷ ds) h =
-    let f = h .0 in
-    let s₃ = decimal (d .c) ++ (LF ∷ boundsText ds) in
-    let s₂ = nameBytes (d .b) ++ (comma ∷ s₃) in
-    let s₁ = nameBytes (d .a) ++ (comma ∷ s₂) in
-    omega (
-      arith,
-      length-append (bytes "bound=") s₁,
-      keys .bound .short,
-      length-append (nameBytes (d .a)) (comma ∷ s₂),
-      digits-short (d .a .job) (f .a-job),
-      length-append (nameBytes (d .b)) (comma ∷ s₃),
-      digits-short (d .b .job) (f .b-job),
-      length-append (decimal (d .c)) (LF ∷ boundsText ds),
-      decimal-short (d .c) (f .c),
-      boundsText-length ds (h .1),
-    )
-
-count-short : (n : ℕ) → n < 2 ^ 64 → length (decimal (pos n)) ≤ 20
-unfolding decimal
-count-short n h = digits-short n h
-
-pub planText-short : (p : Plan) → PlanFits p → length (planText p) ≤ longestText
-unfolding planText
-planText-short p f =
-    let s₅ = boundsText (boundsOf p) in
-    let s₄ = jobsText (jobsOf p) (keyed (bytes "bounds=") (pos (p .bounds)) s₅) in
-    let s₃ = keyed (bytes "jobs=") (pos (p .jobs)) s₄ in
-    let s₂ = keyed (bytes "last=") (pos (p .last)) s₃ in
-    let s₁ = keyed (bytes "rounds=") (pos (p .rounds)) s₂ in
-    omega (
-      arith,
-      keyed-length (bytes "window=") (keys .window) (p .window) (decimal-short (p .window) (f .window)) s₁,
-      keyed-length (bytes "rounds=") (keys .rounds) (pos (p .rounds)) (count-short (p .rounds) (f .rounds)) s₂,
-      keyed-length (bytes "last=") (keys .last) (pos (p .last)) (count-short (p .last) (f .last)) s₃,
-      keyed-length (bytes "jobs=") (keys .jobs) (pos (p .jobs)) (count-short (p .jobs) (f .jobs)) s₄,
-      jobsText-length (jobsOf p) (keyed (bytes "bounds=") (pos (p .bounds)) s₅) (f .job-fits),
-      keyed-length (bytes "bounds=") (keys .bounds) (pos (p .bounds)) (count-short (p .bounds) (f .bounds)) s₅,
-      boundsText-length (boundsOf p) (f .bound-fits),
-      length-take (p .jobs) (p .job),
-      f .placed .job-places,
-      length-take (p .bounds) (p .bound),
-      f .placed .bound-places,
-    )
+    by-refusal : (o : Option Refusal) → judgedAnswer o ≡ answer.Accepted → o ≡ none
+    by-refusal none e = refl
+    by-refusal (some r) e = absurd (let z : _≡_ {A = ℕ} 0 1 = cc in omega arith)

@@ -26,5 +26,7 @@ pub mod ReadAtLaws
 pub mod JobsLoop
 pub mod BoundsLoop
 pub mod HeadLaws
+pub mod JudgedLines
+pub mod JudgedLength
 pub mod JudgedLaws
 pub mod Unique

@@ -1,4 +1,4 @@
--- The laws of lists that the plan's arrays need: what is told of each element (`All`) is told at each place (`All-at`), and of one more (`All-more`); an
+-- The laws of lists that the plan's arrays need: what is told of each element (`All`) is told at each place (`All-at`), and back (`All-of`), and of one more (`All-more`); an
 -- array that a list fills has its size, the list's elements at the first places (`filled-at`), and its beginnings (`filled-take`, `filled-all`). `Filling` is such an array while it is being filled.
 use mathlib.Core.Path.{_≡_, sym, _∙_, ap}
 use mathlib.Core.List.{List, [], _∷_, _++_}
@@ -22,6 +22,16 @@ All-at P (x ∷ xs) d (suc i) h l = All-at P xs d i (h .1) (omega arith)
 pub All-more : {A : Type 0} (P : A → Type 0) (xs : List A) (x : A) → All P xs → P x → All P (xs ++ (x ∷ []))
 All-more P [] x h p = (p, tt)
 All-more P (y ∷ ys) x h p = (h .0, All-more P ys x (h .1) p)
+
+pub All-map : {A : Type 0} {P Q : A → Type 0} → ((x : A) → P x → Q x) → (xs : List A) → All P xs → All Q xs
+All-map f [] h = tt
+All-map f (x ∷ xs) h = (f x (h .0), All-map f xs (h .1))
+
+-- what is told at each of the first places is told of each element there
+pub All-of : {A : Type 0} (P : A → Type 0) (xs : List A) (d : A) (n : ℕ) → n ≤ length xs → ((i : ℕ) → i < n → P (getD xs i d)) → All P (take n xs)
+All-of P xs d zero l f = tt
+All-of P [] d (suc n) l f = absurd (omega arith)
+All-of P (x ∷ xs) d (suc n) l f = (f 0 (omega arith), All-of P xs d n (omega arith) (λ i h. f (suc i) (omega arith)))
 
 module _ {A : Type 0} (size : ℕ) (d : A) (xs : List A) (fits : length xs ≤ size) where
   pub filled-length : length (filled size d xs) ≡ size

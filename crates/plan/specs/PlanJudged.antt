@@ -1,5 +1,5 @@
 -- A plan handed over as a value, judged line by line without its text (document 01, 'Plan text': 'A plan handed over as a value is judged as its text would be').
--- That it is judged as its text would be is `judgedPlan-is` in `JudgedLaws`.
+-- That it is judged as its text would be is `judgedPlan-is` in `JudgedLines`.
 use Prim.Native.Nat.{ℕ, _+_, _*_}
 use mathlib.Core.Bool.{Bool, cond, _&&_}
 use mathlib.Core.List.{List, [], _∷_, _++_}
