@@ -1,5 +1,5 @@
 -- The loop over the bounds' lines: `BoundsPassed` is what holds after i bounds, at the beginning (`BoundsPassed-start`), after one more (`-past`), at a fault (`-stop`) and
--- at the end (`-end`). The numbers of the pairs given decide as the pairs do (`boundLined-numbered`).
+-- at the end (`-end`). The numbers of the pairs given decide as the pairs do (`judgedBound-numbered`, `boundLined-numbered`).
 use mathlib.Core.Path.{_≡_, refl, sym, _∙_, ap}
 use mathlib.Core.Bool.{Bool, true, false, not, cond, _&&_}
 use mathlib.Core.List.{List, [], _∷_, _++_, map}
@@ -20,7 +20,7 @@ use Rattle.plan.specs.declared.BoundLine.the-variants as boundLine
 use Rattle.plan.specs.declared.Faulty.{Faulty}
 use Rattle.plan.specs.Limits.{mostBounds, leastC, greatestC}
 use Rattle.plan.specs.Reading.{read, next, line}
-use Rattle.plan.specs.PlanRead.{BoundParts, boundParts, isJob, isWrongPair, boundOf, linedBound, boundIn, boundsAfter, noBound, filled}
+use Rattle.plan.specs.PlanRead.{BoundParts, boundParts, isJob, isWrongPair, judgedBound, boundOf, linedBound, boundIn, boundsAfter, noBound, filled}
 use Rattle.plan.specs.Accepted.{BoundAccepted}
 use Rattle.plan.specs.Pairs.{pairOf, isWrongNumbered}
 use Rattle.plan.specs.PairLaws.{Small, isWrongNumbered-pair}
@@ -32,30 +32,30 @@ use Rattle.plan.specs.PlanLaws.{isJob-range, boundIn-read}
 -- ---- the pairs given, by their numbers
 
 module _ (jobs : ℕ) (few : jobs ≤ 9) (given : List Bound) (small : All (λ d. Small (d .a) (d .b)) given) where
+  pub judgedBound-numbered : (d : Bound) → judgedBound jobs (isWrongNumbered (map pairOf given)) d ≡ judgedBound jobs (λ a b. isWrongPair a b given) d
+  judgedBound-numbered d = by-jobs (isJob jobs (d .a .job)) (isJob jobs (d .b .job)) refl refl
+    where
+      in-range : Bool
+      in-range = within leastC greatestC (d .c)
+
+      by-jobs : (x y : Bool) → isJob jobs (d .a .job) ≡ x → isJob jobs (d .b .job) ≡ y
+          → cond (not (x && y && in-range)) (boundLine.Bad fault.Range) (cond (isWrongNumbered (map pairOf given) (d .a) (d .b)) (boundLine.Bad fault.Pair) (boundLine.Value d))
+          ≡ cond (not (x && y && in-range)) (boundLine.Bad fault.Range) (cond (isWrongPair (d .a) (d .b) given) (boundLine.Bad fault.Pair) (boundLine.Value d))
+      by-jobs true true p r =
+          rw (isWrongNumbered-pair (d .a) (d .b) given (record { a-small = omega (arith, isJob-range jobs (d .a .job) p .1); b-small = omega (arith, isJob-range jobs (d .b .job) r .1) }) small)
+      by-jobs true false p r = refl
+      by-jobs false y p r = refl
+
   boundOf-numbered : (o : Option BoundParts) → boundOf jobs (isWrongNumbered (map pairOf given)) o ≡ boundOf jobs (λ a b. isWrongPair a b given) o
   unfolding boundOf
   boundOf-numbered none = refl
-  boundOf-numbered (some q) = by-jobs (isJob jobs (q .a .job)) (isJob jobs (q .b .job)) refl refl
-    where
-      d : Bound
-      d = record { a = q .a; b = q .b; c = numberValue (q .c) }
-
-      in-range : Bool
-      in-range = within leastC greatestC (numberValue (q .c))
-
-      by-jobs : (x y : Bool) → isJob jobs (q .a .job) ≡ x → isJob jobs (q .b .job) ≡ y
-          → cond (not (x && y && in-range)) (boundLine.Bad fault.Range) (cond (isWrongNumbered (map pairOf given) (q .a) (q .b)) (boundLine.Bad fault.Pair) (boundLine.Value d))
-          ≡ cond (not (x && y && in-range)) (boundLine.Bad fault.Range) (cond (isWrongPair (q .a) (q .b) given) (boundLine.Bad fault.Pair) (boundLine.Value d))
-      by-jobs true true p r =
-          rw (isWrongNumbered-pair (q .a) (q .b) given (record { a-small = omega (arith, isJob-range jobs (q .a .job) p .1); b-small = omega (arith, isJob-range jobs (q .b .job) r .1) }) small)
-      by-jobs true false p r = refl
-      by-jobs false y p r = refl
+  boundOf-numbered (some q) = judgedBound-numbered (record { a = q .a; b = q .b; c = numberValue (q .c) })
 
   pub boundLined-numbered : (s : List ℕ) (n : ℕ) (codes : List ℕ) → codes ≡ map pairOf given → line (boundLined jobs (isWrongNumbered codes)) s n ≡ line (λ l. linedBound (boundIn jobs given l)) s n
   unfolding line
   boundLined-numbered s n codes e = rw (e, boundOf-numbered (boundParts (afterKey (bytes "bound=") (before LF s))))
 
-map-last : (ds : List Bound) (d : Bound) → map pairOf (ds ++ (d ∷ [])) ≡ map pairOf ds ++ (pairOf d ∷ [])
+pub map-last : (ds : List Bound) (d : Bound) → map pairOf (ds ++ (d ∷ [])) ≡ map pairOf ds ++ (pairOf d ∷ [])
 map-last [] d = refl
 map-last (x ∷ ds) d = ap (λ (r : List ℕ). pairOf x ∷ r) (map-last ds d)
 

@@ -31,7 +31,7 @@ use Rattle.plan.specs.PlanJudged.{judgedAnswer, andThen, numberJudged, j
 use Rattle.plan.specs.Accepted.{JobAccepted, BoundAccepted, Accepted}
 use Rattle.plan.specs.ListLaws.{All, All-at, All-of, All-map}
 use Rattle.plan.specs.PlanLaws.{isJob-range, AllBounds, AllBounds-at, planAlone-fits}
-use Rattle.plan.specs.JudgedLines.{numberJudged-range, Placed, judgedPlan-is}
+use Rattle.plan.specs.JudgedLines.{numberJudged-range, numberJudged-inside, Placed, judgedPlan-is}
 use Rattle.plan.specs.JudgedLength.{JobFits, BoundFits, PlanFits, planText-short}
 
 -- ---- judged good, so accepted
@@ -60,7 +60,7 @@ jobsJudged-accepted n (j ∷ js) e =
     (jobJudged-accepted n j (q .0), jobsJudged-accepted (n + 4) js (q .1))
 
 module _ (jobs : ℕ) (given : List Bound) (n : ℕ) (d : Bound) where
-  boundJudged-accepted : boundJudged jobs given n d ≡ answer.Accepted → BoundAccepted jobs d × (isWrongPair (d .a) (d .b) given ≡ false)
+  boundJudged-accepted : boundJudged jobs (λ a b. isWrongPair a b given) n d ≡ answer.Accepted → BoundAccepted jobs d × (isWrongPair (d .a) (d .b) given ≡ false)
   unfolding boundJudged
   boundJudged-accepted e =
       by-tests (isOneDigit (d .a .job) && isOneDigit (d .b .job)) (isJob jobs (d .a .job)) (isJob jobs (d .b .job)) (leZ leastC (d .c)) (leZ (d .c) greatestC) (isWrongPair (d .a) (d .b) given) refl refl refl refl refl e
@@ -83,7 +83,7 @@ boundsJudged-accepted : (jobs : ℕ) (given : List Bound) (n : ℕ) (ds : List B
 unfolding boundsJudged
 boundsJudged-accepted jobs given n [] e = tt
 boundsJudged-accepted jobs given n (d ∷ ds) e =
-    let q = andThen-both (boundJudged jobs given n d) (boundsJudged jobs (given ++ (d ∷ [])) (n + 1) ds) e in
+    let q = andThen-both (boundJudged jobs (λ a b. isWrongPair a b given) n d) (boundsJudged jobs (given ++ (d ∷ [])) (n + 1) ds) e in
     let r = boundJudged-accepted jobs given n d (q .0) in
     (r .0, r .1, boundsJudged-accepted jobs (given ++ (d ∷ [])) (n + 1) ds (q .1))
 
@@ -135,12 +135,6 @@ judgedPlan-accepted p l e = planJudged-accepted p l (sym (judgedPlan-is p l (by-
 
 -- ---- accepted, so judged good
 
-numberJudged-inside : (lo hi z : ℤ) (n : ℕ) → lo ≤ℤ z → z ≤ℤ hi → numberJudged lo hi z n ≡ answer.Accepted
-numberJudged-inside lo hi z n h g =
-    let e : leZ lo z ≡ true = omega whole in
-    let d : leZ z hi ≡ true = omega whole in
-    rw (e, d)
-
 accepted-jobJudged : (n : ℕ) (j : Job) → JobAccepted j → jobJudged n j ≡ answer.Accepted
 unfolding jobJudged
 accepted-jobJudged n j a =
@@ -157,7 +151,7 @@ accepted-jobsJudged n [] a = refl
 accepted-jobsJudged n (j ∷ js) a = rw (accepted-jobJudged n j (a .0)) (accepted-jobsJudged (n + 4) js (a .1))
 
 module _ (jobs : ℕ) (few : jobs ≤ mostJobs) where
-  accepted-boundJudged : (given : List Bound) (n : ℕ) (d : Bound) → BoundAccepted jobs d → isWrongPair (d .a) (d .b) given ≡ false → boundJudged jobs given n d ≡ answer.Accepted
+  accepted-boundJudged : (given : List Bound) (n : ℕ) (d : Bound) → BoundAccepted jobs d → isWrongPair (d .a) (d .b) given ≡ false → boundJudged jobs (λ a b. isWrongPair a b given) n d ≡ answer.Accepted
   unfolding boundJudged
   accepted-boundJudged given n d a w =
       let cl : leZ leastC (d .c) ≡ true = omega (whole, a .c-least) in

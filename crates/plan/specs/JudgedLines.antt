@@ -10,7 +10,7 @@ use borrow.Author.Tests.{ltb-true, ltb-false}
 use lib.Dec.{ltb}
 use lib.IntN.{ℤ, pos}
 use lib.ListN.{length, length-take}
-use lib.Signed.{_≤ℤ_, leZ}
+use lib.Signed.{_≤ℤ_, leZ, ltZ}
 use Rattle.whole.specs.Rules.{whole}
 use Rattle.text.specs.Bytes.{bytes}
 use Rattle.text.specs.Lines.{LF, comma, lenTo}
@@ -54,6 +54,42 @@ andThen-assoc (Refused r) y z = refl
 andThen-where : (x : PlanAnswer) {y z : PlanAnswer} → (x ≡ Accepted → y ≡ z) → andThen x y ≡ andThen x z
 andThen-where Accepted f = f refl
 andThen-where (Refused r) f = refl
+
+-- an answer a to what comes first: a refusal is the answer to all, and where it accepts, what follows is
+pub andThen-stop : (x y a : PlanAnswer) {r : Refusal} → a ≡ x → a ≡ Refused r → a ≡ andThen x y
+andThen-stop Accepted y a e d = absurd (let z : _≡_ {A = ℕ} 0 1 = cc in omega arith)
+andThen-stop (Refused r) y a e d = e
+
+pub andThen-pass : (x y a : PlanAnswer) → a ≡ x → a ≡ Accepted → y ≡ andThen x y
+andThen-pass Accepted y a e d = refl
+andThen-pass (Refused r) y a e d = absurd (let z : _≡_ {A = ℕ} 0 1 = cc in omega arith)
+
+-- ---- a number in its range, or not
+
+pub numberJudged-range : (lo hi z : ℤ) (n : ℕ) → numberJudged lo hi z n ≡ Accepted → (lo ≤ℤ z) × (z ≤ℤ hi)
+numberJudged-range lo hi z n e = by-tests (leZ lo z) (leZ z hi) refl refl e
+  where
+    by-tests : (a b : Bool) → leZ lo z ≡ a → leZ z hi ≡ b → cond (a && b) Accepted (Refused (Range n)) ≡ Accepted → (lo ≤ℤ z) × (z ≤ℤ hi)
+    by-tests true true p q e = (omega whole, omega whole)
+    by-tests true false p q e = absurd (let z : _≡_ {A = ℕ} 0 1 = cc in omega arith)
+    by-tests false b p q e = absurd (let z : _≡_ {A = ℕ} 0 1 = cc in omega arith)
+
+pub numberJudged-below : (lo hi z : ℤ) (n : ℕ) → ltZ z lo ≡ true → numberJudged lo hi z n ≡ Refused (Range n)
+numberJudged-below lo hi z n h = let e : leZ lo z ≡ false = omega whole in rw e
+
+pub numberJudged-above : (lo hi z : ℤ) (n : ℕ) → ltZ z lo ≡ false → ltZ hi z ≡ true → numberJudged lo hi z n ≡ Refused (Range n)
+numberJudged-above lo hi z n h g =
+    let e : leZ lo z ≡ true = omega whole in
+    let d : leZ z hi ≡ false = omega whole in
+    rw (e, d)
+
+pub numberJudged-inside : (lo hi z : ℤ) (n : ℕ) → lo ≤ℤ z → z ≤ℤ hi → numberJudged lo hi z n ≡ Accepted
+numberJudged-inside lo hi z n h g =
+    let e : leZ lo z ≡ true = omega whole in
+    let d : leZ z hi ≡ true = omega whole in
+    rw (e, d)
+
+-- ---- readings
 
 -- what is made of a reading, where a refusal stays that refusal
 abbrev pub Ending : {A : Type 0} → (Reading A → PlanAnswer) → Type 0
@@ -217,7 +253,7 @@ module _ (jobs : ℕ) (given : List Bound) (d : Bound) where
       (ap suc (free-append LF (decimal (d .c)) [] (decimal-free LF refl (omega arith) (d .c)) refl)))))
 
   pub boundLine-judged : (s : List ℕ) (n : ℕ) {B : Type 0} (k : Reading B → PlanAnswer) → Ending k → (f : Bound → Reader B)
-      → k (next (line (λ l. linedBound (boundIn jobs given l)) (boundBytes d (LF ∷ s)) n) f) ≡ andThen (boundJudged jobs given n d) (k (f d s (suc n)))
+      → k (next (line (λ l. linedBound (boundIn jobs given l)) (boundBytes d (LF ∷ s)) n) f) ≡ andThen (boundJudged jobs (λ a b. isWrongPair a b given) n d) (k (f d s (suc n)))
   unfolding next lined linedBound boundJudged
   boundLine-judged s n {B} k ends f =
       ap (λ t. k (next (line (λ l. linedBound (boundIn jobs given l)) t n) f)) (sym (boundBytes-append d [] (LF ∷ s)))
@@ -244,11 +280,11 @@ boundsAfter-judged jobs given (d ∷ ds) n k ends =
     let e1 : suc n ≡ n + 1 = omega arith in
     rw e
     (boundLine-judged jobs given d (boundsText ds) n k ends (λ b. boundsAfter jobs (given ++ (b ∷ [])) (length ds))
-    ∙ ap (andThen (boundJudged jobs given n d))
+    ∙ ap (andThen (boundJudged jobs (λ a b. isWrongPair a b given) n d))
     (ap (λ (m : ℕ). k (boundsAfter jobs (given ++ (d ∷ [])) (length ds) (boundsText ds) m)) e1
     ∙ boundsAfter-judged jobs (given ++ (d ∷ [])) ds (n + 1) k ends
     ∙ ap (λ (l : List Bound). andThen (boundsJudged jobs (given ++ (d ∷ [])) (n + 1) ds) (k (read l [] (n + 1 + length ds)))) (append-assoc given (d ∷ []) ds))
-    ∙ sym (andThen-assoc (boundJudged jobs given n d) (boundsJudged jobs (given ++ (d ∷ [])) (n + 1) ds) _))
+    ∙ sym (andThen-assoc (boundJudged jobs (λ a b. isWrongPair a b given) n d) (boundsJudged jobs (given ++ (d ∷ [])) (n + 1) ds) _))
 
 -- ---- the plan
 
@@ -267,14 +303,6 @@ alone-read p n = refl
 andThen-accepted : (x : PlanAnswer) → andThen x Accepted ≡ x
 andThen-accepted Accepted = refl
 andThen-accepted (Refused r) = refl
-
-pub numberJudged-range : (lo hi z : ℤ) (n : ℕ) → numberJudged lo hi z n ≡ Accepted → (lo ≤ℤ z) × (z ≤ℤ hi)
-numberJudged-range lo hi z n e = by-tests (leZ lo z) (leZ z hi) refl refl e
-  where
-    by-tests : (a b : Bool) → leZ lo z ≡ a → leZ z hi ≡ b → cond (a && b) Accepted (Refused (Range n)) ≡ Accepted → (lo ≤ℤ z) × (z ≤ℤ hi)
-    by-tests true true p q e = (omega whole, omega whole)
-    by-tests true false p q e = absurd (let z : _≡_ {A = ℕ} 0 1 = cc in omega arith)
-    by-tests false b p q e = absurd (let z : _≡_ {A = ℕ} 0 1 = cc in omega arith)
 
 -- the lines after the first four
 planRest-judged : (window : ℤ) (rounds last : ℕ) (js : List Job) (bounds : ℕ) (ds : List Bound) → (bounds ≤ mostBounds → bounds ≡ length ds)

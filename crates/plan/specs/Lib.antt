@@ -29,4 +29,5 @@ pub mod HeadLaws
 pub mod JudgedLines
 pub mod JudgedLength
 pub mod JudgedLaws
+pub mod JudgedWays
 pub mod Unique

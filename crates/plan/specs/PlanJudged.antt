@@ -8,6 +8,7 @@ use lib.Dec.{ltb}
 use lib.IntN.{ℤ, pos}
 use Rattle.text.specs.Numbers.{within}
 use Rattle.plan.specs.declared.Job.{Job}
+use Rattle.plan.specs.declared.EventName.{EventName}
 use Rattle.plan.specs.declared.Bound.{Bound}
 use Rattle.plan.specs.declared.BoundLine.{BoundLine}
 use Rattle.plan.specs.declared.BoundLine.the-variants as boundLine
@@ -55,15 +56,15 @@ abbrev pub lineJudged : ℕ → BoundLine → PlanAnswer
 lineJudged n (boundLine.Value d) = Accepted
 lineJudged n (boundLine.Bad f) = Refused (faultAt n f)
 
--- a bound on line n, after those given before it: 'in a line the order is 1, 2, 3'
-unfoldable pub boundJudged : ℕ → List Bound → ℕ → Bound → PlanAnswer
-boundJudged jobs given n d =
-    cond (isOneDigit (d .a .job) && isOneDigit (d .b .job)) (lineJudged n (judgedBound jobs (λ a b. isWrongPair a b given) d))
+-- a bound on line n, with the pairs that are wrong after the bounds before it: 'in a line the order is 1, 2, 3'
+unfoldable pub boundJudged : ℕ → (EventName → EventName → Bool) → ℕ → Bound → PlanAnswer
+boundJudged jobs isWrong n d =
+    cond (isOneDigit (d .a .job) && isOneDigit (d .b .job)) (lineJudged n (judgedBound jobs isWrong d))
     (Refused (Form n))
 
 unfoldable pub boundsJudged : ℕ → List Bound → ℕ → List Bound → PlanAnswer
 boundsJudged jobs given n [] = Accepted
-boundsJudged jobs given n (d ∷ ds) = andThen (boundJudged jobs given n d) (boundsJudged jobs (given ++ (d ∷ [])) (n + 1) ds)
+boundsJudged jobs given n (d ∷ ds) = andThen (boundJudged jobs (λ a b. isWrongPair a b given) n d) (boundsJudged jobs (given ++ (d ∷ [])) (n + 1) ds)
 
 -- the lines in the document's order
 unfoldable pub planJudged : Plan → PlanAnswer

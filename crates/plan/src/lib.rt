@@ -188,6 +188,7 @@ mod bound_line;
 mod bounds_lines;
 mod first_lines;
 mod job_lines;
+mod job_values;
 mod jobs_lines;
 mod names;
 mod narrow;
