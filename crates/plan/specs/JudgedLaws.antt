@@ -60,7 +60,7 @@ jobsJudged-accepted n (j ∷ js) e =
     (jobJudged-accepted n j (q .0), jobsJudged-accepted (n + 4) js (q .1))
 
 module _ (jobs : ℕ) (given : List Bound) (n : ℕ) (d : Bound) where
-  boundJudged-accepted : boundJudged jobs (λ a b. isWrongPair a b given) n d ≡ answer.Accepted → BoundAccepted jobs d × (isWrongPair (d .a) (d .b) given ≡ false)
+  pub boundJudged-accepted : boundJudged jobs (λ a b. isWrongPair a b given) n d ≡ answer.Accepted → BoundAccepted jobs d × (isWrongPair (d .a) (d .b) given ≡ false)
   unfolding boundJudged
   boundJudged-accepted e =
       by-tests (isOneDigit (d .a .job) && isOneDigit (d .b .job)) (isJob jobs (d .a .job)) (isJob jobs (d .b .job)) (leZ leastC (d .c)) (leZ (d .c) greatestC) (isWrongPair (d .a) (d .b) given) refl refl refl refl refl e

@@ -1,23 +1,33 @@
--- The laws by which the judging of a value is right, way by way: of a job (`jobJudged-min`, `-max`, `-release`, `-deadline`), of the loop over the jobs (`JobsHeld`), of the loop over the bounds
+-- The laws by which the judging of a value is right, way by way: of a job (`jobJudged-min`, `-max`, `-release`, `-deadline`), of the loop over the jobs (`JobsHeld`), of a bound (`boundJudged-bare`, `-formed`), of the loop over the bounds
 -- (`BoundsHeld`), and of the plan (`planJudged-window` to `planJudged-bounds`). An answer a to a line is what that line was judged, and it refuses or accepts.
 use mathlib.Core.Path.{_≡_, refl, sym, _∙_, ap}
+use mathlib.Core.Bool.{Bool, true, false, _&&_}
 use mathlib.Core.List.{List, [], _∷_, _++_, map}
 use Prim.Native.Nat.{ℕ, suc, _+_, _*_, _≤_, _<_}
 use native.Mathlib.Numerals.{add-one}
 use native.Mathlib.Omega.{arith}
 use lib.IntN.{pos}
-use lib.ListN.{length, take, drop, getD, length-take, drop-of-length-le}
-use lib.Seq.{drop-cons, getD-take}
+use lib.ListN.{length, take, drop, set, getD, replicate, length-take, length-set, drop-of-length-le}
+use lib.Seq.{drop-cons, getD-take, take-suc, take-suc-set}
 use Rattle.plan.specs.declared.Job.{Job}
+use Rattle.plan.specs.declared.EventName.{EventName}
+use Rattle.plan.specs.declared.Bound.{Bound}
 use Rattle.plan.specs.declared.Plan.{Plan}
 use Rattle.plan.specs.declared.PlanAnswer.{PlanAnswer}
 use Rattle.plan.specs.declared.PlanAnswer.the-variants.{Accepted, Refused}
 use Rattle.plan.specs.declared.Refusal.{Refusal}
-use Rattle.plan.specs.Limits.{mostJobs, longestRunning, latestDeadline}
-use Rattle.plan.specs.PlanRead.{noJob}
-use Rattle.plan.specs.PlanWritten.{jobsOf}
-use Rattle.plan.specs.PlanJudged.{andThen, numberJudged, jobJudged, jobsJudged}
+use Rattle.plan.specs.declared.Refusal.the-variants.{Form}
+use Rattle.plan.specs.Limits.{mostJobs, mostBounds, longestRunning, latestDeadline}
+use Rattle.plan.specs.PlanRead.{isWrongPair, judgedBound, noJob, noBound}
+use Rattle.plan.specs.PlanWritten.{jobsOf, boundsOf}
+use Rattle.plan.specs.Accepted.{BoundAccepted}
+use Rattle.plan.specs.Pairs.{pairOf, isWrongNumbered}
+use Rattle.plan.specs.PairLaws.{Small}
+use Rattle.plan.specs.ListLaws.{All, All-more}
+use Rattle.plan.specs.BoundsLoop.{judgedBound-numbered, map-last}
+use Rattle.plan.specs.PlanJudged.{andThen, numberJudged, jobJudged, jobsJudged, isOneDigit, lineJudged, boundJudged, boundsJudged}
 use Rattle.plan.specs.JudgedLines.{andThen-stop, andThen-pass, Placed}
+use Rattle.plan.specs.JudgedLaws.{boundJudged-accepted}
 
 -- ---- a job
 
@@ -88,3 +98,86 @@ module _ (p : Plan) (q : Placed p) (few : p .jobs ≤ mostJobs) (n i : ℕ) (h :
   pub JobsHeld-end : p .jobs ≤ i → Accepted ≡ jobsJudged 5 (jobsOf p)
   unfolding jobsJudged
   JobsHeld-end l = sym (h .left ∙ ap (jobsJudged n) (drop-of-length-le (jobsOf p) {i = i} (omega (arith, length-take (p .jobs) (p .job)))))
+
+-- ---- a bound
+
+module _ (jobs : ℕ) (isWrong : EventName → EventName → Bool) (n : ℕ) (d : Bound) where
+  pub boundJudged-bare : isOneDigit (d .a .job) && isOneDigit (d .b .job) ≡ false → boundJudged jobs isWrong n d ≡ Refused (Form n)
+  unfolding boundJudged
+  boundJudged-bare h = rw h
+
+  pub boundJudged-formed : isOneDigit (d .a .job) && isOneDigit (d .b .job) ≡ true → boundJudged jobs isWrong n d ≡ lineJudged n (judgedBound jobs isWrong d)
+  unfolding boundJudged
+  boundJudged-formed h = rw h
+
+-- the pairs given, by their numbers
+boundJudged-numbered : (jobs : ℕ) → jobs ≤ 9 → (given : List Bound) → All (λ d. Small (d .a) (d .b)) given → (codes : List ℕ) → codes ≡ map pairOf given → (n : ℕ) (d : Bound)
+    → boundJudged jobs (isWrongNumbered codes) n d ≡ boundJudged jobs (λ a b. isWrongPair a b given) n d
+unfolding boundJudged
+boundJudged-numbered jobs few given small codes e n d = rw (e, judgedBound-numbered jobs few given small d)
+
+-- ---- the loop over the bounds: what is left is judged as the whole
+
+pub record BoundsHeld (p : Plan) (given : List ℕ) (n i : ℕ) : Type 0 where
+  pub count : i ≤ p .bounds
+  pub number : n ≡ 6 + 4 * p .jobs + i
+  pub codes : length given ≡ 64
+  pub coded : take i given ≡ map pairOf (take i (p .bound))
+  pub small : All (λ d. Small (d .a) (d .b)) (take i (p .bound))
+  pub left : boundsJudged (p .jobs) [] (6 + 4 * p .jobs) (boundsOf p) ≡ boundsJudged (p .jobs) (take i (p .bound)) n (drop i (boundsOf p))
+
+pub BoundsHeld-start : (p : Plan) → BoundsHeld p (replicate 64 0) (6 + 4 * p .jobs) 0
+BoundsHeld-start p = record { count = omega arith; number = omega arith; codes = refl; coded = refl; small = tt; left = refl }
+
+module _ (p : Plan) (q : Placed p) (few : p .jobs ≤ mostJobs) (few-bounds : p .bounds ≤ mostBounds) (given : List ℕ) (n i : ℕ) (h : BoundsHeld p given n i) where
+  next-bound : i < p .bounds → drop i (boundsOf p) ≡ getD (p .bound) i noBound ∷ drop (i + 1) (boundsOf p)
+  next-bound l =
+      drop-cons (boundsOf p) i noBound (omega (arith, length-take (p .bounds) (p .bound), q .bound-places))
+      ∙ rw (getD-take (p .bounds) (p .bound) i noBound l, add-one i)
+
+  same-bound : (d : Bound) → boundJudged (p .jobs) (isWrongNumbered (take i given)) n d ≡ boundJudged (p .jobs) (λ a b. isWrongPair a b (take i (p .bound))) n d
+  same-bound = boundJudged-numbered (p .jobs) few (take i (p .bound)) (h .small) (take i given) (h .coded) n
+
+  one-bound : i < p .bounds → boundsJudged (p .jobs) [] (6 + 4 * p .jobs) (boundsOf p)
+      ≡ andThen (boundJudged (p .jobs) (λ a b. isWrongPair a b (take i (p .bound))) n (getD (p .bound) i noBound))
+      (boundsJudged (p .jobs) (take i (p .bound) ++ (getD (p .bound) i noBound ∷ [])) (n + 1) (drop (i + 1) (boundsOf p)))
+  unfolding boundsJudged
+  one-bound l = h .left ∙ ap (boundsJudged (p .jobs) (take i (p .bound)) n) (next-bound l)
+
+  module _ (l : i < p .bounds) (a : PlanAnswer) (e : a ≡ boundJudged (p .jobs) (isWrongNumbered (take i given)) n (getD (p .bound) i noBound)) where
+    is-judged : a ≡ boundJudged (p .jobs) (λ a b. isWrongPair a b (take i (p .bound))) n (getD (p .bound) i noBound)
+    is-judged = e ∙ same-bound (getD (p .bound) i noBound)
+
+    pub BoundsHeld-stop : {r : Refusal} → a ≡ Refused r → a ≡ boundsJudged (p .jobs) [] (6 + 4 * p .jobs) (boundsOf p)
+    BoundsHeld-stop d = andThen-stop (boundJudged (p .jobs) (λ a b. isWrongPair a b (take i (p .bound))) n (getD (p .bound) i noBound)) _ a is-judged d ∙ sym (one-bound l)
+
+    pub BoundsHeld-past : a ≡ Accepted → (code : ℕ) → code ≡ pairOf (getD (p .bound) i noBound) → BoundsHeld p (set given i code) (n + 1) (i + 1)
+    BoundsHeld-past d code k =
+        record {
+          count = omega arith;
+          number = omega (arith, h .number);
+          codes = length-set given i code ∙ h .codes;
+          coded =
+              codes-taken
+              ∙ ap (λ (x : List ℕ). x ++ (code ∷ [])) (h .coded)
+              ∙ ap (λ (c : ℕ). map pairOf (take i (p .bound)) ++ (c ∷ [])) k
+              ∙ sym (ap (map pairOf) taken ∙ map-last (take i (p .bound)) (getD (p .bound) i noBound));
+          small = rw taken (All-more (λ d. Small (d .a) (d .b)) (take i (p .bound)) (getD (p .bound) i noBound) (h .small) (record { a-small = omega (arith, accepted .a-most); b-small = omega (arith, accepted .b-most) }));
+          left =
+              one-bound l
+              ∙ sym (andThen-pass (boundJudged (p .jobs) (λ a b. isWrongPair a b (take i (p .bound))) n (getD (p .bound) i noBound)) _ a is-judged d)
+              ∙ ap (λ (done : List Bound). boundsJudged (p .jobs) done (n + 1) (drop (i + 1) (boundsOf p))) (sym taken);
+        }
+      where
+        accepted : BoundAccepted (p .jobs) (getD (p .bound) i noBound)
+        accepted = boundJudged-accepted (p .jobs) (take i (p .bound)) n (getD (p .bound) i noBound) (sym is-judged ∙ d) .0
+
+        taken : take (i + 1) (p .bound) ≡ take i (p .bound) ++ (getD (p .bound) i noBound ∷ [])
+        taken = rw (add-one i) (take-suc (p .bound) i noBound (omega (arith, q .bound-places)))
+
+        codes-taken : take (i + 1) (set given i code) ≡ take i given ++ (code ∷ [])
+        codes-taken = rw (add-one i) (take-suc-set given i code (omega (arith, h .codes)))
+
+  pub BoundsHeld-end : p .bounds ≤ i → Accepted ≡ boundsJudged (p .jobs) [] (6 + 4 * p .jobs) (boundsOf p)
+  unfolding boundsJudged
+  BoundsHeld-end l = sym (h .left ∙ ap (boundsJudged (p .jobs) (take i (p .bound)) n) (drop-of-length-le (boundsOf p) {i = i} (omega (arith, length-take (p .bounds) (p .bound)))))

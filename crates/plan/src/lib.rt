@@ -185,6 +185,7 @@ pub struct PlanRead {
 
 mod bound_at;
 mod bound_line;
+mod bound_values;
 mod bounds_lines;
 mod first_lines;
 mod job_lines;
