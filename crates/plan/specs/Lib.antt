@@ -16,6 +16,7 @@ pub mod PlanJudged
 pub mod Accepted
 -- ---- laws
 pub mod WrittenLaws
+pub mod PlanWrittenLaws
 pub mod EventNameLaws
 pub mod ListLaws
 pub mod PairLaws

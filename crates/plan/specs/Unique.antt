@@ -3,15 +3,20 @@ use mathlib.Core.Path.{_≡_}
 use mathlib.Core.Bool.{Bool}
 use mathlib.Core.List.{List}
 use Prim.Native.Nat.{ℕ}
+use Rattle.text.specs.Lent.{written}
 use Rattle.text.specs.Unique.{only}
 use Rattle.text.specs.declared.Fault.{Fault}
 use Rattle.plan.specs.declared.NameRead.{NameRead}
+use Rattle.plan.specs.declared.Plan.{Plan}
 use Rattle.plan.specs.declared.PlanRead.{PlanRead}
 use Rattle.plan.specs.declared.Refusal.{Refusal}
-use Rattle.plan.specs.Refusals.{number, value, ends, faultAt}
+use Rattle.plan.specs.declared.Written.{Written}
+use Rattle.plan.specs.Refusals.{number, value, ends, faultAt, refusedLine}
 use Rattle.plan.specs.EventNames.{eventName, nameRead}
 use Rattle.plan.specs.PlanRead.{planHead, planAlone}
 use Rattle.plan.specs.PlanAnswers.{planRead}
+use Rattle.plan.specs.PlanWritten.{planText}
+use Rattle.plan.specs.Written.{writtenAs}
 
 pub number-unique : (r : Refusal) {n m : ℕ} → n ≡ number r → m ≡ number r → n ≡ m
 number-unique r = only
@@ -33,3 +38,15 @@ read-head-unique s = only
 
 pub read-plan-unique : (s : List ℕ) {r q : PlanRead} → r ≡ planRead s (planAlone s) → q ≡ planRead s (planAlone s) → r ≡ q
 read-plan-unique s = only
+
+pub write-plan-unique : (p : Plan) (out : List ℕ) {r q : Written} → r ≡ writtenAs (planText p) out → q ≡ writtenAs (planText p) out → r ≡ q
+write-plan-unique p out = only
+
+pub write-plan-bytes-unique : (p : Plan) (out : List ℕ) {o u : List ℕ} → o ≡ written (planText p) out → u ≡ written (planText p) out → o ≡ u
+write-plan-bytes-unique p out = only
+
+pub write-refused-unique : (x : Refusal) (out : List ℕ) {r q : Written} → r ≡ writtenAs (refusedLine x) out → q ≡ writtenAs (refusedLine x) out → r ≡ q
+write-refused-unique x out = only
+
+pub write-refused-bytes-unique : (x : Refusal) (out : List ℕ) {o u : List ℕ} → o ≡ written (refusedLine x) out → u ≡ written (refusedLine x) out → o ≡ u
+write-refused-bytes-unique x out = only

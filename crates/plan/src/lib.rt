@@ -198,6 +198,7 @@ mod pairs;
 mod reader;
 mod refusals;
 mod refused;
+mod writer;
 
 pub use names::event_name;
 pub use reader::read_head;
@@ -208,3 +209,4 @@ pub use refusals::number;
 pub use refusals::value;
 pub use refused::put_refused;
 pub use refused::write_refused;
+pub use writer::write_plan;
