@@ -1,25 +1,26 @@
--- A walk along the bits of a set comes to the same end as looking at every event. The events below the lowest bit add nothing (`endIn-gap`), so that
--- the next term is that of the lowest bit (`endIn-turn`), and a set with no bit among the events left is at its end (`endIn-stop`). An end worked out
+-- A walk along the bits of a set comes to the same end as looking at every event. The events below the lowest bit add nothing, so that the next term
+-- is that of the lowest bit (`endIn-turn`), and a set with no bit among the events left is at its end (`endIn-stop`, `endIn-end`). An end worked out
 -- window by window is the end of `Offers` (`endOf-is`).
 use Prim.Native.Nat.{ℕ, zero, suc, _+_, _*_, _-_, _/_, _%_, _^_, _≤_, _<_}
 use mathlib.Core.Path.{_≡_, refl, sym, ap, _∙_}
 use mathlib.Core.Bool.{Bool, true, false, cond, _&&_}
 use mathlib.Core.List.{List}
-use native.Mathlib.Nat.{pow-suc, pow-succ', div-div-eq-div-mul, div-one, zero-add, add-zero, suc-add, add-suc, pos-of-ne-zero, add-assoc, mul-add, add-sub-cancel-left}
+use native.Mathlib.Nat.{div-one, zero-add, add-zero, suc-add, add-suc, pos-of-ne-zero, add-assoc, mul-add, add-sub-cancel-left}
 use native.Mathlib.Numerals.{add-one}
 use native.Mathlib.Omega.{arith}
 use lib.Dec.{eqb}
 use lib.IntN.{ℤ, pos, _+ℤ_}
 use lib.ListN.{getD}
-use lib.Count.{trailingZeros, under, trailing-of-zero}
-use borrow.Author.Tests.{eq-eqb, ne-eqb, lt-ltb, le-ltb, le-leb, lt-leb}
+use lib.Count.{trailingZeros, trailing-of-zero}
+use borrow.Author.Tests.{lt-ltb, le-ltb, le-leb, lt-leb}
 use mir.Syntax.{w32, w64}
 use mir.Val.{SFits, toZ, ofZ}
 use mir.Facts.{toZ-ofZ}
 use Rattle.clock.specs.declared.RunTime.{RunTime}
 use Rattle.clock.specs.Clock.{movedBy}
 use Rattle.plan.specs.declared.Plan.{Plan}
-use Rattle.calendars.specs.Bits.{hasEvent}
+use Rattle.calendars.specs.Bits.{hasEvent, nextEvent}
+use Rattle.calendars.specs.BitsLaws.{shift-suc, shift-half, hasEvent-shift, nextFrom-zeros, nextFrom-least, nextFrom-has}
 use Rattle.calendars.specs.Calendars.{eventsBefore}
 use Rattle.runs.specs.declared.Probe.{Probe}
 use Rattle.runs.specs.declared.Run.{Run}
@@ -27,39 +28,21 @@ use Rattle.runs.specs.TestLaws.{and-with-true, and-with-false, or-with-t
 use Rattle.runs.specs.Offers.{noProbe, timeIn, timeOf, isInForce, endFrom}
 use Rattle.runs.specs.Ends.{pickOf, pickedTime, timeOn, termIn, endIn, endOf, TermsFit}
 
--- ---- bits
+-- ---- the lowest bit
 
--- below the lowest bit
-hasEvent-even : (s : ℕ) → s % 2 ≡ 0 → hasEvent 0 s ≡ false
-unfolding hasEvent
-hasEvent-even s h = ne-eqb (s % 2) 1 (λ e. omega arith)
+zeros-next : (s : ℕ) → trailingZeros 64 s ≡ nextEvent s 0
+zeros-next s = sym (nextFrom-zeros s 0 64 ∙ rw (zero-add, div-one))
 
-hasEvent-odd : (s : ℕ) → s % 2 ≡ 1 → hasEvent 0 s ≡ true
-unfolding hasEvent
-hasEvent-odd s h = eq-eqb (s % 2) 1 h
+-- no event below the lowest bit is in the set
+below-lowest : (s d : ℕ) → d < trailingZeros 64 s → hasEvent d s ≡ false
+below-lowest s d h = nextFrom-least s 0 64 d (omega arith) (omega (arith, zeros-next s))
 
--- one more zero below the lowest bit: the number is even
-trailing-even : (d s gap r : ℕ) → s % 2 ≡ r → suc gap ≤ under r (trailingZeros d (s / 2)) → (s % 2 ≡ 0) × (gap ≤ trailingZeros d (s / 2))
-trailing-even d s gap zero e h = (e, omega arith)
-trailing-even d s gap (suc r) e h = absurd (omega arith)
+at-lowest : (s : ℕ) → trailingZeros 64 s < 64 → hasEvent (trailingZeros 64 s) s ≡ true
+at-lowest s h = rw (zeros-next s) (nextFrom-has s 0 64 (omega (arith, zeros-next s)))
 
-shift-suc : (s k : ℕ) → s / 2 / 2 ^ k ≡ s / 2 ^ suc k
-shift-suc s k = div-div-eq-div-mul s 2 (2 ^ k) ∙ ap (λ (x : ℕ). s / x) (sym (pow-succ' 2 k))
-
-shift-half : (s k : ℕ) → s / 2 ^ k / 2 ≡ s / 2 ^ suc k
-shift-half s k = div-div-eq-div-mul s (2 ^ k) 2 ∙ ap (λ (x : ℕ). s / x) (sym (pow-suc 2 k))
-
--- the lowest bit of a number that has one
-trailing-odd : (d s : ℕ) → 0 < s → s < 2 ^ d → s / 2 ^ trailingZeros d s % 2 ≡ 1
-unfolding trailingZeros
-trailing-odd zero s p h = absurd (omega arith)
-trailing-odd (suc d) s p h = go (λ q l. trailing-odd d (s / 2) q l) (s % 2) refl
-  where
-    go : (0 < s / 2 → s / 2 < 2 ^ d → s / 2 / 2 ^ trailingZeros d (s / 2) % 2 ≡ 1)
-        → (b : ℕ) → s % 2 ≡ b → s / 2 ^ under b (trailingZeros d (s / 2)) % 2 ≡ 1
-    go rest zero e =
-        rw (← shift-suc s (trailingZeros d (s / 2))) (rest (omega arith) (omega arith))
-    go rest (suc b) e = rw (div-one) (omega arith)
+-- the first bit of what is left from event e on is event e's
+first-bit : (e s : ℕ) → hasEvent 0 (s / 2 ^ e) ≡ hasEvent e s
+first-bit e s = hasEvent-shift e 0 s ∙ ap (λ (k : ℕ). hasEvent k s) (add-zero e)
 
 -- what is left of a walk is less than what was
 pub half-less : {s t : ℕ} → t ≤ s → (s ≡ 0 → ⊥) → t / 2 < s
@@ -96,52 +79,37 @@ module _ (pick : ℤ → ℤ → ℤ) (qs : List Probe) (cs : List ℤ) (at : �
   unfolding endIn
   endIn-next set end e n h = rw h
 
-  pub endIn-gap : (d gap set : ℕ) (end : ℤ) (e n : ℕ) → gap ≤ trailingZeros d set
+  endIn-gap : (gap set : ℕ) (end : ℤ) (e n : ℕ) → ((d : ℕ) → d < gap → hasEvent d set ≡ false)
       → endIn pick qs set cs at end e (gap + n) ≡ endIn pick qs (set / 2 ^ gap) cs at end (e + gap) n
-  unfolding trailingZeros
-  endIn-gap d zero set end e n h = rw (zero-add, add-zero, div-one)
-  endIn-gap zero (suc gap) set end e n h = absurd (omega arith)
-  endIn-gap (suc d) (suc gap) set end e n h =
-      let t = trailing-even d set gap (set % 2) refl h in
+  unfolding hasEvent
+  endIn-gap zero set end e n none = rw (zero-add, add-zero, div-one)
+  endIn-gap (suc gap) set end e n none =
       rw (suc-add)
-      (endIn-past set end e (gap + n) (hasEvent-even set (t .0)) ∙ endIn-gap d gap (set / 2) end (suc e) n (t .1)
+      (endIn-past set end e (gap + n) (none 0 (omega arith)) ∙ endIn-gap gap (set / 2) end (suc e) n (λ d l. none (suc d) (omega arith))
       ∙ rw (shift-suc, suc-add, add-suc))
 
   pub endIn-stop : (set : ℕ) (end : ℤ) (e n : ℕ) → n ≤ trailingZeros 64 set → endIn pick qs set cs at end e n ≡ end
   unfolding endIn
-  endIn-stop set end e n h = rw (← add-zero n) (endIn-gap 64 n set end e 0 h)
+  endIn-stop set end e n h = rw (← add-zero n) (endIn-gap n set end e 0 (λ d l. below-lowest set d (omega arith)))
 
   pub endIn-end : (end : ℤ) (e n : ℕ) → n ≤ 64 → endIn pick qs 0 cs at end e n ≡ end
   endIn-end end e n h = endIn-stop 0 end e n (omega (arith, trailing-of-zero 64))
 
-  pub endIn-turn : (set : ℕ) (end : ℤ) (e count : ℕ) → 0 < set → set < 2 ^ 64 → e + trailingZeros 64 set < count
+  pub endIn-turn : (set : ℕ) (end : ℤ) (e count : ℕ) → count ≤ 64 → e + trailingZeros 64 set < count
       → endIn pick qs set cs at end e (count - e)
       ≡ endIn pick qs (set / 2 ^ trailingZeros 64 set / 2) cs at (pick end (termIn qs cs at (e + trailingZeros 64 set)))
       (e + trailingZeros 64 set + 1) (count - (e + trailingZeros 64 set + 1))
-  endIn-turn set end e count p h l =
+  endIn-turn set end e count h l =
       let gap = trailingZeros 64 set in
       let left : count - e ≡ gap + suc (count - (e + gap + 1)) = omega arith in
       rw (left, add-one)
-      (endIn-gap 64 gap set end e _ (omega arith) ∙ endIn-next (set / 2 ^ gap) end (e + gap) _ (hasEvent-odd _ (trailing-odd 64 set p h)))
+      (endIn-gap gap set end e _ (below-lowest set) ∙ endIn-next (set / 2 ^ gap) end (e + gap) _ (first-bit gap set ∙ at-lowest set (omega arith)))
 
 -- ---- what fits
 
-pub hasEvent-shift : (gap k s : ℕ) → hasEvent (gap + k) s ≡ hasEvent k (s / 2 ^ gap)
-unfolding hasEvent
-hasEvent-shift zero k s = rw (zero-add, div-one)
-hasEvent-shift (suc gap) k s = rw (suc-add) (hasEvent-shift gap k (s / 2) ∙ rw (shift-suc))
-
--- a bit that the code reads
-pub hasEvent-bit : (e s : ℕ) → hasEvent e s ≡ eqb (s / 2 ^ e % 2) 1
-unfolding hasEvent
-hasEvent-bit e s = ap (λ (k : ℕ). hasEvent k s) (sym (add-zero e)) ∙ hasEvent-shift e 0 s
-
 module _ (qs : List Probe) (cs : List ℤ) (at set e count : ℕ) (t : TermsFit qs set cs at e (count - e)) (l : e + trailingZeros 64 set < count) where
-  pub termIn-fits : 0 < set → set < 2 ^ 64 → SFits w64 (termIn qs cs at (e + trailingZeros 64 set))
-  termIn-fits p h =
-      let gap = trailingZeros 64 set in
-      t .fit gap (omega arith)
-      (ap (λ (k : ℕ). hasEvent k set) (sym (add-zero gap)) ∙ hasEvent-shift gap 0 set ∙ hasEvent-odd _ (trailing-odd 64 set p h))
+  pub termIn-fits : count ≤ 64 → SFits w64 (termIn qs cs at (e + trailingZeros 64 set))
+  termIn-fits h = t .fit (trailingZeros 64 set) (omega arith) (at-lowest set (omega arith))
 
   pub TermsFit-turn :
       TermsFit qs (set / 2 ^ trailingZeros 64 set / 2) cs at (e + trailingZeros 64 set + 1) (count - (e + trailingZeros 64 set + 1))
@@ -150,7 +118,7 @@ module _ (qs : List Probe) (cs : List ℤ) (at set e count : ℕ) (t : TermsFit 
       record {
         fit = λ k m n.
             let place : e + gap + 1 + k ≡ e + (suc gap + k) = omega arith in
-            rw (place) (t .fit (suc gap + k) (omega arith) (hasEvent-shift (suc gap) k set ∙ rw (← shift-half) n));
+            rw (place) (t .fit (suc gap + k) (omega arith) (sym (hasEvent-shift (suc gap) k set) ∙ rw (← shift-half) n));
       }
 
 -- ---- both windows
@@ -162,9 +130,6 @@ module _ (pick : ℤ → ℤ → ℤ) (p : Plan) (r : Run) (set : ℕ) (cs : Lis
   unfolding endFrom
   one-event b t end e n h k = rw (h, k)
 
-  here : (e : ℕ) → hasEvent e set ≡ hasEvent 0 (set / 2 ^ e)
-  here e = ap (λ (k : ℕ). hasEvent k set) (sym (add-zero e)) ∙ hasEvent-shift e 0 set
-
   previous-part : r .«has_previous» ≡ true → (n m : ℕ) (end : ℤ) (e : ℕ) → e + n ≤ 2 * p .jobs
       → endFrom pick p r set cs row end e (n + m)
       ≡ endFrom pick p r set cs row (endIn pick (r .previous) (set / 2 ^ e) cs row end e n) (e + n) m
@@ -173,7 +138,7 @@ module _ (pick : ℤ → ℤ → ℤ) (p : Plan) (r : Run) (set : ℕ) (cs : Lis
   previous-part y (suc n) m end e h =
       rw (suc-add)
       (one-event (hasEvent 0 (set / 2 ^ e)) (timeIn (r .previous) e) end e (n + m)
-      (rw (y) (and-with-true _ ∙ here e)) (rw (lt-ltb e (2 * p .jobs) (omega arith)))
+      (rw (y) (and-with-true _ ∙ sym (first-bit e set))) (rw (lt-ltb e (2 * p .jobs) (omega arith)))
       ∙ previous-part y n m _ (suc e) (omega arith) ∙ rw (shift-half, suc-add, add-suc))
 
   -- 'The terms of the first window are the same, without those that name the previous window.'
@@ -196,7 +161,7 @@ module _ (pick : ℤ → ℤ → ℤ) (p : Plan) (r : Run) (set : ℕ) (cs : Lis
       let now = cond (hasEvent 0 (set / 2 ^ jobs2 / 2 ^ k)) (pick end (timeIn (r .present) k +ℤ getD cs (row + (jobs2 + k)) (pos 0))) end in
       one-event (hasEvent 0 (set / 2 ^ jobs2 / 2 ^ k)) (timeIn (r .present) k) end (jobs2 + k) n
       (rw (le-leb jobs2 (jobs2 + k) (omega arith), or-with-true (r .«has_previous») true refl)
-      (and-with-true _ ∙ hasEvent-shift jobs2 k set ∙ ap (λ (x : ℕ). hasEvent x (set / 2 ^ jobs2)) (sym (add-zero k)) ∙ hasEvent-shift k 0 (set / 2 ^ jobs2)))
+      (and-with-true _ ∙ sym (hasEvent-shift jobs2 k set) ∙ sym (first-bit k (set / 2 ^ jobs2))))
       (rw (le-ltb (jobs2 + k) jobs2 (omega arith), add-sub-cancel-left))
       ∙ (rw (add-suc) at (present-part n now (suc k))) ∙ rw (shift-half, add-assoc)
 

@@ -22,6 +22,7 @@ use Rattle.bounds.specs.Tables.{anyBelow}
 use Rattle.calendars.specs.declared.Terms.{Terms}
 use Rattle.calendars.specs.declared.Calendar.{Calendar}
 use Rattle.calendars.specs.Bits.{hasEvent}
+use Rattle.calendars.specs.BitsLaws.{hasEvent-shift}
 use Rattle.calendars.specs.Calendars.{eventsBefore, mostEvents}
 use Rattle.runs.specs.declared.Phase.{Phase}
 use Rattle.runs.specs.declared.Phase.the-variants.{Waiting, Running}
@@ -45,7 +46,6 @@ use Rattle.runs.specs.ValueLimits.{
 use Rattle.runs.specs.TestLaws.{and-left, and-right, and-not, or-left, or-neither-left, or-neither-right}
 use Rattle.runs.specs.Offers.{noProbe, timeIn}
 use Rattle.runs.specs.Ends.{TermsFit, EndFits}
-use Rattle.runs.specs.EndLaws.{hasEvent-shift}
 use Rattle.runs.specs.Due.{dueOf, OfferInside, FinishInside, StepInside}
 use Rattle.runs.specs.Inside.{Inside}
 
@@ -128,7 +128,7 @@ module _ (p : Plan) (r : Run) (i set : ℕ) (cs : List ℤ) (h : Named set cs (i
             terms-fit (r .present) i (set / 2 ^ (2 * p .jobs)) cs (i * mostEvents + 2 * p .jobs) z
             (record {
               near = λ k l m.
-                  rw (add-assoc) (h .near (2 * p .jobs + k) (omega arith) (hasEvent-shift (2 * p .jobs) k set ∙ m));
+                  rw (add-assoc) (h .near (2 * p .jobs + k) (omega arith) (sym (hasEvent-shift (2 * p .jobs) k set) ∙ m));
             });
       }
 

@@ -2,7 +2,6 @@
 -- bits. A turn is `endIn-turn`, and the walk ends by `endIn-stop` and `endIn-end`.
 use Prim.Native.Nat.{_+_, _-_, _^_, _≤_, _<_}
 use mathlib.Core.Path.{_≡_, sym, _∙_}
-use native.Mathlib.Nat.{pos-of-ne-zero}
 use native.Mathlib.Omega.{arith}
 use borrow.Author.Needs.{needs}
 use lib.Count.{trailingZeros, trailing-le}
@@ -68,8 +67,7 @@ moved-by-requires c κs =
     let k = l .e + trailingZeros 64 (l .rest) in
     let g : SFits w32 (getD (now (a .cs)) (a .row + k) (pos 0)) = record { sfits = c .before .c .given } in
     rw (termIn-read (a .t2) (now (a .cs)) (a .row) k (c .time-on .result) (c .time-on .ensures) g)
-    (termIn-fits (a .t2) (now (a .cs)) (a .row) (l .rest) (l .e) (a .count) (l .inv .3) (c .before .before .before .if1 .left)
-    (pos-of-ne-zero (c .before .before .before .before .loop-test .taken)) (l .inv .1))
+    (termIn-fits (a .t2) (now (a .cs)) (a .row) (l .rest) (l .e) (a .count) (l .inv .3) (c .before .before .before .if1 .left) (omega arith))
 
 picked-requires : tie.Need-picked-requires Inv-loop μ-loop
 picked-requires c κs = search needs
@@ -91,7 +89,6 @@ loop-again c =
     let l = c .before .before .before .before .before .before .before .loop in
     let a = c .before .before .before .before .before .before .before .before .args in
     let k = l .e + trailingZeros 64 (l .rest) in
-    let some = pos-of-ne-zero (c .before .before .before .before .before .before .loop-test .taken) in
     let early = c .before .before .before .before .before .if1 .left in
     let g : SFits w32 (getD (now (a .cs)) (a .row + k) (pos 0)) = record { sfits = c .before .before .before .c .given } in
     let picked =
@@ -101,7 +98,7 @@ loop-again c =
       omega arith,
       omega arith,
       rw (picked)
-          (l .inv .2 ∙ endIn-turn (pickOf (a .upper)) (a .t2) (now (a .cs)) (a .row) (l .rest) (l .end .0) (l .e) (a .count) some (l .inv .1) early),
+          (l .inv .2 ∙ endIn-turn (pickOf (a .upper)) (a .t2) (now (a .cs)) (a .row) (l .rest) (l .end .0) (l .e) (a .count) (omega arith) early),
       TermsFit-turn (a .t2) (now (a .cs)) (a .row) (l .rest) (l .e) (a .count) (l .inv .3) early,
     )
 
