@@ -28,6 +28,9 @@ pub struct Calendar {
     pub at_most: [i32; MOST_TERMS],
 }
 
+// More bytes than the text of any calendar has.
+const MOST_BYTES: usize = 32_768;
+
 // The two sides of a start: the events that bound it from below, and those that bound it from above.
 enum Side {
     Below,
@@ -35,6 +38,7 @@ enum Side {
 }
 
 mod bits;
+mod decision_text;
 mod print;
 mod recorded;
 mod walk;

@@ -1,0 +1,125 @@
+-- The laws of what is decided. A plan whose verdict is settled has a settled set (`verdict-settled`), and the calendar made from the joined table is the plan's
+-- (`calendar-joined`, `made-settled`); beside any other verdict the calendar says nothing (`made-refused`, `made-unsettled`). The text of a decision, verdict by
+-- verdict (`text-settled`, `text-refused`, `text-unsettled`), is what the program prints for the plan (`text-of-outcome`), and so for a text that was read
+-- (`plan-accepted`) or refused (`plan-refused`).
+
+use Prim.Native.Nat.{ℕ}
+use mathlib.Core.Path.{_≡_, refl, sym, ap, subst, _∙_}
+use mathlib.Core.List.{List}
+use native.Mathlib.Omega.{arith}
+use Rattle.plan.specs.declared.Plan.{Plan}
+use Rattle.plan.specs.declared.PlanRead.{PlanRead}
+use Rattle.plan.specs.declared.PlanAnswer.the-variants as planAnswer
+use Rattle.plan.specs.declared.Refusal.{Refusal}
+use Rattle.plan.specs.declared.Refusal.the-variants as refusal
+use Rattle.plan.specs.Refusals.{refusedLine}
+use Rattle.plan.specs.Reading.{Reading, read, refused}
+use Rattle.plan.specs.PlanRead.{planAlone}
+use Rattle.plan.specs.PlanAnswers.{planRead}
+use Rattle.plan.specs.PlanLaws.{planAlone-accepted}
+use Rattle.plan.specs.Accepted.{Accepted}
+use Rattle.bounds.specs.Tables.{Rows, Set, bounds}
+use Rattle.bounds.specs.Elimination.{thenSet}
+use Rattle.rounds.specs.declared.Verdict.{Verdict}
+use Rattle.rounds.specs.declared.Verdict.the-variants.{Settled, NoStrategy, Unsettled}
+use Rattle.rounds.specs.Rounds.{C0, joined, Outcome, settled, noStrategy, unsettled, outcome, verdictOf, verdict}
+use Rattle.calendars.specs.declared.Calendar.{Calendar}
+use Rattle.calendars.specs.Calendars.{thenTables, beforeStarts, calendarOf, calendar, noCalendar}
+use Rattle.calendars.specs.CalendarText.{calendarText, outcomeText, answered, calendarOutput}
+use Rattle.calendars.specs.Decisions.{madeCalendar, decisionText}
+
+-- ---- the calendar by the verdict
+
+pub calendar-joined : (p : Plan) (t u : Rows) → thenSet (C0 p) (λ c0. joined p c0 t) ≡ bounds u → calendarOf p (beforeStarts p (p .jobs) u) ≡ calendar p t
+unfolding calendar thenTables
+calendar-joined p t u e = sym (ap (λ (s : Set). calendarOf p (thenTables s (beforeStarts p (p .jobs)))) e)
+
+pub record SettledIn (p : Plan) (m : ℕ) : Type 0 where
+  pub set : Rows
+  pub is : outcome p ≡ settled m set
+
+pub made-settled : (p : Plan) (m : ℕ) (t u : Rows) → outcome p ≡ settled m t → thenSet (C0 p) (λ c0. joined p c0 t) ≡ bounds u
+    → calendarOf p (beforeStarts p (p .jobs) u) ≡ madeCalendar p (outcome p)
+unfolding madeCalendar
+made-settled p m t u o e = calendar-joined p t u e ∙ sym (ap (madeCalendar p) o)
+
+module _ (p : Plan) (v : Verdict) (e : v ≡ verdict p) where
+  pub verdict-settled : (m : ℕ) → v ≡ Settled m → SettledIn p m
+  verdict-settled m d = of (outcome p) refl (sym d ∙ e)
+    where
+      of : (o : Outcome) → outcome p ≡ o → Settled m ≡ verdictOf p o → SettledIn p m
+      of (settled k t) h f = let g : m ≡ k = cc in record { set = t; is = h ∙ ap (λ (n : ℕ). settled n t) (sym g) }
+      of (noStrategy K) h f = absurd (let z : _≡_ {A = ℕ} 0 1 = cc in omega arith)
+      of unsettled h f = absurd (let z : _≡_ {A = ℕ} 0 1 = cc in omega arith)
+
+  pub made-refused : (K : ℕ) → v ≡ NoStrategy K → noCalendar p ≡ madeCalendar p (outcome p)
+  unfolding madeCalendar
+  made-refused K d = of (outcome p) (sym d ∙ e)
+    where
+      of : (o : Outcome) → NoStrategy K ≡ verdictOf p o → noCalendar p ≡ madeCalendar p o
+      of (settled k t) f = absurd (let z : _≡_ {A = ℕ} 0 1 = cc in omega arith)
+      of (noStrategy k) f = refl
+      of unsettled f = refl
+
+  pub made-unsettled : (rounds : ℕ) → v ≡ Unsettled rounds → noCalendar p ≡ madeCalendar p (outcome p)
+  unfolding madeCalendar
+  made-unsettled rounds d = of (outcome p) (sym d ∙ e)
+    where
+      of : (o : Outcome) → Unsettled rounds ≡ verdictOf p o → noCalendar p ≡ madeCalendar p o
+      of (settled k t) f = absurd (let z : _≡_ {A = ℕ} 0 1 = cc in omega arith)
+      of (noStrategy k) f = refl
+      of unsettled f = refl
+
+-- ---- the text of a decision
+
+module _ (jobs : ℕ) (v : Verdict) (c : Calendar) where
+  pub text-settled : (m : ℕ) → v ≡ Settled m → calendarText jobs m c ≡ decisionText jobs v c
+  unfolding decisionText
+  text-settled m e = sym (ap (λ (v : Verdict). decisionText jobs v c) e)
+
+  pub text-refused : (K : ℕ) → v ≡ NoStrategy K → refusedLine (refusal.NoStrategy K) ≡ decisionText jobs v c
+  unfolding decisionText
+  text-refused K e = sym (ap (λ (v : Verdict). decisionText jobs v c) e)
+
+  pub text-unsettled : (rounds : ℕ) → v ≡ Unsettled rounds → refusedLine (refusal.Unsettled rounds) ≡ decisionText jobs v c
+  unfolding decisionText
+  text-unsettled rounds e = sym (ap (λ (v : Verdict). decisionText jobs v c) e)
+
+text-of : (p : Plan) (o : Outcome) → decisionText (p .jobs) (verdictOf p o) (madeCalendar p o) ≡ outcomeText p o
+unfolding decisionText madeCalendar outcomeText
+text-of p (settled m t) = refl
+text-of p (noStrategy K) = refl
+text-of p unsettled = refl
+
+pub text-of-outcome : (p : Plan) (v : Verdict) (c : Calendar) → v ≡ verdict p → c ≡ madeCalendar p (outcome p)
+    → decisionText (p .jobs) v c ≡ outcomeText p (outcome p)
+text-of-outcome p v c e d =
+    ap (λ (v : Verdict). decisionText (p .jobs) v c) e ∙ ap (decisionText (p .jobs) (verdict p)) d ∙ text-of p (outcome p)
+
+-- ---- a text that was read, or refused
+
+pub record PlanTold (s : List ℕ) (r : PlanRead) : Type 0 where
+  pub output : outcomeText (r .plan) (outcome (r .plan)) ≡ calendarOutput s
+  pub accepted : Accepted (r .plan)
+
+module _ (s : List ℕ) (r : PlanRead) (d : r ≡ planRead s (planAlone s)) where
+  pub plan-accepted : r .answer ≡ planAnswer.Accepted → PlanTold s r
+  unfolding planRead answered
+  plan-accepted q = of (planAlone s) refl d
+    where
+      of : (m : Reading Plan) → planAlone s ≡ m → r ≡ planRead s m → PlanTold s r
+      of (read p t n) e g =
+          subst (PlanTold s) (sym g)
+          (record { output = sym (ap answered e); accepted = planAlone-accepted s e })
+      of (refused x t) e g = absurd (let f : r .answer ≡ planAnswer.Refused x = ap (λ (r : PlanRead). r .answer) g in let z : _≡_ {A = ℕ} 0 1 = cc in omega arith)
+
+  pub plan-refused : (x : Refusal) → r .answer ≡ planAnswer.Refused x → refusedLine x ≡ calendarOutput s
+  unfolding planRead answered
+  plan-refused x q = of (planAlone s) refl d
+    where
+      of : (m : Reading Plan) → planAlone s ≡ m → r ≡ planRead s m → refusedLine x ≡ answered (planAlone s)
+      of (read p t n) e g = absurd (let f : r .answer ≡ planAnswer.Accepted = ap (λ (r : PlanRead). r .answer) g in let z : _≡_ {A = ℕ} 0 1 = cc in omega arith)
+      of (refused y t) e g =
+          let f : r .answer ≡ planAnswer.Refused y = ap (λ (r : PlanRead). r .answer) g in
+          let same : x ≡ y = cc in
+          ap refusedLine same ∙ sym (ap answered e)
