@@ -1,6 +1,7 @@
 // The calendar of a settled plan, and its text.
 
 use clock::WindowTime;
+use rounds::Verdict;
 
 // A set of events before a start, as bits in the calendar's order: the previous window's events first, by job, s before f, then the
 // present window's. The origin is not among them.
@@ -28,6 +29,12 @@ pub struct Calendar {
     pub at_most: [i32; MOST_TERMS],
 }
 
+// What is decided of a plan: its verdict and, where it is settled, its calendar; beside any other verdict a calendar that says nothing.
+pub struct Decision {
+    pub verdict: Verdict,
+    pub calendar: Calendar,
+}
+
 // More bytes than the text of any calendar has.
 const MOST_BYTES: usize = 32_768;
 
@@ -38,11 +45,13 @@ enum Side {
 }
 
 mod bits;
+mod decided;
 mod decision_text;
 mod print;
 mod recorded;
 mod walk;
 
+pub use decided::decide;
 pub use print::put_calendar;
 pub use walk::calendar_of;
 pub use walk::empty_calendar;

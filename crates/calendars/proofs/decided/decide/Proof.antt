@@ -1,0 +1,70 @@
+-- `decide`, verdict by verdict: the calendar of the joined table is the plan's (`made-settled`), and beside any other verdict it says nothing (`made-refused`,
+-- `made-unsettled`).
+use mathlib.Core.Path.{_∙_}
+use borrow.Author.Needs.{needs}
+use Rattle.calendars.specs.DecisionsLaws.{SettledIn, verdict-settled, made-settled, made-refused, made-unsettled}
+use Rattle.calendars.proofs.decided.decide.Statement.{statement}
+use Rattle.calendars.proofs.decided.decide.Tie as tie
+
+times-of-requires : tie.Need-times-of-requires
+times-of-requires c κs = search needs
+
+settle-requires : tie.Need-settle-requires
+settle-requires c κs = search needs
+
+enum-told : tie.Need-enum-told
+enum-told c = search needs
+
+calendar-of-requires : tie.Need-calendar-of-requires
+calendar-of-requires c κs =
+    let s = c .before .before .before .before .before in
+    let p = s .before .before .before .before .before .before .args .p in
+    let o = verdict-settled p (s .settle .result .verdict) (s .settle .ensures .0) _ (c .before .before .enum-told .given .1) in
+    (s .before .before .before .before .before .times-of .ensures, s .settle .ensures .1 .fits _ (o .set) (o .is), s .settle .ensures .1 .sound _ (o .set) (o .is))
+
+enum-told-2 : tie.Need-enum-told-2
+enum-told-2 c = search needs
+
+empty-calendar-requires : tie.Need-empty-calendar-requires
+empty-calendar-requires c κs = search needs
+
+enum-told-3 : tie.Need-enum-told-3
+enum-told-3 c = search needs
+
+empty-calendar-requires-2 : tie.Need-empty-calendar-requires-2
+empty-calendar-requires-2 c κs = search needs
+
+returns : tie.Need-returns
+returns c =
+    let s = c .before .before .before .before .before .before in
+    let p = s .before .before .before .before .before .before .args .p in
+    let o = verdict-settled p (s .settle .result .verdict) (s .settle .ensures .0) _ (c .before .before .before .enum-told .given .1) in
+    (s .settle .ensures .0, c .calendar-of .ensures ∙ made-settled p _ (o .set) _ (o .is) (s .settle .ensures .1 .joins _ (o .set) (o .is)))
+
+returns-2 : tie.Need-returns-2
+returns-2 c =
+    let s = c .before .before .before .before in
+    let p = s .before .before .before .before .before .before .args .p in
+    (s .settle .ensures .0, c .empty-calendar .ensures p ∙ made-refused p _ (s .settle .ensures .0) _ (c .before .enum-told2 .given .1))
+
+returns-3 : tie.Need-returns-3
+returns-3 c =
+    let s = c .before .before .before .before in
+    let p = s .before .before .before .before .before .before .args .p in
+    (s .settle .ensures .0, c .empty-calendar2 .ensures p ∙ made-unsettled p _ (s .settle .ensures .0) _ (c .before .enum-told3 .given .1))
+
+pub decide-spec : {M : Type 1} → statement M
+decide-spec =
+    tie.close
+    (tie.spec
+    times-of-requires
+    settle-requires
+    enum-told
+    calendar-of-requires
+    enum-told-2
+    empty-calendar-requires
+    enum-told-3
+    empty-calendar-requires-2
+    returns
+    returns-2
+    returns-3)
