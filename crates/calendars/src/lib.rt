@@ -48,10 +48,12 @@ mod bits;
 mod decided;
 mod decision_text;
 mod print;
+mod program;
 mod recorded;
 mod walk;
 
 pub use decided::decide;
 pub use print::put_calendar;
+pub use program::answer;
 pub use walk::calendar_of;
 pub use walk::empty_calendar;

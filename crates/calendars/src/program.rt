@@ -1,0 +1,30 @@
+// The calendar program, from the bytes of its input to those of its output.
+use crate::decided::decide;
+use crate::decision_text::write_decision;
+use plan::PlanAnswer;
+use plan::Written;
+use plan::write_refused;
+ghost use mathlib.Core.Path.{_≡_};
+ghost use Rattle.text.specs.Lent.{written};
+ghost use Rattle.plan.specs.Written.{writtenAs};
+ghost use Rattle.calendars.specs.CalendarText.{calendarOutput};
+
+// The answer to a plan's text: the calendar of a settled plan, or the line of the plan's refusal; 12 and not one byte changed, where it has no room.
+pub fn answer(text: &[u8], out: &mut [u8]) -> Written
+    ensures { λ r. ⌜ r ≡ writtenAs (calendarOutput (now (text .entry))) (now (out .entry)) ⌝ }
+    ensures { λ _. ⌜ now (out .exit) ≡ written (calendarOutput (now (text .entry))) (now (out .entry)) ⌝ }
+{
+    let read = plan::read_plan(text);
+    let told = read.answer;
+    match told {
+        PlanAnswer::Accepted => {
+            let p = read.plan;
+            let jobs = p.jobs;
+            let decision = decide(p);
+            let verdict = decision.verdict;
+            let calendar = decision.calendar;
+            write_decision(out, jobs, verdict, calendar)
+        }
+        PlanAnswer::Refused(x) => write_refused(out, x),
+    }
+}
