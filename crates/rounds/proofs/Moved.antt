@@ -9,7 +9,7 @@ use mir.Facts.{toZ-ofZ}
 use Rattle.whole.specs.Split.{eqZ}
 use Rattle.whole.specs.Rules.{wholes}
 use Rattle.bounds.specs.Flat.{noBound, Putting, Weighed, Moving}
-use Rattle.rounds.specs.NextLaws.{Shifted, shifted-moving}
+use Rattle.rounds.specs.NextLaws.{Shifted}
 
 shifted-fits : {a : ℤ} → Shifted a → SFits w32 a
 shifted-fits h = omega wholes

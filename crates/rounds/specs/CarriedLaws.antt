@@ -1,6 +1,6 @@
 -- The tables of the rounds are fit: C(0) is, a joined set of fit tables is, and so is what remains of it. So every weight that is carried from round to
 -- round is in range.
-use Prim.Native.Nat.{ℕ, zero, suc, _+_, _*_, _-_, _≤_, _<_}
+use Prim.Native.Nat.{ℕ, zero, suc, _+_, _-_, _≤_, _<_}
 use mathlib.Core.Path.{_≡_, refl, sym, ap, ap₂, subst, subst₂, _∙_}
 use mathlib.Core.Logic.{_⊎_, inl, inr, ⊎-elim}
 use mathlib.Core.Bool.{Bool, true, false, cond, _&&_}
@@ -15,12 +15,11 @@ use Rattle.whole.specs.SplitLaws.{split-add, split-sub, split-neg}
 use Rattle.whole.specs.Rules.{wholes}
 use Rattle.plan.specs.declared.Plan.{Plan}
 use Rattle.plan.specs.PlanRead.{noJob}
-use Rattle.plan.specs.PlanWritten.{boundsOf}
 use Rattle.bounds.specs.declared.Event.{Event}
-use Rattle.bounds.specs.declared.Event.the-variants.{Origin, Start, Finish}
+use Rattle.bounds.specs.declared.Event.the-variants.{Start, Finish}
 use Rattle.bounds.specs.Events.{jobAt, shift, earliest, latest, eventOf, nodeOf, startNode, finishNode, nodes}
 use Rattle.bounds.specs.EventsLaws.{jobAt-this, jobAt-next, shift-this, shift-next}
-use Rattle.bounds.specs.Tables.{Cell, off, upto, least, plus, Rows, at, Between, leastOf, Set, contradiction, bounds, judgedSet}
+use Rattle.bounds.specs.Tables.{Cell, upto, least, plus, Rows, at, Between, leastOf, Set, contradiction, bounds}
 use Rattle.bounds.specs.Elimination.{thenSet, withoutPlace, eliminated}
 use Rattle.bounds.specs.BuildLaws.{byNode, eventOf-start, eventOf-finish}
 use Rattle.bounds.specs.TowardsLaws.{least-comm}
@@ -28,9 +27,8 @@ use Rattle.bounds.specs.Fit.{AtMost, Fit}
 use Rattle.bounds.specs.FitLaws.{least-most, fit-judged}
 use Rattle.bounds.specs.PlacesLaws.{withoutPlace-fit}
 use Rattle.bounds.specs.StartLaws.{less-or-same}
-use Rattle.rounds.specs.Given.{upTo, downTo, ranges, orders, givenBounds, ownBounds, betweenBounds}
-use Rattle.rounds.specs.Rounds.{C0, ownNodes, moved, onNext, joined}
-use Rattle.rounds.specs.Next.{onto, movedBy}
+use Rattle.rounds.specs.Given.{upTo, downTo, ranges, ownBounds, betweenBounds}
+use Rattle.rounds.specs.Rounds.{C0, ownNodes, onNext, joined}
 use Rattle.rounds.specs.NextLaws.{onto-origin, onto-event, movedBy-origin, movedBy-event, onNext-onto}
 
 -- ---- a bound of a list

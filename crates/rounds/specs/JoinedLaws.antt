@@ -1,6 +1,6 @@
 -- The set that a round starts with, as the code comes to it. An array with the own bounds holds C(0) and nothing else; with the bounds between windows put
 -- into it, it leads, with every carried set still to be put on the next window, to the joined set, or every joined set is a contradiction.
-use Prim.Native.Nat.{ℕ, zero, suc, _+_, _*_, _≤_, _<_}
+use Prim.Native.Nat.{ℕ, _+_, _≤_, _<_}
 use mathlib.Core.Path.{_≡_, refl, sym, ap, ap₂, subst, _∙_}
 use mathlib.Core.Logic.{_⊎_, inl, inr, ⊎-elim}
 use mathlib.Core.Bool.{Bool, true, false, cond}
@@ -8,14 +8,14 @@ use mathlib.Core.List.{List, [], _∷_}
 use native.Mathlib.Omega.{arith}
 use lib.Dec.{ltb}
 use lib.IntN.{ℤ, pos}
-use lib.ListN.{length, getD}
+use lib.ListN.{getD}
 use borrow.Author.Tests.{ltb-true, ltb-false}
 use Rattle.plan.specs.declared.Plan.{Plan}
 use Rattle.bounds.specs.Events.{nodeOf, nodes}
-use Rattle.bounds.specs.Tables.{Cell, off, least, Rows, at, Between, leastOf, Set, contradiction, bounds, judgedSet}
+use Rattle.bounds.specs.Tables.{off, least, Rows, at, Between, leastOf, contradiction, bounds, judgedSet}
 use Rattle.bounds.specs.BuildLaws.{at-build, at-build-past}
 use Rattle.bounds.specs.TablesLaws.{judgedSet-ext}
-use Rattle.bounds.specs.Flat.{place, cellOf, cellAt, rowsOf, Flat, flat, putAt, putBounds, noBounds}
+use Rattle.bounds.specs.Flat.{place, cellOf, cellAt, rowsOf, flat, putAt, putBounds, noBounds}
 use Rattle.bounds.specs.FlatLaws.{putAt-same, thenFlat-keeps, Outcome}
 use Rattle.bounds.specs.StartLaws.{place-one}
 use Rattle.bounds.specs.TowardsLaws.{least-comm, Towards}

@@ -1,17 +1,16 @@
 -- The next window's nodes: where a node goes and by how much it moves, case by case. Put cell by cell, a carried table leads to the set that is
 -- judged with `onNext`.
 use Prim.Native.Nat.{ℕ, zero, suc, _+_, _*_, _-_, _≤_, _<_}
-use mathlib.Core.Path.{_≡_, refl, sym, ap, ap₂, subst, _∙_}
+use mathlib.Core.Path.{_≡_, refl, sym, ap, ap₂, _∙_}
 use mathlib.Core.Logic.{_⊎_, inl, inr, ⊎-elim}
 use mathlib.Core.Bool.{Bool, true, false, cond, _&&_, or-true}
 use mathlib.Core.List.{List}
 use native.Mathlib.Omega.{arith}
 use lib.Dec.{eqb, ltb, leb}
-use lib.IntN.{ℤ, pos, negℤ, _+ℤ_, _-ℤ_}
+use lib.IntN.{ℤ, pos, _+ℤ_, _-ℤ_}
 use lib.Signed.{_≤ℤ_, _<ℤ_}
-use borrow.Author.Tests.{eq-eqb, ne-eqb, lt-ltb, le-ltb, ltb-true, ltb-false, le-leb, lt-leb, leb-true, leb-false}
+use borrow.Author.Tests.{eq-eqb, ne-eqb, lt-ltb, le-ltb, ltb-true, ltb-false, le-leb, lt-leb, leb-false}
 use Rattle.whole.specs.Rules.{wholes}
-use Rattle.whole.specs.Split.{eqZ}
 use Rattle.plan.specs.declared.Plan.{Plan}
 use Rattle.plan.specs.Accepted.{Accepted}
 use Rattle.bounds.specs.Events.{nodes}
@@ -23,7 +22,6 @@ use Rattle.bounds.specs.Flat.{noBound, place, weightAt, cellOf, cellAt, rowsOf,
 use Rattle.bounds.specs.FlatLaws.{Outcome, eachNode-outcome}
 use Rattle.bounds.specs.StartLaws.{place-one}
 use Rattle.bounds.specs.TowardsLaws.{Towards, putAt-towards, towards-end}
-use Rattle.bounds.specs.BoundsLaws.{outcome-set}
 use Rattle.bounds.specs.ClockedLaws.{nodes-room}
 use Rattle.rounds.specs.Rounds.{ownNodes, isOwn, moved, onNext}
 use Rattle.rounds.specs.Next.{onto, movedBy, nextAt, nextRow, nextRows}

@@ -1,19 +1,18 @@
 -- Two tables that the test for 'C(m) = C(m-1)' finds the same are equal, and a table is the same as itself. So two tables of arrays are the same
 -- exactly if no weight differs.
 use Prim.Native.Nat.{ℕ, _<_}
-use mathlib.Core.Path.{_≡_, refl, sym, ap, ap₂, subst, _∙_}
-use mathlib.Core.Bool.{Bool, true, false, cond, _&&_}
+use mathlib.Core.Path.{_≡_, refl, sym, ap, ap₂, _∙_}
+use mathlib.Core.Bool.{Bool, true, false}
 use mathlib.Core.List.{List, [], _∷_}
 use native.Mathlib.Omega.{arith}
 use lib.IntN.{ℤ}
 use lib.ListN.{getD}
 use Rattle.whole.specs.Split.{eqZ}
 use Rattle.whole.specs.Order.{eqZ-true-iff}
-use Rattle.whole.specs.Rules.{whole}
 use Rattle.bounds.specs.Tables.{Cell, off, upto, Rows, listed}
 use Rattle.bounds.specs.BuildLaws.{both-true, getD-listed}
 use Rattle.bounds.specs.TablesLaws.{listed-ext}
-use Rattle.bounds.specs.Flat.{noBound, cellOf, cellAt, rowsOf}
+use Rattle.bounds.specs.Flat.{noBound, cellOf}
 use Rattle.bounds.specs.PutLaws.{cellOf-mark, cellOf-on}
 use Rattle.rounds.specs.Rounds.{sameCell, sameRow, sameRows}
 

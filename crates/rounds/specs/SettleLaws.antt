@@ -1,6 +1,6 @@
 -- The rounds as the code goes: one turn of its loop is one round, of which each way out is a way of `decided`.
-use Prim.Native.Nat.{ℕ, zero, suc, _+_, _*_, _-_, _≤_, _<_}
-use mathlib.Core.Path.{_≡_, refl, sym, ap, ap₂, subst, _∙_}
+use Prim.Native.Nat.{ℕ, suc, _+_, _-_, _<_}
+use mathlib.Core.Path.{_≡_, refl, sym, ap, subst, _∙_}
 use mathlib.Core.Bool.{Bool, true, false, cond}
 use mathlib.Core.List.{List}
 use native.Mathlib.Omega.{arith}
@@ -17,7 +17,6 @@ use Rattle.bounds.specs.TowardsLaws.{Towards}
 use Rattle.bounds.specs.Fit.{Fit, Clocked}
 use Rattle.bounds.specs.FitLaws.{fit-weighed}
 use Rattle.bounds.specs.PlacesLaws.{setOf-found, setOf-left}
-use Rattle.rounds.specs.declared.Verdict.{Verdict}
 use Rattle.rounds.specs.declared.Verdict.the-variants.{Settled, NoStrategy, Unsettled}
 use Rattle.rounds.specs.Given.{ownBounds, betweenBounds}
 use Rattle.rounds.specs.Rounds.{C0, onNext, joined, round, sameRows, isContradictory, failsAlone, Outcome, settled, noStrategy, unsettled, decided, roundsFrom, outcomeFrom, outcome, verdictOf, verdict}
@@ -114,95 +113,105 @@ module _ (p : Plan) (early late : List ℤ) (clocked : Clocked p early late) (ow
       ∙ decided-none p 1 c0 (round p c0 c0) (roundsFrom p c0 2 (p .rounds - 1))
       (round-none p c0 c0 (between-outcome p early late clocked own own-put c0 .fails (ap (λ r. r .found) (sym e) ∙ f)))
 
-  module _ (base : List ℤ) (base-put : flat false base ≡ putBounds early late (betweenBounds p) own) (ts : List ℤ)
-      (fit : Fit p (nodes (p .jobs)) (rowsOf (nodes (p .jobs)) ts)) where
-    abbrev t : Rows
-    t = rowsOf (nodes (p .jobs)) ts
+-- ---- one round
 
-    weighed : (y z : ℕ) → y < nodes (p .jobs) → z < nodes (p .jobs) → Weighed (weightAt ts y z)
-    weighed = fit-weighed p (nodes (p .jobs)) ts fit (clocked .accepted) (omega arith)
+-- the code before round m of which so many are left: its arrays, the rounds that give the whole outcome, and a fit table that is carried
+pub record Carrying (p : Plan) (early late own base : List ℤ) (m left : ℕ) (ts : List ℤ) : Type 0 where
+  pub clocked : Clocked p early late
+  pub based : Based p early late own base
+  pub some : 0 < left
+  pub before : outcome p ≡ roundsFrom p (rowsOf (nodes (p .jobs)) own) m left (rowsOf (nodes (p .jobs)) ts)
+  pub fit : Fit p (nodes (p .jobs)) (rowsOf (nodes (p .jobs)) ts)
 
-    pub nexts : Nexts early late (p .jobs) (p .window) ts
-    nexts =
-        let least-window = clocked .accepted .window-least in
-        record {
-          times = clocked .timed;
-          jobs-most = clocked .accepted .jobs-most;
-          window-least = omega wholes;
-          window-most = clocked .accepted .window-most;
-          weighed = weighed;
-        }
+module _ {p : Plan} {early late own base : List ℤ} {m left : ℕ} {ts : List ℤ} (g : Carrying p early late own base m left ts) where
+  abbrev k : ℕ
+  k = nodes (p .jobs)
 
-    next-outcome : flats.Outcome (λ us. joined p c0 t ≡ bounds (rowsOf (nodes (p .jobs + p .jobs)) us)) (joined p c0 t ≡ contradiction)
-        (nextRows early late (p .jobs) (p .window) ts base)
-    next-outcome =
-        nextRows-outcome p early late (clocked .times) (clocked .accepted) (joined p c0 t) ts weighed base
-        (subst (Towards p (nodes (p .jobs + p .jobs)) (onNext p t) (joined p c0 t)) (ap (λ r. r .weights) (sym base-put))
-        (between-outcome p early late clocked own own-put t .keeps (ap (λ r. r .found) (sym base-put))))
+  abbrev both : ℕ
+  both = nodes (p .jobs + p .jobs)
 
-    -- the next window's bounds are put, in round m of which so many are left
-    module _ (m left : ℕ) (some : 0 < left) (before : outcome p ≡ roundsFrom p (rowsOf (nodes (p .jobs)) own) m left (rowsOf (nodes (p .jobs)) ts)) where
-      turn : outcome p ≡ decided p m t (round p c0 t) (roundsFrom p c0 (m + 1) (left - 1))
-      turn = before ∙ rounds-more p c0 m left t some
+  weighed : (y z : ℕ) → y < nodes (p .jobs) → z < nodes (p .jobs) → Weighed (weightAt ts y z)
+  weighed = fit-weighed p k ts (g .fit) (g .clocked .accepted) (omega arith)
 
-      pub joined-none : (found : Bool) (us : List ℤ) → flat found us ≡ nextRows early late (p .jobs) (p .window) ts base → found ≡ true
-          → outcome p ≡ noStrategy (cond (failsAlone p (rowsOf (nodes (p .jobs)) ts)) m (m + 1))
-      joined-none found us put f =
-          turn
-          ∙ decided-none p m t (round p c0 t) (roundsFrom p c0 (m + 1) (left - 1))
-          (round-none p c0 t (next-outcome .fails (ap (λ r. r .found) (sym put) ∙ f)))
+  pub carried-nexts : Nexts early late (p .jobs) (p .window) ts
+  carried-nexts =
+      let least-window = g .clocked .accepted .window-least in
+      record {
+        times = g .clocked .timed;
+        jobs-most = g .clocked .accepted .jobs-most;
+        window-least = omega wholes;
+        window-most = g .clocked .accepted .window-most;
+        weighed = weighed;
+      }
 
-      module _ (found : Bool) (us : List ℤ) (put : flat found us ≡ nextRows early late (p .jobs) (p .window) ts base) (f : found ≡ false) where
-        abbrev u : Rows
-        u = rowsOf (nodes (p .jobs + p .jobs)) us
+  next-outcome : flats.Outcome (λ us. joined p (rowsOf k own) (rowsOf k ts) ≡ bounds (rowsOf both us)) (joined p (rowsOf k own) (rowsOf k ts) ≡ contradiction)
+      (nextRows early late (p .jobs) (p .window) ts base)
+  next-outcome =
+      let set = joined p (rowsOf k own) (rowsOf k ts) in
+      nextRows-outcome p early late (g .clocked .times) (g .clocked .accepted) set ts weighed base
+      (subst (Towards p both (onNext p (rowsOf k ts)) set) (ap (λ r. r .weights) (sym (g .based .base-put)))
+      (between-outcome p early late (g .clocked) own (g .based .own-put) (rowsOf k ts) .keeps (ap (λ r. r .found) (sym (g .based .base-put)))))
 
-        joined-is : joined p c0 t ≡ bounds u
-        joined-is =
-            subst (λ us. joined p c0 t ≡ bounds (rowsOf (nodes (p .jobs + p .jobs)) us)) (ap (λ r. r .weights) (sym put))
-            (next-outcome .keeps (ap (λ r. r .found) (sym put) ∙ f))
+  turn : outcome p ≡ decided p m (rowsOf k ts) (round p (rowsOf k own) (rowsOf k ts)) (roundsFrom p (rowsOf k own) (m + 1) (left - 1))
+  turn = g .before ∙ rounds-more p (rowsOf k own) m left (rowsOf k ts) (g .some)
 
-        pub joined-fits : Fit p (nodes (p .jobs + p .jobs)) (rowsOf (nodes (p .jobs + p .jobs)) us)
-        joined-fits = joined-fit p c0 t own-fit fit u joined-is
+  turn-none : round p (rowsOf k own) (rowsOf k ts) ≡ contradiction → outcome p ≡ noStrategy (cond (failsAlone p (rowsOf k ts)) m (m + 1))
+  turn-none e = turn ∙ decided-none p m (rowsOf k ts) (round p (rowsOf k own) (rowsOf k ts)) (roundsFrom p (rowsOf k own) (m + 1) (left - 1)) e
 
-        -- and the next window's events are eliminated
-        module _ (r : JudgedSet) (e : setOf (nodes (p .jobs)) r ≡ eliminated p (p .jobs) (p .jobs) (rowsOf (nodes (p .jobs + p .jobs)) us)) where
+  -- the carried set is put on the next window
+  module _ (found : Bool) (us : List ℤ) (put : flat found us ≡ nextRows early late (p .jobs) (p .window) ts base) where
+    pub joined-none : found ≡ true → outcome p ≡ noStrategy (cond (failsAlone p (rowsOf (nodes (p .jobs)) ts)) m (m + 1))
+    joined-none f = turn-none (round-none p (rowsOf k own) (rowsOf k ts) (next-outcome .fails (ap (λ r. r .found) (sym put) ∙ f)))
+
+    module _ (f : found ≡ false) where
+      joined-is : joined p (rowsOf k own) (rowsOf k ts) ≡ bounds (rowsOf both us)
+      joined-is =
+          subst (λ us. joined p (rowsOf k own) (rowsOf k ts) ≡ bounds (rowsOf both us)) (ap (λ r. r .weights) (sym put))
+          (next-outcome .keeps (ap (λ r. r .found) (sym put) ∙ f))
+
+      pub joined-fits : Fit p (nodes (p .jobs + p .jobs)) (rowsOf (nodes (p .jobs + p .jobs)) us)
+      joined-fits =
+          joined-fit p (rowsOf k own) (rowsOf k ts) (own-fit p early late (g .clocked) own (g .based .own-put)) (g .fit) (rowsOf both us) joined-is
+
+      -- and the next window's events are eliminated
+      module _ (r : JudgedSet) (e : setOf (nodes (p .jobs)) r ≡ eliminated p (p .jobs) (p .jobs) (rowsOf (nodes (p .jobs + p .jobs)) us)) where
+        pub remains-none : r .contradiction ≡ true → outcome p ≡ noStrategy (cond (failsAlone p (rowsOf (nodes (p .jobs)) ts)) m (m + 1))
+        remains-none c = turn-none (round-some p (rowsOf k own) (rowsOf k ts) (rowsOf both us) joined-is ∙ sym e ∙ setOf-found k r c)
+
+        module _ (c : r .contradiction ≡ false) where
           abbrev remains : Rows
-          remains = rowsOf (nodes (p .jobs)) (r .table .weights)
+          remains = rowsOf k (r .table .weights)
 
-          pub remains-none : r .contradiction ≡ true → outcome p ≡ noStrategy (cond (failsAlone p (rowsOf (nodes (p .jobs)) ts)) m (m + 1))
-          remains-none c =
-              turn
-              ∙ decided-none p m t (round p c0 t) (roundsFrom p c0 (m + 1) (left - 1))
-              (round-some p c0 t u joined-is ∙ sym e ∙ setOf-found (nodes (p .jobs)) r c)
+          left-is : eliminated p (p .jobs) (p .jobs) (rowsOf both us) ≡ bounds remains
+          left-is = sym e ∙ setOf-left k r c
 
-          module _ (c : r .contradiction ≡ false) where
-            left-is : eliminated p (p .jobs) (p .jobs) u ≡ bounds remains
-            left-is = sym e ∙ setOf-left (nodes (p .jobs)) r c
+          round-is : round p (rowsOf k own) (rowsOf k ts) ≡ bounds remains
+          round-is = round-some p (rowsOf k own) (rowsOf k ts) (rowsOf both us) joined-is ∙ left-is
 
-            round-is : round p c0 t ≡ bounds remains
-            round-is = round-some p c0 t u joined-is ∙ left-is
+          pub remains-fit : Fit p (nodes (p .jobs)) (rowsOf (nodes (p .jobs)) (r .table .weights))
+          remains-fit = eliminated-fit p (p .jobs) (p .jobs) (rowsOf both us) remains joined-fits left-is
 
-            pub remains-fit : Fit p (nodes (p .jobs)) (rowsOf (nodes (p .jobs)) (r .table .weights))
-            remains-fit = eliminated-fit p (p .jobs) (p .jobs) u remains joined-fits left-is
+          pub round-later : sameRows (rowsOf (nodes (p .jobs)) ts) (rowsOf (nodes (p .jobs)) (r .table .weights)) ≡ false
+              → outcome p ≡ roundsFrom p (rowsOf (nodes (p .jobs)) own) (m + 1) (left - 1) (rowsOf (nodes (p .jobs)) (r .table .weights))
+          round-later h =
+              turn ∙ decided-later p m (rowsOf k ts) (round p (rowsOf k own) (rowsOf k ts)) (roundsFrom p (rowsOf k own) (m + 1) (left - 1)) remains round-is h
 
-            pub round-later : sameRows (rowsOf (nodes (p .jobs)) ts) (rowsOf (nodes (p .jobs)) (r .table .weights)) ≡ false
-                → outcome p ≡ roundsFrom p (rowsOf (nodes (p .jobs)) own) (m + 1) (left - 1) (rowsOf (nodes (p .jobs)) (r .table .weights))
-            round-later h = turn ∙ decided-later p m t (round p c0 t) (roundsFrom p c0 (m + 1) (left - 1)) remains round-is h
+          module _ (h : sameRows (rowsOf (nodes (p .jobs)) ts) (rowsOf (nodes (p .jobs)) (r .table .weights)) ≡ true) where
+            pub round-settled : outcome p ≡ settled m (rowsOf (nodes (p .jobs)) (r .table .weights))
+            round-settled =
+                turn
+                ∙ decided-settled p m (rowsOf k ts) (round p (rowsOf k own) (rowsOf k ts)) (roundsFrom p (rowsOf k own) (m + 1) (left - 1)) remains round-is h
 
-            module _ (h : sameRows (rowsOf (nodes (p .jobs)) ts) (rowsOf (nodes (p .jobs)) (r .table .weights)) ≡ true) where
-              pub round-settled : outcome p ≡ settled m (rowsOf (nodes (p .jobs)) (r .table .weights))
-              round-settled = turn ∙ decided-settled p m t (round p c0 t) (roundsFrom p c0 (m + 1) (left - 1)) remains round-is h
+            -- the settled set is the one that was carried into the round
+            settled-joins : (n : ℕ) (v : Rows) → outcome p ≡ settled n v → thenSet (C0 p) (λ c0. joined p c0 v) ≡ bounds (rowsOf both us)
+            unfolding thenSet
+            settled-joins n v q =
+                ap (λ s. thenSet s (λ c0. joined p c0 v)) (own-rows p early late (g .clocked) own (g .based .own-put))
+                ∙ ap (joined p (rowsOf k own)) (sym (sameRows-unique (rowsOf k ts) remains h ∙ settled-back m n remains v (sym round-settled ∙ q)))
+                ∙ joined-is
 
-              -- the settled set is the one that was carried into the round
-              settled-joins : (n : ℕ) (v : Rows) → outcome p ≡ settled n v → thenSet (C0 p) (λ c0. joined p c0 v) ≡ bounds u
-              unfolding thenSet
-              settled-joins n v q =
-                  ap (λ s. thenSet s (λ c0. joined p c0 v)) (own-rows p early late clocked own own-put)
-                  ∙ ap (joined p c0) (sym (sameRows-unique t remains h ∙ settled-back m n remains v (sym round-settled ∙ q)))
-                  ∙ joined-is
-
-              pub round-settled-on : SettledOn p (rowsOf (nodes (p .jobs + p .jobs)) us)
-              round-settled-on = record { joins = settled-joins; fits = λ n v q. joined-fits; sound = λ n v q. ap isContradictory left-is }
+            pub round-settled-on : SettledOn p (rowsOf (nodes (p .jobs + p .jobs)) us)
+            round-settled-on = record { joins = settled-joins; fits = λ n v q. joined-fits; sound = λ n v q. ap isContradictory left-is }
 
 -- ---- one window alone
 

@@ -3,7 +3,7 @@ use bounds::Table;
 use bounds::put;
 ghost use mathlib.Core.Path.{_≡_};
 ghost use Prim.Native.Nat.{_+_, _*_, _≤_, _<_};
-ghost use Rattle.bounds.specs.Flat.{AllTimed, Weighed, Moving, flat, weightAt};
+ghost use Rattle.bounds.specs.Flat.{flat};
 ghost use Rattle.rounds.specs.Next.{Nexts, onto, movedBy, nextAt, nextRow, nextRows};
 
 // The node on the next window of node y of one window; the origin stays.

@@ -9,7 +9,7 @@ use bounds::Table;
 use plan::Plan;
 ghost use mathlib.Core.Path.{_≡_};
 ghost use mathlib.Core.Bool.{cond};
-ghost use Prim.Native.Nat.{ℕ, _+_, _≤_};
+ghost use Prim.Native.Nat.{_+_, _≤_};
 ghost use Rattle.plan.specs.Limits.{mostRounds};
 ghost use Rattle.bounds.specs.Events.{nodes};
 ghost use Rattle.bounds.specs.Flat.{rowsOf};

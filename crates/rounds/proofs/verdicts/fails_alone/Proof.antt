@@ -1,5 +1,5 @@
 -- `rounds::verdicts::fails_alone` meets its contract: whether the elimination of the whole window is a contradiction.
-use Prim.Native.Nat.{ℕ, _+_, _≤_}
+use Prim.Native.Nat.{ℕ, _+_}
 use mathlib.Core.Path.{_≡_, sym, _∙_, ap, subst}
 use native.Mathlib.Omega.{arith}
 use Rattle.bounds.specs.Events.{nodes}

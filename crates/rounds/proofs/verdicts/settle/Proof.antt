@@ -1,13 +1,10 @@
 -- `rounds::verdicts::settle` meets its contract: C(0), the bounds between windows, and then the rounds.
-use Prim.Native.Nat.{ℕ, _+_}
 use mathlib.Core.Path.{_≡_, sym, _∙_, ap}
-use mathlib.Core.Bool.{true, false}
+use mathlib.Core.Bool.{false}
 use native.Mathlib.Omega.{arith}
-use Rattle.bounds.specs.Events.{nodes}
-use Rattle.bounds.specs.Flat.{rowsOf, flat, putBounds, noBounds}
-use Rattle.rounds.specs.Given.{ownBounds, betweenBounds}
+use Rattle.bounds.specs.Flat.{flat, putBounds, noBounds}
+use Rattle.rounds.specs.Given.{ownBounds}
 use Rattle.rounds.specs.JoinedLaws.{own-none}
-use Rattle.rounds.specs.Settling.{Based}
 use Rattle.rounds.specs.SettleLaws.{verdict-none, none-on, first-none, own-fit, between-none}
 use Rattle.rounds.proofs.verdicts.settle.Statement.{statement}
 use Rattle.rounds.proofs.verdicts.settle.Tie as tie

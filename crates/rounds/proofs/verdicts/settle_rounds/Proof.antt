@@ -1,12 +1,10 @@
 -- `rounds::verdicts::settle_rounds` meets its contract. The loop's invariant: the rounds that are left give the whole outcome, and the carried table is fit.
 -- A turn is one round, by the laws of `SettleLaws`.
-use Prim.Native.Nat.{ℕ, _+_, _*_, _-_, _≤_, _<_}
-use mathlib.Core.Path.{_≡_, refl, sym, _∙_, ap, subst}
-use mathlib.Core.Bool.{true, false, cond}
+use Prim.Native.Nat.{ℕ, _+_, _-_, _≤_}
+use mathlib.Core.Path.{_≡_, sym, _∙_, ap, subst}
 use native.Mathlib.Omega.{arith}
-use lib.IntN.{ℤ}
 use mir.Syntax.{w32}
-use mir.Val.{SFits, toZ, ofZ}
+use mir.Val.{SFits}
 use mir.Facts.{toZ-ofZ}
 use Rattle.whole.specs.Rules.{wholes}
 use Rattle.plan.specs.declared.Plan.{Plan}
@@ -14,10 +12,9 @@ use Rattle.plan.specs.Accepted.{Accepted}
 use Rattle.bounds.specs.Events.{nodes}
 use Rattle.bounds.specs.Flat.{rowsOf, flat}
 use Rattle.bounds.specs.Fit.{Fit}
-use Rattle.rounds.specs.Rounds.{sameRows, failsAlone, settled, noStrategy, unsettled, roundsFrom, outcome}
+use Rattle.rounds.specs.Rounds.{unsettled, roundsFrom, outcome}
 use Rattle.rounds.specs.Next.{Nexts, nextRows}
-use Rattle.rounds.specs.Settling.{SettledOn}
-use Rattle.rounds.specs.SettleLaws.{verdict-none, verdict-settled, verdict-unsettled, none-on, unsettled-on, rounds-end, own-fit, first-round, nexts, joined-none, joined-fits, remains-none, remains-fit, round-later, round-settled, round-settled-on}
+use Rattle.rounds.specs.SettleLaws.{verdict-none, verdict-settled, verdict-unsettled, none-on, unsettled-on, rounds-end, own-fit, first-round, Carrying, carried-nexts, joined-none, joined-fits, remains-none, remains-fit, round-later, round-settled, round-settled-on}
 use Rattle.rounds.proofs.verdicts.settle_rounds.Statement.{statement}
 use Rattle.rounds.proofs.verdicts.settle_rounds.Tie as tie
 
@@ -49,6 +46,17 @@ loop-holds c =
       own-fit (a .p) (a .early .now) (a .late .now) (s .pre .0) (a .own .weights) (s .pre .1 .own-put),
     )
 
+-- ---- the carried set is put on the next window
+
+carrying : (c : tie.After-carried2 Inv-loop μ-loop)
+    → let a = c .before .before .before .before .before .before .before .args in
+    let l = c .before .before .before .loop in
+    Carrying (a .p) (a .early .now) (a .late .now) (a .own .weights) (a .base .weights) (l .m) ((a .p .rounds + 1) - l .m) (l .carried)
+carrying c =
+    let s = c .before .before .before .before .before .before .before in
+    let l = c .before .before .before .loop in
+    record { clocked = s .pre .0; based = s .pre .1; some = omega arith; before = l .inv .2; fit = l .inv .3 }
+
 window-fits : (p : Plan) → Accepted p → SFits w32 (p .window)
 window-fits p a = let l = a .window-least in let m = a .window-most in omega wholes
 
@@ -56,11 +64,8 @@ put-next-requires : tie.Need-put-next-requires Inv-loop μ-loop
 put-next-requires c κs =
     let s = c .before .before .before .before .before .before .before in
     let a = s .args in
-    let l = c .before .before .before .loop in
-    subst (λ w. Nexts (a .early .now) (a .late .now) (a .p .jobs) w (l .carried)) (sym (toZ-ofZ (window-fits (a .p) (s .pre .0 .accepted))))
-    (nexts (a .p) (a .early .now) (a .late .now) (s .pre .0) (a .own .weights) (s .pre .1 .own-put) (a .base .weights) (s .pre .1 .base-put) (l .carried) (l .inv .3))
-
--- ---- the next window's bounds are put
+    subst (λ w. Nexts (a .early .now) (a .late .now) (a .p .jobs) w (c .before .before .before .loop .carried)) (sym (toZ-ofZ (window-fits (a .p) (s .pre .0 .accepted))))
+    (carried-nexts (carrying c))
 
 put-is : (c : tie.After-put-next Inv-loop μ-loop)
     → let a = c .before .before .before .before .before .before .before .before .args in
@@ -69,94 +74,43 @@ put-is : (c : tie.After-put-next Inv-loop μ-loop)
 put-is c =
     let s = c .before .before .before .before .before .before .before .before in
     let a = s .args in
-    let l = c .before .before .before .before .loop in
     c .put-next .ensures
-    ∙ ap (λ w. nextRows (a .early .now) (a .late .now) (a .p .jobs) w (l .carried) (a .base .weights)) (toZ-ofZ (window-fits (a .p) (s .pre .0 .accepted)))
-
-put-none : (c : tie.After-put-next Inv-loop μ-loop) → c .put-next .result ≡ true
-    → let a = c .before .before .before .before .before .before .before .before .args in
-    let l = c .before .before .before .before .loop in
-    outcome (a .p) ≡ noStrategy (cond (failsAlone (a .p) (rowsOf (nodes (a .p .jobs)) (l .carried))) (l .m) (l .m + 1))
-put-none c f =
-    let s = c .before .before .before .before .before .before .before .before in
-    let a = s .args in
-    let l = c .before .before .before .before .loop in
-    joined-none (a .p) (a .early .now) (a .late .now) (s .pre .0) (a .own .weights) (s .pre .1 .own-put) (a .base .weights) (s .pre .1 .base-put) (l .carried) (l .inv .3)
-    (l .m)
-    ((a .p .rounds + 1) - l .m)
-    (omega arith)
-    (l .inv .2)
-    (c .put-next .result)
-    (c .put-next .last .0)
-    (put-is c)
-    f
+    ∙ ap (λ w. nextRows (a .early .now) (a .late .now) (a .p .jobs) w (c .before .before .before .before .loop .carried) (a .base .weights))
+    (toZ-ofZ (window-fits (a .p) (s .pre .0 .accepted)))
 
 contradicted-requires : tie.Need-contradicted-requires Inv-loop μ-loop
 contradicted-requires c κs =
     let s = c .before .before .before .before .before .before .before .before .before in
-    let l = c .before .before .before .before .before .loop in
     let most = s .pre .0 .accepted .rounds-most in
-    (s .pre .0, l .inv .3, omega arith)
+    (s .pre .0, c .before .before .before .before .before .loop .inv .3, omega arith)
 
 returns : tie.Need-returns Inv-loop μ-loop
 returns c =
     let p = c .before .before .before .before .before .before .before .before .before .before .args .p in
-    let none = put-none (c .before .before) (c .before .if1 .taken) in
+    let n = c .before .before in
+    let none = joined-none (carrying (n .before)) (n .put-next .result) (n .put-next .last .0) (put-is n) (c .before .if1 .taken) in
     (c .contradicted .ensures ∙ verdict-none p _ none, none-on p _ _ none)
 
--- ---- and its events are eliminated
+-- ---- and the next window's events are eliminated
 
 eliminated-requires : tie.Need-eliminated-requires Inv-loop μ-loop
 eliminated-requires c κs =
-    let s = c .before .before .before .before .before .before .before .before .before in
-    let a = s .args in
-    let l = c .before .before .before .before .before .loop in (
-      s .pre .0,
-      omega arith,
-      joined-fits (a .p) (a .early .now) (a .late .now) (s .pre .0) (a .own .weights) (s .pre .1 .own-put) (a .base .weights) (s .pre .1 .base-put) (l .carried) (l .inv .3)
-          (l .m)
-          ((a .p .rounds + 1) - l .m)
-          (omega arith)
-          (l .inv .2)
-          (c .before .put-next .result)
-          (c .before .put-next .last .0)
-          (put-is (c .before))
-          (c .if1 .left),
-    )
-
-eliminated-none : (c : tie.After-eliminated Inv-loop μ-loop) → c .eliminated .result .contradiction ≡ true
-    → let a = c .before .before .before .before .before .before .before .before .before .before .args in
-    let l = c .before .before .before .before .before .before .loop in
-    outcome (a .p) ≡ noStrategy (cond (failsAlone (a .p) (rowsOf (nodes (a .p .jobs)) (l .carried))) (l .m) (l .m + 1))
-eliminated-none c f =
-    let s = c .before .before .before .before .before .before .before .before .before .before in
-    let a = s .args in
-    let l = c .before .before .before .before .before .before .loop in
-    let n = c .before .before in
-    remains-none (a .p) (a .early .now) (a .late .now) (s .pre .0) (a .own .weights) (s .pre .1 .own-put) (a .base .weights) (s .pre .1 .base-put) (l .carried) (l .inv .3)
-    (l .m)
-    ((a .p .rounds + 1) - l .m)
-    (omega arith)
-    (l .inv .2)
-    (n .put-next .result)
-    (n .put-next .last .0)
-    (put-is n)
-    (c .before .if1 .left)
-    (c .eliminated .result)
-    (c .eliminated .ensures)
-    f
+    let n = c .before in
+    (c .before .before .before .before .before .before .before .before .before .pre .0, omega arith, joined-fits (carrying (n .before)) (n .put-next .result) (n .put-next .last .0) (put-is n) (c .if1 .left))
 
 contradicted-requires-2 : tie.Need-contradicted-requires-2 Inv-loop μ-loop
 contradicted-requires-2 c κs =
     let s = c .before .before .before .before .before .before .before .before .before .before .before in
-    let l = c .before .before .before .before .before .before .before .loop in
     let most = s .pre .0 .accepted .rounds-most in
-    (s .pre .0, l .inv .3, omega arith)
+    (s .pre .0, c .before .before .before .before .before .before .before .loop .inv .3, omega arith)
 
 returns-2 : tie.Need-returns-2 Inv-loop μ-loop
 returns-2 c =
     let p = c .before .before .before .before .before .before .before .before .before .before .before .before .args .p in
-    let none = eliminated-none (c .before .before) (c .before .if2 .taken) in
+    let r = c .before .before in
+    let n = r .before .before in
+    let none = remains-none (carrying (n .before)) (n .put-next .result) (n .put-next .last .0) (put-is n) (r .before .if1 .left) (r .eliminated .result) (r .eliminated .ensures)
+    (c .before .if2 .taken) in
     (c .contradicted2 .ensures ∙ verdict-none p _ none, none-on p _ _ none)
 
 -- ---- 'C(m) = C(m-1)'
@@ -166,40 +120,16 @@ same-rows-requires c κs = let most = c .before .before .before .before .before 
 
 returns-3 : tie.Need-returns-3 Inv-loop μ-loop
 returns-3 c =
-    let s = c .before .before .before .before .before .before .before .before .before .before .before .before .before .before .before .before .before in
-    let a = s .args in
-    let l = c .before .before .before .before .before .before .before .before .before .before .before .before .before .loop in
-    let n = c .before .before .before .before .before .before .before .before .before in
     let r = c .before .before .before .before .before .before .before in
+    let n = r .before .before in
+    let left = c .before .before .before .before .before .before .if2 .left in
     let same = sym (c .before .same-rows .ensures) ∙ c .if3 .taken in (
-      verdict-settled (a .p) (l .m) _
-          (round-settled (a .p) (a .early .now) (a .late .now) (s .pre .0) (a .own .weights) (s .pre .1 .own-put) (a .base .weights) (s .pre .1 .base-put) (l .carried)
-          (l .inv .3)
-          (l .m)
-          ((a .p .rounds + 1) - l .m)
-          (omega arith)
-          (l .inv .2)
-          (n .put-next .result)
-          (n .put-next .last .0)
-          (put-is n)
-          (c .before .before .before .before .before .before .before .before .if1 .left)
-          (r .eliminated .result)
-          (r .eliminated .ensures)
-          (c .before .before .before .before .before .before .if2 .left)
+      verdict-settled (c .before .before .before .before .before .before .before .before .before .before .before .before .before .before .before .before .before .args .p) (c .before .before .before .before .before .before .before .before .before .before .before .before .before .loop .m) _
+          (round-settled (carrying (n .before)) (n .put-next .result) (n .put-next .last .0) (put-is n) (r .before .if1 .left) (r .eliminated .result) (r .eliminated .ensures)
+          left
           same),
-      round-settled-on (a .p) (a .early .now) (a .late .now) (s .pre .0) (a .own .weights) (s .pre .1 .own-put) (a .base .weights) (s .pre .1 .base-put) (l .carried)
-          (l .inv .3)
-          (l .m)
-          ((a .p .rounds + 1) - l .m)
-          (omega arith)
-          (l .inv .2)
-          (n .put-next .result)
-          (n .put-next .last .0)
-          (put-is n)
-          (c .before .before .before .before .before .before .before .before .if1 .left)
-          (r .eliminated .result)
-          (r .eliminated .ensures)
-          (c .before .before .before .before .before .before .if2 .left)
+      round-settled-on (carrying (n .before)) (n .put-next .result) (n .put-next .last .0) (put-is n) (r .before .if1 .left) (r .eliminated .result) (r .eliminated .ensures)
+          left
           same,
     )
 
@@ -214,43 +144,19 @@ one-less n m = omega arith
 
 loop-again : tie.Need-loop-again Inv-loop μ-loop
 loop-again c =
-    let s = c .before .before .before .before .before .before .before .before .before .before .before .before .before .before .before .before .before in
-    let a = s .args in
+    let a = c .before .before .before .before .before .before .before .before .before .before .before .before .before .before .before .before .before .args in
     let l = c .before .before .before .before .before .before .before .before .before .before .before .before .before .loop in
-    let n = c .before .before .before .before .before .before .before .before .before in
-    let r = c .before .before .before .before .before .before .before in (
+    let r = c .before .before .before .before .before .before .before in
+    let n = r .before .before in
+    let left = c .before .before .before .before .before .before .if2 .left in (
       omega arith,
       omega arith,
-      round-later (a .p) (a .early .now) (a .late .now) (s .pre .0) (a .own .weights) (s .pre .1 .own-put) (a .base .weights) (s .pre .1 .base-put) (l .carried)
-          (l .inv .3)
-          (l .m)
-          ((a .p .rounds + 1) - l .m)
-          (omega arith)
-          (l .inv .2)
-          (n .put-next .result)
-          (n .put-next .last .0)
-          (put-is n)
-          (c .before .before .before .before .before .before .before .before .if1 .left)
-          (r .eliminated .result)
-          (r .eliminated .ensures)
-          (c .before .before .before .before .before .before .if2 .left)
+      round-later (carrying (n .before)) (n .put-next .result) (n .put-next .last .0) (put-is n) (r .before .if1 .left) (r .eliminated .result) (r .eliminated .ensures) left
           (sym (c .before .same-rows .ensures) ∙ c .if3 .left)
           ∙ ap
-          (λ left. roundsFrom (a .p) (rowsOf (nodes (a .p .jobs)) (a .own .weights)) (l .m + 1) left (rowsOf (nodes (a .p .jobs)) (r .eliminated .result .table .weights)))
+          (λ rest. roundsFrom (a .p) (rowsOf (nodes (a .p .jobs)) (a .own .weights)) (l .m + 1) rest (rowsOf (nodes (a .p .jobs)) (r .eliminated .result .table .weights)))
           (one-less (a .p .rounds) (l .m)),
-      remains-fit (a .p) (a .early .now) (a .late .now) (s .pre .0) (a .own .weights) (s .pre .1 .own-put) (a .base .weights) (s .pre .1 .base-put) (l .carried)
-          (l .inv .3)
-          (l .m)
-          ((a .p .rounds + 1) - l .m)
-          (omega arith)
-          (l .inv .2)
-          (n .put-next .result)
-          (n .put-next .last .0)
-          (put-is n)
-          (c .before .before .before .before .before .before .before .before .if1 .left)
-          (r .eliminated .result)
-          (r .eliminated .ensures)
-          (c .before .before .before .before .before .before .if2 .left),
+      remains-fit (carrying (n .before)) (n .put-next .result) (n .put-next .last .0) (put-is n) (r .before .if1 .left) (r .eliminated .result) (r .eliminated .ensures) left,
     )
 
 empty-requires : tie.Need-empty-requires Inv-loop μ-loop
