@@ -31,4 +31,5 @@ pub mod JudgedLines
 pub mod JudgedLength
 pub mod JudgedLaws
 pub mod JudgedWays
+pub mod PartLaws
 pub mod Unique

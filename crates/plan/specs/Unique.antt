@@ -13,6 +13,7 @@ use Rattle.plan.specs.declared.Refusal.{Refusal}
 use Rattle.plan.specs.declared.Written.{Written}
 use Rattle.plan.specs.Refusals.{number, value, ends, faultAt, refusedLine}
 use Rattle.plan.specs.EventNames.{eventName, nameRead}
+use Rattle.plan.specs.Reading.{faultyPart}
 use Rattle.plan.specs.PlanRead.{planHead, planAlone}
 use Rattle.plan.specs.PlanAnswers.{planRead}
 use Rattle.plan.specs.PlanWritten.{planText}
@@ -38,6 +39,12 @@ read-head-unique s = only
 
 pub read-plan-unique : (s : List ℕ) {r q : PlanRead} → r ≡ planRead s (planAlone s) → q ≡ planRead s (planAlone s) → r ≡ q
 read-plan-unique s = only
+
+pub faulty-in-head-unique : (s : List ℕ) {r q : List ℕ} → r ≡ faultyPart (planHead s) → q ≡ faultyPart (planHead s) → r ≡ q
+faulty-in-head-unique s = only
+
+pub faulty-in-plan-unique : (s : List ℕ) {r q : List ℕ} → r ≡ faultyPart (planAlone s) → q ≡ faultyPart (planAlone s) → r ≡ q
+faulty-in-plan-unique s = only
 
 pub write-plan-unique : (p : Plan) (out : List ℕ) {r q : Written} → r ≡ writtenAs (planText p) out → q ≡ writtenAs (planText p) out → r ≡ q
 write-plan-unique p out = only

@@ -195,12 +195,15 @@ mod names;
 mod narrow;
 mod number_line;
 mod pairs;
+mod parts;
 mod reader;
 mod refusals;
 mod refused;
 mod writer;
 
 pub use names::event_name;
+pub use parts::faulty_in_head;
+pub use parts::faulty_in_plan;
 pub use reader::read_head;
 pub use reader::read_plan;
 pub use refusals::ends;
