@@ -9,6 +9,7 @@ pub mod elimination;
 pub mod export;
 pub mod game;
 pub mod generate;
+pub mod picture;
 pub mod plan;
 pub mod run;
 pub mod subject;

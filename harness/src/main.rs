@@ -7,7 +7,7 @@ use std::process::ExitCode;
 use harness::bench::{measure, tasks, Spread};
 use harness::export::{stack_use, Entry};
 use harness::subject::{Own, Programs, Subject};
-use harness::{compare, demand, generate, vectors};
+use harness::{compare, demand, generate, picture, vectors};
 
 const USAGE: &str = "\
 harness calendar                   a plan on standard input, its calendar on standard output
@@ -18,6 +18,8 @@ harness compare WHAT SEED COUNT    random plans, sessions and damaged texts, com
 harness case SEED NUMBER           the text of one case of `compare`
 harness corpus SEED COUNT DIR      sessions among the cases, each in a file
 harness bench                      times of one call; with the feature `export` also ratios and stack use
+harness figures                    the same as the page docs/FIGURES.md (with the feature `export`)
+harness picture SESSION ANSWERS J  window J of a session as a picture in SVG, from the files of its text and of its answers
 
 WHAT is a folder with the programs calendar and dispatch, `own`, or `export` (with the feature `export`).";
 
@@ -40,6 +42,8 @@ fn main() -> ExitCode {
         ["case", seed, number] => print_case(seed, number),
         ["corpus", seed, count, folder] => corpus(seed, count, Path::new(folder)),
         ["bench"] => bench(),
+        ["figures"] => figures(),
+        ["picture", session, answers, window] => draw(session, answers, window),
         _ => Err(io::Error::other(USAGE)),
     };
     match passed {
@@ -133,21 +137,75 @@ fn corpus(seed: &str, count: &str, folder: &Path) -> io::Result<bool> {
     Ok(true)
 }
 
+fn draw(session: &str, answers: &str, window: &str) -> io::Result<bool> {
+    let answers = String::from_utf8_lossy(&std::fs::read(answers)?).into_owned();
+    let svg = picture::picture(&std::fs::read(session)?, &answers, number(window)? as i64).map_err(io::Error::other)?;
+    print!("{svg}");
+    Ok(true)
+}
+
 fn bench() -> io::Result<bool> {
     let entries = entries();
     let names: Vec<&str> = entries.iter().map(|(name, _)| *name).collect();
-    let calls: Vec<Entry> = entries.iter().map(|(_, entry)| *entry).collect();
     println!("microseconds of one call, median (quartiles): {}", names.join(", then "));
-    for task in tasks() {
-        let (times, ratio) = measure(&task, &calls);
-        let times: Vec<String> = times.iter().map(|time| shown(*time)).collect();
-        let ratio = ratio.map_or(String::new(), |ratio| format!("   ratio {}", shown(ratio)));
-        let stack: Vec<String> = calls.iter().map(|&entry| stack_use(entry, &task.text).to_string()).collect();
-        println!("{:44} {}{ratio}   stack {}", task.name, times.join("   "), stack.join(", "));
+    for row in rows(&entries) {
+        let times: Vec<String> = row.times.iter().map(|time| shown(*time)).collect();
+        let ratio = row.ratio.map_or(String::new(), |ratio| format!("   ratio {}", shown(ratio)));
+        let stack: Vec<String> = row.stack.iter().map(usize::to_string).collect();
+        println!("{:44} {}{ratio}   stack {}", row.name, times.join("   "), stack.join(", "));
     }
     Ok(true)
 }
 
+/// What is measured of a task: times and stack of each entry, and the ratio of the second's times to the first's.
+struct Row {
+    name: String,
+    times: Vec<Spread>,
+    ratio: Option<Spread>,
+    stack: Vec<usize>,
+}
+
+fn rows(entries: &[(&str, Entry)]) -> impl Iterator<Item = Row> {
+    let calls: Vec<Entry> = entries.iter().map(|(_, entry)| *entry).collect();
+    tasks().into_iter().map(move |task| {
+        let (times, ratio) = measure(&task, &calls);
+        let stack = calls.iter().map(|&entry| stack_use(entry, &task.text)).collect();
+        Row { name: task.name, times, ratio, stack }
+    })
+}
+
 fn shown(spread: Spread) -> String {
     format!("{:.2} ({:.2} to {:.2})", spread.median, spread.lower, spread.upper)
+}
+
+const FIGURES: &str = "\
+# Figures
+
+`make figures` measures and writes this page. The export for C and the second implementation (harness/, Rust, release build) are linked into
+one process and called on the same texts, in turns, 41 batches of each. Times are microseconds of one call: the median, and the quartiles in
+parentheses. The ratio is the export's time to that of the second implementation, batch by batch. Stack is the bytes that a call needs below
+its caller, measured on a stack that is painted before the call.
+
+- read: a plan of nine jobs and 64 bounds that is refused at its last line, so that there is no verdict
+- verdict by jobs: a plan without steps; the call reads it, settles it and makes its calendar
+- verdict by rounds: a plan of nine jobs that loses a millisecond in each round and is refused by 5 in the end
+- session: a plan of one job, asked twice before each start; answers are written whole
+";
+
+/// The page docs/FIGURES.md, with the figures of this machine.
+fn figures() -> io::Result<bool> {
+    let entries = entries();
+    if entries.len() < 2 {
+        return Err(io::Error::other("built without the feature `export`"));
+    }
+    let processors = std::fs::read_to_string("/proc/cpuinfo").unwrap_or_default();
+    let processor =
+        processors.lines().find_map(|line| line.strip_prefix("model name")).map_or("unknown", |name| name.trim_start_matches([' ', '\t', ':']));
+    println!("{FIGURES}\nProcessor: {processor}.\n");
+    println!("| what | export | harness | ratio | stack, export | stack, harness |\n|---|---|---|---|---|---|");
+    for row in rows(&entries) {
+        let ratio = row.ratio.map_or(String::new(), shown);
+        println!("| {} | {} | {} | {ratio} | {} | {} |", row.name, shown(row.times[1]), shown(row.times[0]), row.stack[1], row.stack[0]);
+    }
+    Ok(true)
 }
