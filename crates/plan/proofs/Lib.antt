@@ -1,2 +1,3 @@
 -- The laws that several proofs cite.
 pub mod Widths
+pub mod Told

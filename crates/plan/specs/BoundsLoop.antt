@@ -15,7 +15,6 @@ use Rattle.text.specs.Lines.{LF, before, afterKey}
 use Rattle.text.specs.Numbers.{within, numberValue}
 use Rattle.text.specs.declared.Fault.the-variants as fault
 use Rattle.plan.specs.declared.Bound.{Bound}
-use Rattle.plan.specs.declared.BoundLine.{BoundLine}
 use Rattle.plan.specs.declared.BoundLine.the-variants as boundLine
 use Rattle.plan.specs.declared.Faulty.{Faulty}
 use Rattle.plan.specs.Limits.{mostBounds, leastC, greatestC}

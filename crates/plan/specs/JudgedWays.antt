@@ -1,9 +1,9 @@
 -- The laws by which the judging of a value is right, way by way: of a job (`jobJudged-min`, `-max`, `-release`, `-deadline`), of the loop over the jobs (`JobsHeld`), of a bound (`boundJudged-bare`, `-formed`), of the loop over the bounds
--- (`BoundsHeld`), and of the plan (`planJudged-window` to `planJudged-bounds`). An answer a to a line is what that line was judged, and it refuses or accepts.
+-- (`BoundsHeld`), and of the plan's lines (`planJudged-lines`, `lines-stop`, `lines-pass`). An answer a to a line is what that line was judged, and it refuses or accepts.
 use mathlib.Core.Path.{_≡_, refl, sym, _∙_, ap}
 use mathlib.Core.Bool.{Bool, true, false, _&&_}
 use mathlib.Core.List.{List, [], _∷_, _++_, map}
-use Prim.Native.Nat.{ℕ, suc, _+_, _*_, _≤_, _<_}
+use Prim.Native.Nat.{ℕ, _+_, _*_, _≤_, _<_}
 use native.Mathlib.Numerals.{add-one}
 use native.Mathlib.Omega.{arith}
 use lib.IntN.{pos}
@@ -17,7 +17,7 @@ use Rattle.plan.specs.declared.PlanAnswer.{PlanAnswer}
 use Rattle.plan.specs.declared.PlanAnswer.the-variants.{Accepted, Refused}
 use Rattle.plan.specs.declared.Refusal.{Refusal}
 use Rattle.plan.specs.declared.Refusal.the-variants.{Form}
-use Rattle.plan.specs.Limits.{mostJobs, mostBounds, longestRunning, latestDeadline}
+use Rattle.plan.specs.Limits.{longestWindow, mostRounds, mostWindows, mostJobs, mostBounds, longestRunning, latestDeadline}
 use Rattle.plan.specs.PlanRead.{isWrongPair, judgedBound, noJob, noBound}
 use Rattle.plan.specs.PlanWritten.{jobsOf, boundsOf}
 use Rattle.plan.specs.Accepted.{BoundAccepted}
@@ -25,7 +25,7 @@ use Rattle.plan.specs.Pairs.{pairOf, isWrongNumbered}
 use Rattle.plan.specs.PairLaws.{Small}
 use Rattle.plan.specs.ListLaws.{All, All-more}
 use Rattle.plan.specs.BoundsLoop.{judgedBound-numbered, map-last}
-use Rattle.plan.specs.PlanJudged.{andThen, numberJudged, jobJudged, jobsJudged, isOneDigit, lineJudged, boundJudged, boundsJudged}
+use Rattle.plan.specs.PlanJudged.{andThen, numberJudged, jobJudged, jobsJudged, isOneDigit, lineJudged, boundJudged, boundsJudged, planJudged}
 use Rattle.plan.specs.JudgedLines.{andThen-stop, andThen-pass, Placed}
 use Rattle.plan.specs.JudgedLaws.{boundJudged-accepted}
 
@@ -181,3 +181,27 @@ module _ (p : Plan) (q : Placed p) (few : p .jobs ≤ mostJobs) (few-bounds : p 
   pub BoundsHeld-end : p .bounds ≤ i → Accepted ≡ boundsJudged (p .jobs) [] (6 + 4 * p .jobs) (boundsOf p)
   unfolding boundsJudged
   BoundsHeld-end l = sym (h .left ∙ ap (boundsJudged (p .jobs) (take i (p .bound)) n) (drop-of-length-le (boundsOf p) {i = i} (omega (arith, length-take (p .bounds) (p .bound)))))
+
+-- ---- the plan: the lines that are left are judged as the whole
+
+module _ (p : Plan) where
+  abbrev pub fromCount : PlanAnswer
+  fromCount = andThen (numberJudged (pos 0) (pos mostBounds) (pos (p .bounds)) (5 + 4 * p .jobs)) (boundsJudged (p .jobs) [] (6 + 4 * p .jobs) (boundsOf p))
+
+  abbrev pub fromJobs : PlanAnswer
+  fromJobs = andThen (numberJudged (pos 1) (pos mostJobs) (pos (p .jobs)) 4) (andThen (jobsJudged 5 (jobsOf p)) fromCount)
+
+  abbrev pub fromRounds : PlanAnswer
+  fromRounds = andThen (numberJudged (pos 1) (pos mostRounds) (pos (p .rounds)) 2) (andThen (numberJudged (pos 1) (pos mostWindows) (pos (p .last)) 3) fromJobs)
+
+  pub planJudged-lines : planJudged p ≡ andThen (numberJudged (pos 1) longestWindow (p .window) 1) fromRounds
+  unfolding planJudged
+  planJudged-lines = refl
+
+-- w is the answer to the lines from some line on, and a the answer to the first of them
+module _ {w : PlanAnswer} (x y : PlanAnswer) (e : w ≡ andThen x y) (a : PlanAnswer) (d : a ≡ x) where
+  pub lines-stop : {r : Refusal} → a ≡ Refused r → a ≡ w
+  lines-stop h = andThen-stop x y a d h ∙ sym e
+
+  pub lines-pass : a ≡ Accepted → w ≡ y
+  lines-pass h = e ∙ sym (andThen-pass x y a d h)

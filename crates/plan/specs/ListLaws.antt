@@ -27,6 +27,11 @@ pub All-map : {A : Type 0} {P Q : A → Type 0} → ((x : A) → P x → Q x) �
 All-map f [] h = tt
 All-map f (x ∷ xs) h = (f x (h .0), All-map f xs (h .1))
 
+pub All-take : {A : Type 0} (P : A → Type 0) (n : ℕ) (xs : List A) → All P xs → All P (take n xs)
+All-take P zero xs h = tt
+All-take P (suc n) [] h = tt
+All-take P (suc n) (x ∷ xs) h = (h .0, All-take P n xs (h .1))
+
 -- what is told at each of the first places is told of each element there
 pub All-of : {A : Type 0} (P : A → Type 0) (xs : List A) (d : A) (n : ℕ) → n ≤ length xs → ((i : ℕ) → i < n → P (getD xs i d)) → All P (take n xs)
 All-of P xs d zero l f = tt

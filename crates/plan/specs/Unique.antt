@@ -8,6 +8,7 @@ use Rattle.text.specs.Unique.{only}
 use Rattle.text.specs.declared.Fault.{Fault}
 use Rattle.plan.specs.declared.NameRead.{NameRead}
 use Rattle.plan.specs.declared.Plan.{Plan}
+use Rattle.plan.specs.declared.PlanAnswer.{PlanAnswer}
 use Rattle.plan.specs.declared.PlanRead.{PlanRead}
 use Rattle.plan.specs.declared.Refusal.{Refusal}
 use Rattle.plan.specs.declared.Written.{Written}
@@ -16,8 +17,9 @@ use Rattle.plan.specs.EventNames.{eventName, nameRead}
 use Rattle.plan.specs.Reading.{faultyPart}
 use Rattle.plan.specs.PlanRead.{planHead, planAlone}
 use Rattle.plan.specs.PlanAnswers.{planRead}
-use Rattle.plan.specs.PlanWritten.{planText}
 use Rattle.plan.specs.Written.{writtenAs}
+use Rattle.plan.specs.PlanJudged.{judgedAnswer}
+use Rattle.plan.specs.PlanWritten.{planText, judgedPlan}
 
 pub number-unique : (r : Refusal) {n m : ℕ} → n ≡ number r → m ≡ number r → n ≡ m
 number-unique r = only
@@ -57,3 +59,6 @@ write-refused-unique x out = only
 
 pub write-refused-bytes-unique : (x : Refusal) (out : List ℕ) {o u : List ℕ} → o ≡ written (refusedLine x) out → u ≡ written (refusedLine x) out → o ≡ u
 write-refused-bytes-unique x out = only
+
+pub judge-plan-unique : (p : Plan) {r q : PlanAnswer} → r ≡ judgedAnswer (judgedPlan p) → q ≡ judgedAnswer (judgedPlan p) → r ≡ q
+judge-plan-unique p = only

@@ -1,5 +1,5 @@
 -- `judge_job`: one law a way, `jobJudged-min`, `-max`, `-release`, `-deadline`. `min-line` to `deadline-line` tell what each line was judged.
-use mathlib.Core.Path.{_≡_, _∙_}
+use mathlib.Core.Path.{_≡_}
 use Prim.Native.Nat.{_+_}
 use lib.IntN.{pos}
 use mir.Facts.{toZ-ofZ}
