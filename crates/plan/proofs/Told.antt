@@ -1,7 +1,7 @@
 -- What a local that holds a plan tells of all its numbers: the arrays have their sizes, and each number fits its type (`plan-fits`).
 use mathlib.Core.Path.{sym, _∙_}
 use mathlib.Core.List.{List, [], _∷_, map}
-use Prim.Native.Nat.{_^_, _<_}
+use Prim.Native.Nat.{_<_}
 use native.Mathlib.Omega.{arith}
 use lib.ListN.{length-map}
 use denote.Array.{each}
@@ -9,8 +9,7 @@ use denote.RattleType.{RattleType, Valss}
 use denote.Shadow.{shadow}
 use denote.Struct.Declared.{fields}
 use denote.Struct.Struct.{AreAll}
-use mir.Syntax.{w32}
-use mir.Val.{Val, SFits}
+use mir.Val.{Val}
 use Rattle.plan.specs.declared.Job.{Job}
 use Rattle.plan.specs.declared.Bound.{Bound}
 use Rattle.plan.specs.declared.Plan.{Plan}

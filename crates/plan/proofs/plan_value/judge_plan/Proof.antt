@@ -35,7 +35,7 @@ window-line : (c : tie.After-judge-number) → c .judge-number .result ≡ numbe
 window-line c = rw (toZ-ofZ {w = w32} {z = p₀ (c .before) .window} (record { sfits = c .before .struct-told .given .0 .1 })) at (c .judge-number .ensures)
 
 judge-number-requires : tie.Need-judge-number-requires
-judge-number-requires c κs = search needs
+judge-number-requires c κs = tt
 
 enum-told : tie.Need-enum-told
 enum-told c = search needs
@@ -60,7 +60,7 @@ left₁ c =
     lines-pass (numberJudged (pos 1) longestWindow (p₁ c .window) 1) (fromRounds (p₁ c)) (left₀ (d .before)) (d .judge-number .result) (window-line d) (c .enum-told .given .1)
 
 judge-count-requires : tie.Need-judge-count-requires
-judge-count-requires c κs = search needs
+judge-count-requires c κs = tt
 
 enum-told-3 : tie.Need-enum-told-3
 enum-told-3 c = search needs
@@ -86,7 +86,7 @@ left₂ c =
     lines-pass (numberJudged (pos 1) (pos mostRounds) (pos (p .rounds)) 2) (andThen (numberJudged (pos 1) (pos mostWindows) (pos (p .last)) 3) (fromJobs p)) (left₁ (d .before)) (d .judge-count .result) (d .judge-count .ensures) (c .enum-told3 .given .1)
 
 judge-count-requires-2 : tie.Need-judge-count-requires-2
-judge-count-requires-2 c κs = search needs
+judge-count-requires-2 c κs = tt
 
 enum-told-5 : tie.Need-enum-told-5
 enum-told-5 c = search needs
@@ -112,7 +112,7 @@ left₃ c =
     lines-pass (numberJudged (pos 1) (pos mostWindows) (pos (p .last)) 3) (fromJobs p) (left₂ (d .before)) (d .judge-count2 .result) (d .judge-count2 .ensures) (c .enum-told5 .given .1)
 
 judge-count-requires-3 : tie.Need-judge-count-requires-3
-judge-count-requires-3 c κs = search needs
+judge-count-requires-3 c κs = tt
 
 enum-told-7 : tie.Need-enum-told-7
 enum-told-7 c = search needs
@@ -178,7 +178,7 @@ add-line : tie.Need-add-line
 add-line c = omega (arith, few₄ (c .before .before .before .before))
 
 judge-count-requires-4 : tie.Need-judge-count-requires-4
-judge-count-requires-4 c κs = search needs
+judge-count-requires-4 c κs = tt
 
 enum-told-11 : tie.Need-enum-told-11
 enum-told-11 c = search needs
