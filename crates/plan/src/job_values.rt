@@ -41,22 +41,26 @@ fn judge_job(j: Job, line: usize) -> PlanAnswer
     requires { ⌜ line ≤ 1000 ⌝ }
     ensures { λ r. ⌜ r ≡ jobJudged line j ⌝ }
 {
-    let min = judge_number(j.min, 0, 86_400_000, line);
-    let PlanAnswer::Accepted = min else {
-        return min;
+    let min = j.min;
+    let max = j.max;
+    let release = j.release;
+    let deadline = j.deadline;
+    let first = judge_number(min, 0, 86_400_000, line);
+    let PlanAnswer::Accepted = first else {
+        return first;
     };
     let line2 = line + 1;
-    let max = judge_number(j.max, j.min, 86_400_000, line2);
-    let PlanAnswer::Accepted = max else {
-        return max;
+    let second = judge_number(max, min, 86_400_000, line2);
+    let PlanAnswer::Accepted = second else {
+        return second;
     };
     let line3 = line + 2;
-    let release = judge_number(j.release, 0, 172_800_000, line3);
-    let PlanAnswer::Accepted = release else {
-        return release;
+    let third = judge_number(release, 0, 172_800_000, line3);
+    let PlanAnswer::Accepted = third else {
+        return third;
     };
     let line4 = line + 3;
-    judge_number(j.deadline, 0, 172_800_000, line4)
+    judge_number(deadline, 0, 172_800_000, line4)
 }
 
 // The jobs of a plan, whose lines would begin with line 5: the first that is refused.
