@@ -1,5 +1,5 @@
 -- `judge_job`: one law a way, `jobJudged-min`, `-max`, `-release`, `-deadline`. `min-line` to `deadline-line` tell what each line was judged.
-use mathlib.Core.Path.{_≡_}
+use mathlib.Core.Path.{_≡_, _∙_, ap}
 use Prim.Native.Nat.{ℕ, _+_}
 use lib.IntN.{ℤ, pos}
 use mir.Facts.{toZ-ofZ}
@@ -38,6 +38,9 @@ numbers c =
       release = toZ-ofZ {w = w32} {z = j₀ c .release} (record { sfits = t .1 .1 .0 .1 });
       deadline = toZ-ofZ {w = w32} {z = j₀ c .deadline} (record { sfits = t .1 .1 .1 .0 .1 });
     }
+
+judged-same : {lo lo′ z z′ : ℤ} (hi : ℤ) (n : ℕ) → lo ≡ lo′ → z ≡ z′ → numberJudged lo hi z n ≡ numberJudged lo′ hi z′ n
+judged-same {lo} {lo′} {z} {z′} hi n p q = ap (λ (x : ℤ). numberJudged x hi z n) p ∙ ap (λ (x : ℤ). numberJudged lo′ hi x n) q
 
 judge-number-requires : tie.Need-judge-number-requires
 judge-number-requires c κs = tt
@@ -78,7 +81,7 @@ enum-told-4 c = search needs
 max-line : (c : tie.After-judge-number2) → let o = d₁ (c .before) .before in c .judge-number2 .result ≡ numberJudged (j₀ o .min) longestRunning (j₀ o .max) (n₀ o + 1)
 max-line c =
     let o = d₁ (c .before) .before in
-    rw (numbers o .min, numbers o .max) at (c .judge-number2 .ensures)
+    c .judge-number2 .ensures ∙ judged-same longestRunning (n₀ o + 1) (numbers o .min) (numbers o .max)
 
 returns-2 : tie.Need-returns-2
 returns-2 c =
