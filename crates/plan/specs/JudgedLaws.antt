@@ -1,4 +1,4 @@
--- A plan as a value is judged good exactly where it is accepted: `judgedPlan-accepted` and `accepted-judged`, by way of the judgement line by line
+-- A plan as a value is judged good exactly where it is accepted: `judgedPlan-accepted` (of the answer `judgedAnswer-accepted`) and `accepted-judged`, by way of the judgement line by line
 -- (`planJudged-accepted`, `accepted-planJudged`). That this is the judgement of the text stands in `JudgedLines`, and the text's length in `JudgedLength`.
 use mathlib.Core.Path.{_≡_, refl, sym, _∙_, ap}
 use mathlib.Core.Bool.{Bool, true, false, not, cond, _&&_}
@@ -124,6 +124,10 @@ planJudged-accepted p l e =
           at (AllBounds-at (p .jobs) [] (boundsOf p) i ds (omega (arith, length-take (p .bounds) (p .bound), l .bound-places)) .1);
     }
 
+judgedAnswer-none : (o : Option Refusal) → judgedAnswer o ≡ answer.Accepted → o ≡ none
+judgedAnswer-none none e = refl
+judgedAnswer-none (some r) e = absurd (let z : _≡_ {A = ℕ} 0 1 = cc in omega arith)
+
 -- 'A plan handed over as a value is judged as its text would be': where its text would be read, it is accepted
 pub judgedPlan-accepted : (p : Plan) → Placed p → judgedPlan p ≡ none → Accepted p
 unfolding refusalOf
@@ -132,6 +136,10 @@ judgedPlan-accepted p l e = planJudged-accepted p l (sym (judgedPlan-is p l (by-
     by-reading : (m : Reading Plan) → planAlone (planText p) ≡ m → refusalOf m ≡ none → length (planText p) ≤ longestText
     by-reading (read q t n) d e = planAlone-fits (planText p) d
     by-reading (refused r t) d e = absurd (let z : _≡_ {A = ℕ} 0 1 = cc in omega arith)
+
+-- the same of the answer a to a plan
+pub judgedAnswer-accepted : (p : Plan) → Placed p → (a : PlanAnswer) → a ≡ judgedAnswer (judgedPlan p) → a ≡ answer.Accepted → Accepted p
+judgedAnswer-accepted p l a e d = judgedPlan-accepted p l (judgedAnswer-none (judgedPlan p) (sym e ∙ d))
 
 -- ---- accepted, so judged good
 
@@ -236,11 +244,7 @@ module _ (p : Plan) (a : Accepted p) where
 
 -- the converse: an accepted plan's text is read
 pub accepted-judged : (p : Plan) → Accepted p → judgedPlan p ≡ none
-accepted-judged p a = by-refusal (judgedPlan p) (judgedPlan-is p (f .placed) (planText-short p f) ∙ accepted-planJudged p a)
+accepted-judged p a = judgedAnswer-none (judgedPlan p) (judgedPlan-is p (f .placed) (planText-short p f) ∙ accepted-planJudged p a)
   where
     f : PlanFits p
     f = accepted-fits p a
-
-    by-refusal : (o : Option Refusal) → judgedAnswer o ≡ answer.Accepted → o ≡ none
-    by-refusal none e = refl
-    by-refusal (some r) e = absurd (let z : _≡_ {A = ℕ} 0 1 = cc in omega arith)

@@ -6,12 +6,15 @@ use crate::job_values::judge_count;
 use crate::job_values::judge_jobs;
 use crate::job_values::judge_number;
 ghost use mathlib.Core.Path.{_≡_};
+ghost use Rattle.plan.specs.declared.PlanAnswer.the-variants as answer;
+ghost use Rattle.plan.specs.Accepted.{Accepted};
 ghost use Rattle.plan.specs.PlanJudged.{judgedAnswer};
 ghost use Rattle.plan.specs.PlanWritten.{judgedPlan};
 
-// Whether the plan's text would be read, or the refusal of its first faulty line. The text is not written for it.
+// Whether the plan's text would be read, and then the plan is accepted; or the refusal of its first faulty line. The text is not written for it.
 pub fn judge_plan(p: Plan) -> PlanAnswer
     ensures { λ r. ⌜ r ≡ judgedAnswer (judgedPlan p) ⌝ }
+    ensures { λ r. ⌜ (r ≡ answer.Accepted → Accepted p) ⌝ }
 {
     let window = judge_number(p.window, 1, 86_400_000, 1);
     let PlanAnswer::Accepted = window else {

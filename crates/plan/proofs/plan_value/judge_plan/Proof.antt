@@ -9,11 +9,15 @@ use mir.Syntax.{w32}
 use Rattle.whole.specs.Rules.{whole}
 use native.Mathlib.Omega.{arith}
 use Rattle.plan.specs.declared.Plan.{Plan}
+use Rattle.plan.specs.declared.PlanAnswer.{PlanAnswer}
+use Rattle.plan.specs.declared.PlanAnswer.the-variants as answer
+use Rattle.plan.specs.Accepted.{Accepted}
 use Rattle.plan.specs.Limits.{longestWindow, mostRounds, mostWindows, mostJobs, mostBounds}
 use Rattle.plan.specs.PlanWritten.{jobsOf, boundsOf, judgedPlan}
 use Rattle.plan.specs.PlanJudged.{judgedAnswer, andThen, numberJudged, jobsJudged, boundsJudged}
 use Rattle.plan.specs.JudgedLines.{numberJudged-range, judgedPlan-is}
 use Rattle.plan.specs.JudgedLength.{PlanFits, planText-short}
+use Rattle.plan.specs.JudgedLaws.{judgedAnswer-accepted}
 use Rattle.plan.specs.JudgedWays.{fromCount, fromJobs, fromRounds, planJudged-lines, lines-stop, lines-pass}
 use borrow.Author.Needs.{needs}
 use Rattle.plan.proofs.Told.{plan-fits}
@@ -31,6 +35,13 @@ fits₀ c = plan-fits (p₀ c) _ (c .struct-told .given)
 left₀ : (c : tie.After-struct-told) → judgedAnswer (judgedPlan (p₀ c)) ≡ andThen (numberJudged (pos 1) longestWindow (p₀ c .window) 1) (fromRounds (p₀ c))
 left₀ c = judgedPlan-is (p₀ c) (fits₀ c .placed) (planText-short (p₀ c) (fits₀ c)) ∙ planJudged-lines (p₀ c)
 
+-- the two promises of an answer a, of which the first tells the second
+abbrev Promised : Plan → PlanAnswer → Type 0
+Promised p a = (a ≡ judgedAnswer (judgedPlan p)) × (a ≡ answer.Accepted → Accepted p)
+
+promised : (p : Plan) (a : PlanAnswer) → PlanFits p → a ≡ judgedAnswer (judgedPlan p) → Promised p a
+promised p a f e = (e, judgedAnswer-accepted p (f .placed) a e)
+
 window-line : (c : tie.After-judge-number) → c .judge-number .result ≡ numberJudged (pos 1) longestWindow (p₀ (c .before) .window) 1
 window-line c = rw (toZ-ofZ {w = w32} {z = p₀ (c .before) .window} (record { sfits = c .before .struct-told .given .0 .1 })) at (c .judge-number .ensures)
 
@@ -47,12 +58,16 @@ returns : tie.Need-returns
 returns c =
     let d = c .before .before in
     let p = p₀ (d .before) in
-    lines-stop (numberJudged (pos 1) longestWindow (p .window) 1) (fromRounds p) (left₀ (d .before)) (d .judge-number .result) (window-line d) (c .enum-told2 .given .1)
+    promised p (d .judge-number .result) (fits₀ (d .before))
+    (lines-stop (numberJudged (pos 1) longestWindow (p .window) 1) (fromRounds p) (left₀ (d .before)) (d .judge-number .result) (window-line d) (c .enum-told2 .given .1))
 
 -- ---- the rounds
 
 abbrev p₁ : tie.After-enum-told → Plan
 p₁ c = p₀ (c .before .before .before)
+
+fits₁ : (c : tie.After-enum-told) → PlanFits (p₁ c)
+fits₁ c = fits₀ (c .before .before .before)
 
 left₁ : (c : tie.After-enum-told) → judgedAnswer (judgedPlan (p₁ c)) ≡ fromRounds (p₁ c)
 left₁ c =
@@ -72,12 +87,16 @@ returns-2 : tie.Need-returns-2
 returns-2 c =
     let d = c .before .before in
     let p = p₁ (d .before) in
-    lines-stop (numberJudged (pos 1) (pos mostRounds) (pos (p .rounds)) 2) (andThen (numberJudged (pos 1) (pos mostWindows) (pos (p .last)) 3) (fromJobs p)) (left₁ (d .before)) (d .judge-count .result) (d .judge-count .ensures) (c .enum-told4 .given .1)
+    promised p (d .judge-count .result) (fits₁ (d .before))
+    (lines-stop (numberJudged (pos 1) (pos mostRounds) (pos (p .rounds)) 2) (andThen (numberJudged (pos 1) (pos mostWindows) (pos (p .last)) 3) (fromJobs p)) (left₁ (d .before)) (d .judge-count .result) (d .judge-count .ensures) (c .enum-told4 .given .1))
 
 -- ---- the windows of a run
 
 abbrev p₂ : tie.After-enum-told3 → Plan
 p₂ c = p₁ (c .before .before .before)
+
+fits₂ : (c : tie.After-enum-told3) → PlanFits (p₂ c)
+fits₂ c = fits₁ (c .before .before .before)
 
 left₂ : (c : tie.After-enum-told3) → judgedAnswer (judgedPlan (p₂ c)) ≡ andThen (numberJudged (pos 1) (pos mostWindows) (pos (p₂ c .last)) 3) (fromJobs (p₂ c))
 left₂ c =
@@ -98,12 +117,16 @@ returns-3 : tie.Need-returns-3
 returns-3 c =
     let d = c .before .before in
     let p = p₂ (d .before) in
-    lines-stop (numberJudged (pos 1) (pos mostWindows) (pos (p .last)) 3) (fromJobs p) (left₂ (d .before)) (d .judge-count2 .result) (d .judge-count2 .ensures) (c .enum-told6 .given .1)
+    promised p (d .judge-count2 .result) (fits₂ (d .before))
+    (lines-stop (numberJudged (pos 1) (pos mostWindows) (pos (p .last)) 3) (fromJobs p) (left₂ (d .before)) (d .judge-count2 .result) (d .judge-count2 .ensures) (c .enum-told6 .given .1))
 
 -- ---- the count of the jobs
 
 abbrev p₃ : tie.After-enum-told5 → Plan
 p₃ c = p₂ (c .before .before .before)
+
+fits₃ : (c : tie.After-enum-told5) → PlanFits (p₃ c)
+fits₃ c = fits₂ (c .before .before .before)
 
 left₃ : (c : tie.After-enum-told5) → judgedAnswer (judgedPlan (p₃ c)) ≡ fromJobs (p₃ c)
 left₃ c =
@@ -124,7 +147,8 @@ returns-4 : tie.Need-returns-4
 returns-4 c =
     let d = c .before .before in
     let p = p₃ (d .before) in
-    lines-stop (numberJudged (pos 1) (pos mostJobs) (pos (p .jobs)) 4) (andThen (jobsJudged 5 (jobsOf p)) (fromCount p)) (left₃ (d .before)) (d .judge-count3 .result) (d .judge-count3 .ensures) (c .enum-told8 .given .1)
+    promised p (d .judge-count3 .result) (fits₃ (d .before))
+    (lines-stop (numberJudged (pos 1) (pos mostJobs) (pos (p .jobs)) 4) (andThen (jobsJudged 5 (jobsOf p)) (fromCount p)) (left₃ (d .before)) (d .judge-count3 .result) (d .judge-count3 .ensures) (c .enum-told8 .given .1))
 
 -- ---- the jobs
 
@@ -143,7 +167,7 @@ few₄ c =
     omega (whole, numberJudged-range (pos 1) (pos mostJobs) (pos (p₄ c .jobs)) 4 (sym (d .judge-count3 .ensures) ∙ c .enum-told7 .given .1) .1)
 
 fits₄ : (c : tie.After-enum-told7) → PlanFits (p₄ c)
-fits₄ c = fits₀ (c .before .before .before .before .before .before .before .before .before .before .before .before)
+fits₄ c = fits₃ (c .before .before .before)
 
 judge-jobs-requires : tie.Need-judge-jobs-requires
 judge-jobs-requires c κs = (fits₄ c .placed, few₄ c)
@@ -158,7 +182,8 @@ returns-5 : tie.Need-returns-5
 returns-5 c =
     let d = c .before .before in
     let p = p₄ (d .before) in
-    lines-stop (jobsJudged 5 (jobsOf p)) (fromCount p) (left₄ (d .before)) (d .judge-jobs .result) (d .judge-jobs .ensures) (c .enum-told10 .given .1)
+    promised p (d .judge-jobs .result) (fits₄ (d .before))
+    (lines-stop (jobsJudged 5 (jobsOf p)) (fromCount p) (left₄ (d .before)) (d .judge-jobs .result) (d .judge-jobs .ensures) (c .enum-told10 .given .1))
 
 -- ---- the count of the bounds
 
@@ -191,7 +216,8 @@ returns-6 c =
     let d = c .before .before in
     let e = d .before .before in
     let p = p₅ e in
-    lines-stop (numberJudged (pos 0) (pos mostBounds) (pos (p .bounds)) (5 + 4 * p .jobs)) (boundsJudged (p .jobs) [] (6 + 4 * p .jobs) (boundsOf p)) (left₅ e) (d .judge-count4 .result) (d .judge-count4 .ensures) (c .enum-told12 .given .1)
+    promised p (d .judge-count4 .result) (fits₄ (e .before .before .before))
+    (lines-stop (numberJudged (pos 0) (pos mostBounds) (pos (p .bounds)) (5 + 4 * p .jobs)) (boundsJudged (p .jobs) [] (6 + 4 * p .jobs) (boundsOf p)) (left₅ e) (d .judge-count4 .result) (d .judge-count4 .ensures) (c .enum-told12 .given .1))
 
 -- ---- the bounds
 
@@ -215,7 +241,9 @@ judge-bounds-requires c κs =
     (fits₄ e .placed, (few₄ e, few₆ c))
 
 returns-7 : tie.Need-returns-7
-returns-7 c = c .judge-bounds .ensures ∙ sym (left₆ (c .before))
+returns-7 c =
+    let e = c .before .before .before .before .before .before .before .before in
+    promised (p₆ (c .before)) (c .judge-bounds .result) (fits₄ e) (c .judge-bounds .ensures ∙ sym (left₆ (c .before)))
 
 pub judge-plan-spec : {M : Type 1} → statement M
 judge-plan-spec =
