@@ -12,3 +12,4 @@ pub mod CalendarTextLaws
 pub mod RecordedLaws
 pub mod CalendarsLaws
 pub mod DecisionsLaws
+pub mod Unique

@@ -1,0 +1,72 @@
+-- No two answers meet the promise of a public operation: each promise is an equation, and `only` of the crate `text` says the rest. A set of events is its number
+-- (`events-unique`); what a writer of the calendar leaves and answers is one slice and one place (`stored-unique` of `text`).
+use Prim.Native.Nat.{ℕ, _+_}
+use mathlib.Core.Path.{_≡_, ap, ap₂}
+use mathlib.Core.Bool.{Bool}
+use mathlib.Core.List.{List, []}
+use lib.IntN.{ℤ}
+use Rattle.text.specs.Unique.{only, stored-unique}
+use Rattle.text.specs.Lent.{Stored, written}
+use Rattle.plan.specs.declared.Plan.{Plan}
+use Rattle.plan.specs.declared.Written.{Written}
+use Rattle.plan.specs.Written.{writtenAs}
+use Rattle.bounds.specs.Events.{nodes}
+use Rattle.bounds.specs.Flat.{rowsOf}
+use Rattle.rounds.specs.declared.Verdict.{Verdict}
+use Rattle.rounds.specs.Rounds.{outcome, verdict}
+use Rattle.calendars.specs.declared.Events.{Events}
+use Rattle.calendars.specs.declared.Calendar.{Calendar}
+use Rattle.calendars.specs.declared.Decision.{Decision}
+use Rattle.calendars.specs.Bits.{hasEvent, eventSet, withEvent, eventCount, nextEvent}
+use Rattle.calendars.specs.Calendars.{beforeStarts, calendarOf, noCalendar}
+use Rattle.calendars.specs.CalendarText.{calendarText, calendarOutput}
+use Rattle.calendars.specs.Decisions.{madeCalendar}
+
+-- ---- sets of events
+
+events-unique : {r q : Events} {n : ℕ} → r .0 ≡ n → q .0 ≡ n → r ≡ q
+events-unique d e = ap (λ (n : ℕ). record { 0 = n }) (only d e)
+
+pub empty-unique : {r q : Events} → r .0 ≡ eventSet [] → q .0 ≡ eventSet [] → r ≡ q
+empty-unique = events-unique
+
+pub has-unique : (e : ℕ) (s : Events) {r q : Bool} → r ≡ hasEvent e (s .0) → q ≡ hasEvent e (s .0) → r ≡ q
+has-unique e s = only
+
+pub with-unique : (e : ℕ) (s : Events) {r q : Events} → r .0 ≡ withEvent e (s .0) → q .0 ≡ withEvent e (s .0) → r ≡ q
+with-unique e s = events-unique
+
+pub count-unique : (s : Events) {r q : ℕ} → r ≡ eventCount (s .0) → q ≡ eventCount (s .0) → r ≡ q
+count-unique s = only
+
+pub next-unique : (s : Events) (e : ℕ) {r q : ℕ} → r ≡ nextEvent (s .0) e → q ≡ nextEvent (s .0) e → r ≡ q
+next-unique s e = only
+
+-- ---- the calendar and its text
+
+pub empty-calendar-unique : (p : Plan) {r q : Calendar} → r ≡ noCalendar p → q ≡ noCalendar p → r ≡ q
+empty-calendar-unique p = only
+
+module _ (p : Plan) (joined : List ℤ) where
+  pub calendar-of-unique : {r q : Calendar} → r ≡ calendarOf p (beforeStarts p (p .jobs) (rowsOf (nodes (p .jobs + p .jobs)) joined))
+      → q ≡ calendarOf p (beforeStarts p (p .jobs) (rowsOf (nodes (p .jobs + p .jobs)) joined))
+      → r ≡ q
+  calendar-of-unique = only
+
+pub put-calendar-unique : (jobs m : ℕ) (c : Calendar) {out o p : List ℕ} {at j k : ℕ} → Stored out at (calendarText jobs m c) o j
+    → Stored out at (calendarText jobs m c) p k
+    → (o ≡ p) × (j ≡ k)
+put-calendar-unique jobs m c = stored-unique
+
+-- ---- what is decided
+
+pub decide-unique : (p : Plan) {r q : Decision} → (r .verdict ≡ verdict p) × (r .calendar ≡ madeCalendar p (outcome p))
+    → (q .verdict ≡ verdict p) × (q .calendar ≡ madeCalendar p (outcome p))
+    → r ≡ q
+decide-unique p d e = ap₂ (λ (v : Verdict) (c : Calendar). record { verdict = v; calendar = c }) (only (d .0) (e .0)) (only (d .1) (e .1))
+
+pub answer-unique : (s out : List ℕ) {r q : Written} → r ≡ writtenAs (calendarOutput s) out → q ≡ writtenAs (calendarOutput s) out → r ≡ q
+answer-unique s out = only
+
+pub answer-bytes-unique : (s out : List ℕ) {o p : List ℕ} → o ≡ written (calendarOutput s) out → p ≡ written (calendarOutput s) out → o ≡ p
+answer-bytes-unique s out = only
