@@ -134,14 +134,14 @@ held-most : {c : Cell} {w a : ℤ} → c ≡ upto w → AtMost c a → w ≤ℤ 
 held-most {c} {w} {a} e m = let h = m .held in let same : w ≡ m .weight = cc in subst (λ w. w ≤ℤ a) (sym same) (m .most)
 
 module _ (p : Plan) (a : Accepted p) (k : ℕ) (t : Rows) (size : k ≤ nodes (p .jobs + p .jobs)) (fit : Fit p k t) where
-  least-weight : (y z : ℕ) (w : ℤ) → y < k → z < k → at t y z ≡ upto w → negℤ (pos 259200000) ≤ℤ w
+  pub least-weight : (y z : ℕ) (w : ℤ) → y < k → z < k → at t y z ≡ upto w → negℤ (pos 259200000) ≤ℤ w
   least-weight y z w h l e =
       let low = judged-least p (eventOf y) (eventOf z) w (fit .kept y z w h l e) in
       let early = earliest-in p a z (omega arith) .least in
       let late = latest-in p a y (omega arith) .greatest in
       omega wholes
 
-  most-weight : (y z : ℕ) (w : ℤ) → y < k → z < k → at t y z ≡ upto w → w ≤ℤ pos 259200000
+  pub most-weight : (y z : ℕ) (w : ℤ) → y < k → z < k → at t y z ≡ upto w → w ≤ℤ pos 259200000
   most-weight zero zero w h l e =
       absurd (judged-origin p w (subst₂ (λ a b. judged p a b w ≡ Kept) origin-node origin-node (fit .kept 0 0 w h l e)))
   most-weight zero (suc z) w h l e =
