@@ -1,5 +1,6 @@
 -- What a session says by its plan's verdict: the answers to its steps from a run at its beginning (`judged-settled`), or the plan's one line (`judged-refused`,
--- `judged-unsettled`). A settled plan, its calendar and a run at its beginning are inside their limits (`judged-inside`).
+-- `judged-unsettled`). A settled plan, its calendar and a run at its beginning are inside their limits (`judged-inside`). What is decided of an accepted plan makes it a
+-- judged one (`judged-decided`).
 
 use Prim.Native.Nat.{ℕ, _≤_}
 use mathlib.Core.Path.{_≡_, refl, sym, ap, _∙_}
@@ -11,17 +12,30 @@ use Rattle.plan.specs.declared.Plan.{Plan}
 use Rattle.plan.specs.declared.Refusal.the-variants as refusal
 use Rattle.plan.specs.Refusals.{refusedLine}
 use Rattle.plan.specs.Accepted.{Accepted}
+use Rattle.bounds.specs.Tables.{Rows}
 use Rattle.rounds.specs.declared.Verdict.{Verdict}
 use Rattle.rounds.specs.declared.Verdict.the-variants.{Settled, NoStrategy, Unsettled}
 use Rattle.calendars.specs.declared.Calendar.{Calendar}
-use Rattle.rounds.specs.Rounds.{Outcome, settled, noStrategy, unsettled, outcome, verdictOf}
+use Rattle.rounds.specs.Rounds.{Outcome, settled, noStrategy, unsettled, outcome, verdictOf, verdict}
 use Rattle.calendars.specs.Calendars.{calendar}
+use Rattle.calendars.specs.Decisions.{madeCalendar}
 use Rattle.runs.specs.Steps.{noProbes, newRun}
 use Rattle.runs.specs.ValueLimits.{areTimes, isPhase, isRun, isCalendar}
 use Rattle.runs.specs.LimitLaws.{areTimes-none}
+use Rattle.runs.specs.MadeLaws.{made-inside}
 use Rattle.runs.specs.Inside.{Inside}
 use Rattle.session.specs.Sessions.{answers, judgedSession}
 use Rattle.session.specs.Judged.{Judged}
+
+-- ---- a plan that was decided
+
+pub judged-decided : (p : Plan) → Accepted p → (v : Verdict) (c : Calendar) → v ≡ verdict p → c ≡ madeCalendar p (outcome p) → Judged p v c
+unfolding madeCalendar
+judged-decided p a v c e d =
+    let is : (m : ℕ) (t : Rows) → outcome p ≡ settled m t → c ≡ calendar p t = λ m t o. d ∙ ap (madeCalendar p) o in
+    record { accepted = a; verdict = e; calendar = is; inside = λ m t o. ap (isCalendar p) (is m t o) ∙ made-inside p a m t o }
+
+-- ---- what a judged session says
 
 newRun-is : (p : Plan) → Accepted p → isRun p newRun ≡ true
 unfolding isRun isPhase

@@ -21,7 +21,9 @@ enum StepAt {
 
 mod judged;
 mod print;
+mod program;
 mod read;
 mod steps;
 
+pub use program::answer;
 pub use read::read_step;

@@ -1,0 +1,28 @@
+// The dispatch program, from the bytes of its input to those of its output.
+use crate::judged::answer_judged;
+use calendars::decide;
+use plan::PlanAnswer;
+use plan::Written;
+use plan::write_refused;
+ghost use mathlib.Core.Path.{_≡_};
+ghost use Rattle.text.specs.Lent.{written};
+ghost use Rattle.session.specs.Sessions.{dispatchOutput, sessionAnswer};
+
+// The answer to a session text: its plan's one line, where the plan is refused, and else the answers to its steps; 12 and not one byte changed, where it has no room.
+pub fn answer(text: &[u8], out: &mut [u8]) -> Written
+    ensures { λ r. ⌜ r ≡ sessionAnswer (now (text .entry)) (now (out .entry)) ⌝ }
+    ensures { λ _. ⌜ now (out .exit) ≡ written (dispatchOutput (now (text .entry))) (now (out .entry)) ⌝ }
+{
+    let head = plan::read_head(text);
+    let told = head.answer;
+    match told {
+        PlanAnswer::Accepted => {
+            let p = head.plan;
+            let decision = decide(p);
+            let verdict = decision.verdict;
+            let calendar = decision.calendar;
+            answer_judged(text, head, verdict, calendar, out)
+        }
+        PlanAnswer::Refused(x) => write_refused(out, x),
+    }
+}
