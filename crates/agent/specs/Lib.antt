@@ -1,2 +1,6 @@
--- What the export answers, and what the lent slice then holds. Definitions alone.
+-- What the export answers, and what the lent slice then holds: definitions alone. Then the laws: how that follows from a session's answer, and that no other
+-- answer meets the promise.
 pub mod Entry
+-- ---- laws
+pub mod EntryLaws
+pub mod Unique

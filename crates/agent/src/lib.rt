@@ -1,1 +1,5 @@
 // The export for C.
+
+mod entry;
+
+pub use entry::gekumosari_session;

@@ -1,0 +1,58 @@
+-- The entry answers by what a session answers: its length, which the slice has room for (`entry-length`), or the number of its refusal, which is 12
+-- (`entry-refused`).
+use Prim.Native.Nat.{ℕ, _≤_}
+use mathlib.Core.Path.{_≡_, refl, sym, ap, _∙_}
+use mathlib.Core.Bool.{Bool, true, false, cond}
+use mathlib.Core.List.{List}
+use native.Mathlib.Omega.{arith}
+use lib.IntN.{ℤ, pos, negℤ}
+use lib.ListN.{length}
+use borrow.Author.Tests.{leb-true}
+use Rattle.text.specs.Lent.{hasRoom}
+use Rattle.plan.specs.declared.Refusal.{Refusal}
+use Rattle.plan.specs.declared.Refusal.the-variants.{NoRoom}
+use Rattle.plan.specs.Refusals.{number}
+use Rattle.plan.specs.declared.Written.{Written}
+use Rattle.plan.specs.declared.Written.the-variants.{Length, Refused}
+use Rattle.plan.specs.Written.{writtenAs}
+use Rattle.session.specs.Sessions.{dispatchOutput, sessionAnswer}
+use Rattle.agent.specs.Entry.{entryAnswer}
+
+-- a length that the entry tells
+pub record Told (s out : List ℕ) (n : ℕ) : Type 0 where
+  pub room : n ≤ length out
+  pub answer : pos n ≡ entryAnswer s out
+
+-- the number of refusal that it tells
+pub record NoRoomTold (s out : List ℕ) (n : ℕ) : Type 0 where
+  pub is : n ≡ 12
+  pub answer : negℤ (pos n) ≡ entryAnswer s out
+
+module _ (s out : List ℕ) {r : Written} (d : r ≡ sessionAnswer s out) where
+  abbrev whole : ℕ
+  whole = length (dispatchOutput s)
+
+  abbrev by-room : Bool → ℤ
+  by-room b = cond b (pos whole) (negℤ (pos (number NoRoom)))
+
+  pub entry-length : (n : ℕ) → r ≡ Length n → Told s out n
+  unfolding writtenAs entryAnswer
+  entry-length n e = of (hasRoom (dispatchOutput s) out) refl (sym e ∙ d)
+    where
+      of : (b : Bool) → hasRoom (dispatchOutput s) out ≡ b → Length n ≡ cond b (Length whole) (Refused NoRoom) → Told s out n
+      of true h f =
+          let is : n ≡ whole = cc in
+          let room = leb-true whole (length out) h in
+          record { room = omega arith; answer = ap pos is ∙ sym (ap by-room h) }
+      of false h f = absurd (let z : _≡_ {A = ℕ} 0 1 = cc in omega arith)
+
+  pub entry-refused : (x : Refusal) (n : ℕ) → r ≡ Refused x → n ≡ number x → NoRoomTold s out n
+  unfolding writtenAs entryAnswer
+  entry-refused x n e q = of (hasRoom (dispatchOutput s) out) refl (sym e ∙ d)
+    where
+      of : (b : Bool) → hasRoom (dispatchOutput s) out ≡ b → Refused x ≡ cond b (Length whole) (Refused NoRoom) → NoRoomTold s out n
+      of true h f = absurd (let z : _≡_ {A = ℕ} 0 1 = cc in omega arith)
+      of false h f =
+          let is : x ≡ NoRoom = cc in
+          let twelve : n ≡ 12 = q ∙ ap number is in
+          record { is = twelve; answer = ap (λ (n : ℕ). negℤ (pos n)) twelve ∙ sym (ap by-room h) }
