@@ -1,0 +1,75 @@
+/*
+ * gekumosari.h - the one entry of the library, for the agent on the replica.
+ *
+ * SYNOPSIS
+ *
+ *     #include "gekumosari.h"
+ *
+ *     int64_t gekumosari_session(const uint8_t *text, size_t length,
+ *                                uint8_t *out, size_t room);
+ *
+ *     cc agent.c target/staticlib/libagent.a
+ *
+ * `rt staticlib agent` proves the library and writes the archive. It needs no other library.
+ *
+ * WHAT GOES IN
+ *
+ *     text, length   A session: a plan, followed by steps, one line each. Any bytes are allowed, and
+ *                    any length; what is no session is answered by its one line `refused=N,D`. The
+ *                    bytes are read and never written.
+ *     out, room      A slice that the caller lends for the answer. Its bytes are written, as told
+ *                    below, and never read.
+ *
+ * Both slices stay the caller's and are not kept after the call. They must not overlap. A slice of
+ * length 0 is allowed, and its pointer is not looked at: it may be a null pointer.
+ *
+ * WHAT COMES BACK
+ *
+ *     0 or more            The length of the answer. It stands in the first bytes of out; the bytes
+ *                          past it keep their values. The answer is what the program `dispatch`
+ *                          prints for the same text: a line for each step, or the one line of a plan
+ *                          that is refused. It is 0 for an accepted plan without steps. No byte 0
+ *                          follows it.
+ *     GEKUMOSARI_NO_ROOM   The answer is longer than room. All bytes of out keep their values.
+ *
+ * No other value comes back. A refusal of the plan or of a step is a line of the answer, and no
+ * value of its own. The same text has the same answer each time: the entry keeps nothing from one
+ * call to the next.
+ *
+ * HOW MUCH ROOM
+ *
+ * An answer has at most 9 bytes for each byte of the text, and 71 more. A text of more than 65,536
+ * bytes is answered by `refused=1,0`, so GEKUMOSARI_MOST_BYTES are enough for every text.
+ *
+ * THREADS
+ *
+ * The entry has no state, takes no lock, allocates nothing and reads no clock. Calls from several
+ * threads at once are safe, as long as no slice that one of them lends is used by another.
+ */
+#ifndef GEKUMOSARI_H
+#define GEKUMOSARI_H
+
+#include <stddef.h>
+#include <stdint.h>
+
+#ifdef __cplusplus
+extern "C" {
+#endif
+
+/* The answer is longer than the lent slice: refusal 12, as a negative number. */
+#define GEKUMOSARI_NO_ROOM (-12)
+
+/* The longest text that is no fault in itself. */
+#define GEKUMOSARI_LONGEST_TEXT 65536
+
+/* No answer is longer: 9 bytes for each of the longest text's, and 71 more. */
+#define GEKUMOSARI_MOST_BYTES 589895
+
+/* The answer to a session. */
+int64_t gekumosari_session(const uint8_t *text, size_t length, uint8_t *out, size_t room);
+
+#ifdef __cplusplus
+}
+#endif
+
+#endif
