@@ -2,7 +2,7 @@
 use Prim.Native.Nat.{ℕ, _+_, _-_, _≤_, _<_}
 use mathlib.Core.Path.{_≡_, refl, sym, ap, ap₂, _∙_}
 use mathlib.Core.Bool.{Bool, true, false, _&&_}
-use mathlib.Core.Option.{none, some}
+use mathlib.Core.Option.{Option, none, some}
 use native.Mathlib.Omega.{arith}
 use lib.IntN.{ℤ, _+ℤ_}
 use lib.ListN.{getD, set, replicate, getD-replicate}
@@ -14,11 +14,17 @@ use Rattle.clock.specs.declared.RunTime.{RunTime}
 use Rattle.clock.specs.Spans.{Near}
 use Rattle.clock.specs.Clock.{isBetween, movedBy}
 use Rattle.plan.specs.declared.Plan.{Plan}
+use Rattle.plan.specs.declared.PlanAnswer.{PlanAnswer}
+use Rattle.plan.specs.declared.PlanAnswer.the-variants as planAnswer
 use Rattle.plan.specs.declared.Refusal.{Refusal}
 use Rattle.plan.specs.declared.Refusal.the-variants as refusal
 use Rattle.plan.specs.Refusals.{outsideLimits}
 use Rattle.plan.specs.Limits.{mostJobs}
 use Rattle.plan.specs.PlanWritten.{judgedPlan}
+use Rattle.plan.specs.PlanJudged.{judgedAnswer}
+use Rattle.plan.specs.Accepted.{Accepted}
+use Rattle.plan.specs.JudgedLines.{Placed}
+use Rattle.plan.specs.JudgedLaws.{judgedPlan-accepted}
 use Rattle.plan.specs.PlanRead.{noJob}
 use Rattle.calendars.specs.declared.Calendar.{Calendar}
 use Rattle.runs.specs.declared.Answer.the-variants.{Final}
@@ -128,12 +134,25 @@ module _ (p : Plan) (c : Calendar) (r : Run) (st : Step) where
   unfolding valuesRefused unlessRefused
   stepAccepted-inside h k l = rw (and-true _ _ (and-true _ _ h k) l)
 
-  -- ---- a step on values: the plan is judged first
+-- ---- a step on values: the plan is judged first
 
-  pub step-refused : (x : Refusal) → judgedPlan p ≡ some x → refusedWith r x ≡ step p c r st
-  unfolding step valuesRefused unlessRefused
-  step-refused x e = rw (e)
+judged-good : (o : Option Refusal) → judgedAnswer o ≡ planAnswer.Accepted → o ≡ none
+judged-good none e = refl
+judged-good (some x) e = absurd (let z : _≡_ {A = ℕ} 0 1 = cc in omega arith)
 
-  pub step-accepted : judgedPlan p ≡ none → stepAccepted p c r st ≡ step p c r st
-  unfolding step
-  step-accepted e = rw (e)
+judged-bad : (o : Option Refusal) (x : Refusal) → judgedAnswer o ≡ planAnswer.Refused x → some x ≡ o
+judged-bad none x e = absurd (let z : _≡_ {A = ℕ} 0 1 = cc in omega arith)
+judged-bad (some y) x e = cc
+
+module _ (p : Plan) (a : PlanAnswer) (judged : a ≡ judgedAnswer (judgedPlan p)) where
+  pub judged-accepted : Placed p → a ≡ planAnswer.Accepted → Accepted p
+  judged-accepted l e = judgedPlan-accepted p l (judged-good _ (sym judged ∙ e))
+
+  module _ (c : Calendar) (r : Run) (st : Step) where
+    pub step-refused : (x : Refusal) → a ≡ planAnswer.Refused x → refusedWith r x ≡ step p c r st
+    unfolding step valuesRefused unlessRefused
+    step-refused x e = rw (← judged-bad (judgedPlan p) x (sym judged ∙ e))
+
+    pub step-accepted : a ≡ planAnswer.Accepted → stepAccepted p c r st ≡ step p c r st
+    unfolding step
+    step-accepted e = rw (judged-good (judgedPlan p) (sym judged ∙ e))

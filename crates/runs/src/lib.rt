@@ -4,6 +4,7 @@ mod ends;
 mod limits;
 mod offers;
 mod steps;
+mod values;
 
 use calendars::Terms;
 use clock::RunTime;
@@ -18,6 +19,11 @@ pub use steps::new_run;
 pub use steps::refused_with;
 pub use steps::step_due;
 pub use steps::step_inside;
+pub use values::ask;
+pub use values::finish_at;
+pub use values::start_at;
+pub use values::start_auto;
+pub use values::take_step;
 
 // The places of a calendar's c on one side: a row of calendars::MOST_EVENTS for each job.
 const MOST_TERMS: usize = 324;

@@ -258,7 +258,7 @@ pub fn step_inside(p: Plan, c: Calendar, run: Run, st: Step) -> Answered
 }
 
 // A step's answer, with a plan that is accepted: 2,0 for a run, a calendar or a time outside its limits.
-fn step_accepted(p: Plan, c: Calendar, run: Run, st: Step) -> Answered
+pub fn step_accepted(p: Plan, c: Calendar, run: Run, st: Step) -> Answered
     requires { ⌜ Accepted p ⌝ }
     ensures { λ r. ⌜ r ≡ stepAccepted p c run st ⌝ }
 {
