@@ -8,17 +8,11 @@ mod values;
 
 use calendars::Terms;
 use clock::RunTime;
-pub use limits::is_calendar;
-pub use limits::is_run;
-pub use limits::is_step;
-pub use limits::is_time;
 pub use limits::jobs_done;
 use plan::MOST_JOBS;
 use plan::Refusal;
 pub use steps::new_run;
-pub use steps::refused_with;
 pub use steps::step_due;
-pub use steps::step_inside;
 pub use values::ask;
 pub use values::finish_at;
 pub use values::start_at;
