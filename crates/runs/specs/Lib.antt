@@ -18,3 +18,4 @@ pub mod LimitLaws
 pub mod InsideLaws
 pub mod KeepsLaws
 pub mod MadeLaws
+pub mod Unique
