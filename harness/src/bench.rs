@@ -1,9 +1,7 @@
-//! Times of one call, and ratios where the C export is linked: both run in this process, in turns.
-
-use std::time::Instant;
+//! The processor's times of one call, and ratios where the C export is linked: both run in this process, in turns.
 
 use crate::calendar;
-use crate::export::{Entry, ROOM};
+use crate::export::{thread_nanos, Entry, ROOM};
 use crate::generate::{settling, Dice};
 use crate::plan::{self, Bound, Event, Job, Plan};
 
@@ -35,11 +33,11 @@ fn spread(mut values: Vec<f64>) -> Spread {
 pub fn measure(task: &Task, entries: &[Entry]) -> (Vec<Spread>, Option<Spread>) {
     let mut out = vec![0; ROOM];
     let mut batch = |entry: Entry, calls: usize| {
-        let begin = Instant::now();
+        let begin = thread_nanos();
         for _ in 0..calls {
             std::hint::black_box(entry(std::hint::black_box(&task.text), &mut out));
         }
-        begin.elapsed().as_nanos()
+        thread_nanos() - begin
     };
     let calls: Vec<usize> = entries
         .iter()

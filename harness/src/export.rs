@@ -1,4 +1,4 @@
-//! The C export, and a painted stack to measure what a call needs. The one file with unsafe code.
+//! The C export, and what a call needs: the processor's time, and stack, on a painted one. The one file with unsafe code.
 //!
 //! With the feature `export` the archive that the variable GEKUMOSARI_ARCHIVE names is linked (build.rs).
 #![allow(unsafe_code)]
@@ -84,6 +84,27 @@ fn answer_in(entry: Entry, text: &[u8], room: usize) -> Result<Option<Vec<u8>>, 
     }
     lent.truncate(written);
     Ok((length >= 0).then_some(lent))
+}
+
+// ---- the processor's time
+
+#[repr(C)]
+struct Timespec {
+    seconds: i64,
+    nanos: i64,
+}
+
+extern "C" {
+    fn clock_gettime(clock: c_int, time: *mut Timespec) -> c_int;
+}
+
+/// Nanoseconds of the processor that this thread has used so far: what other processes take does not count. Linux only.
+pub fn thread_nanos() -> u128 {
+    const CLOCK_THREAD_CPUTIME_ID: c_int = 3;
+    let mut time = Timespec { seconds: 0, nanos: 0 };
+    // SAFETY: `time` is the struct of 64-bit Linux, and lives through the call.
+    assert_eq!(unsafe { clock_gettime(CLOCK_THREAD_CPUTIME_ID, &mut time) }, 0);
+    time.seconds as u128 * 1_000_000_000 + time.nanos as u128
 }
 
 // ---- the painted stack

@@ -147,7 +147,7 @@ fn draw(session: &str, answers: &str, window: &str) -> io::Result<bool> {
 fn bench() -> io::Result<bool> {
     let entries = entries();
     let names: Vec<&str> = entries.iter().map(|(name, _)| *name).collect();
-    println!("microseconds of one call, median (quartiles): {}", names.join(", then "));
+    println!("the processor's microseconds of one call, median (quartiles): {}", names.join(", then "));
     for row in rows(&entries) {
         let times: Vec<String> = row.times.iter().map(|time| shown(*time)).collect();
         let ratio = row.ratio.map_or(String::new(), |ratio| format!("   ratio {}", shown(ratio)));
@@ -182,9 +182,9 @@ const FIGURES: &str = "\
 # Figures
 
 `make figures` measures and writes this page. The export for C and the second implementation (harness/, Rust, release build) are linked into
-one process and called on the same texts, in turns, 41 batches of each. Times are microseconds of one call: the median, and the quartiles in
-parentheses. The ratio is the export's time to that of the second implementation, batch by batch. Stack is the bytes that a call needs below
-its caller, measured on a stack that is painted before the call.
+one process and called on the same texts, in turns, 41 batches of each. Times are the processor's microseconds of one call: the median, and the
+quartiles in parentheses. The ratio is the export's time to that of the second implementation, batch by batch. Stack is the bytes that a call
+needs below its caller, measured on a stack that is painted before the call.
 
 - read: a plan of nine jobs and 64 bounds that is refused at its last line, so that there is no verdict
 - verdict by jobs: a plan without steps; the call reads it, settles it and makes its calendar
