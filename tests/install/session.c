@@ -4,7 +4,7 @@
 #include <stdlib.h>
 #include <string.h>
 
-enum { TEXT = 65537, ROOM = 1 << 19, PAINT = 0xA5 };
+enum { TEXT = GEKUMOSARI_LONGEST_TEXT + 1, ROOM = GEKUMOSARI_MOST_BYTES, PAINT = 0xA5 };
 
 static uint8_t text[TEXT], out[ROOM];
 
