@@ -1,28 +1,26 @@
 -- The faulty line is a part of the text that was read. What a reading leaves, or refuses from its faulty line on, is the text from some place on (`Tail`): so it is of a line
--- (`line-tail`), of one reading after another (`next-tail`), of each group of a plan's lines, and of a plan (`planHead-tail`, `planAlone-tail`). So the line that begins at the
--- place which the reader tells is the faulty one (`faultyPart-refused`), that place is in the text (`planRead-place`), and of an accepted text the part is empty
--- (`faultyPart-accepted`).
-use mathlib.Core.Path.{_≡_, refl, sym, _∙_, ap}
+-- (`line-tail`), of one reading after another (`next-tail`), of each group of a plan's lines, and of a plan (`planHead-tail`, `planAlone-tail`). So the place which the
+-- reader tells is in the text (`planRead-place`), and the line that begins there is the faulty one (`partAt-read`). For the code: the line up to its LF (`line-inside`,
+-- `line-part`).
+use mathlib.Core.Path.{_≡_, refl, sym, _∙_, ap, subst}
 use mathlib.Core.Bool.{Bool, true, false, cond}
 use mathlib.Core.List.{List, [], _∷_, _++_, append-assoc, append-nil}
 use Prim.Native.Nat.{ℕ, zero, suc, _+_, _-_, _≤_}
 use native.Mathlib.Omega.{arith}
 use lib.Dec.{leb}
-use lib.ListN.{length, take, drop, length-append, take-append-drop}
+use lib.ListN.{length, take, drop, length-append, length-take, take-append-drop}
 use lib.Seq.{drop-append-seam}
 use Rattle.text.specs.Lines.{LF, before, has, lenTo}
-use Rattle.text.specs.Numbers.{isEmpty}
+use Rattle.text.specs.LineLaws.{lenTo-fits}
 use Rattle.text.specs.declared.Fault.the-variants as fault
 use Rattle.plan.specs.declared.Job.{Job}
 use Rattle.plan.specs.declared.Bound.{Bound}
 use Rattle.plan.specs.declared.Plan.{Plan}
-use Rattle.plan.specs.declared.Refusal.{Refusal}
-use Rattle.plan.specs.declared.PlanAnswer.the-variants.{Accepted, Refused}
 use Rattle.plan.specs.Limits.{longestText}
 use Rattle.plan.specs.Refusals.{tooLong}
 use Rattle.plan.specs.Reading.{Lined, value, bad, Reading, read, refused, Reader, next, lined, line, faultyPart}
 use Rattle.plan.specs.PlanRead.{jobLines, jobsAfter, boundsAfter, planLines, planHead, nothingAfter, planAlone}
-use Rattle.plan.specs.PlanAnswers.{planRead}
+use Rattle.plan.specs.PlanAnswers.{planRead, partAt}
 
 -- ---- a tail of a text
 
@@ -127,12 +125,17 @@ module _ (s : List ℕ) where
   planRead-place (read p t n) = omega arith
   planRead-place (refused x t) = omega arith
 
-  pub faultyPart-refused : (m : Reading Plan) {x : Refusal} → Tail s (leaves m) → planRead s m .answer ≡ Refused x → before LF (drop (planRead s m .at) s) ≡ faultyPart m
+  pub partAt-read : (m : Reading Plan) → Tail s (leaves m) → partAt s (planRead s m .at) (planRead s m .answer) ≡ faultyPart m
   unfolding planRead faultyPart
-  faultyPart-refused (read p t n) h e = absurd (let z : _≡_ {A = ℕ} 0 1 = cc in omega arith)
-  faultyPart-refused (refused x t) h e = ap (before LF) (tail-place h)
+  partAt-read (read p t n) h = refl
+  partAt-read (refused x t) h = ap (before LF) (tail-place h)
 
-  pub faultyPart-accepted : (m : Reading Plan) → planRead s m .answer ≡ Accepted → [] ≡ faultyPart m
-  unfolding planRead faultyPart
-  faultyPart-accepted (read p t n) e = refl
-  faultyPart-accepted (refused x t) e = absurd (let z : _≡_ {A = ℕ} 0 1 = cc in omega arith)
+-- ---- for the code
+
+-- the line up to its LF, of a rest that is handed on as a part of the text: the byte looked for is LF
+module _ (b : ℕ) (s t : List ℕ) {n : ℕ} (length-told : n ≡ lenTo b t) where
+  pub line-inside : n ≡ length (take n t)
+  line-inside = let fits : n ≤ length t = subst (λ (k : ℕ). k ≤ length t) (sym length-told) (lenTo-fits b t) in omega (arith, length-take n t)
+
+  pub line-part : b ≡ LF → t ≡ s → take n t ≡ before LF s
+  line-part e d = ap (λ (k : ℕ). take k t) (length-told ∙ ap (λ (a : ℕ). lenTo a t) e) ∙ ap (before LF) d

@@ -2,9 +2,11 @@
 use Prim.Native.Nat.{ℕ, _-_}
 use mathlib.Core.List.{List, []}
 use lib.IntN.{pos}
-use lib.ListN.{length}
+use lib.ListN.{length, drop}
+use Rattle.text.specs.Lines.{LF, before}
 use Rattle.plan.specs.declared.Faulty.{Faulty}
 use Rattle.plan.specs.declared.Plan.{Plan}
+use Rattle.plan.specs.declared.PlanAnswer.{PlanAnswer}
 use Rattle.plan.specs.declared.PlanAnswer.the-variants.{Accepted, Refused}
 use Rattle.plan.specs.declared.PlanRead.{PlanRead}
 use Rattle.plan.specs.Limits.{mostJobs, mostBounds}
@@ -31,3 +33,8 @@ refusedRead f = record { answer = Refused (f .refusal); plan = emptyPlan; at = f
 unfoldable pub planRead : List ℕ → Reading Plan → PlanRead
 planRead s (read p t n) = record { answer = Accepted; plan = p; at = length s - length t; line = n }
 planRead s (refused r t) = refusedRead (record { refusal = r; at = length s - length t })
+
+-- the part that comes with an answer and its place in the text s: 'A reader of the refusal also gets back the faulty line as a part of the text, without its LF'
+abbrev pub partAt : List ℕ → ℕ → PlanAnswer → List ℕ
+partAt s at Accepted = []
+partAt s at (Refused r) = before LF (drop at s)

@@ -1,6 +1,6 @@
 -- The laws by which the writer of a plan is right.
 -- A line that is a key and a number stands before what follows it (`keyed-append`), and so do the lines of jobs (`jobsText-more`) and of bounds (`boundsText-more`).
--- What writers did: a number as it is handed over (`stored-told`, `stored-narrow`), a count (`stored-count`), a line or the jobs, and the lines behind
+-- What writers did: a number as it is handed over (`stored-told`, `stored-ended`, `stored-narrow`), a count (`stored-count`), a line or the jobs, and the lines behind
 -- them (`stored-keyed`, `stored-jobs`).
 -- The texts of the first n places of a list, written one by one: at the beginning all are left (`left-places`); one turn (`left-next`); and where no place is left, the text was
 -- written (`left-stop`, `left-out`).
@@ -68,6 +68,11 @@ stored-told text f d = rw (toZ-ofZ f) at d
 pub stored-narrow : {out out′ : List ℕ} {at at′ : ℕ} (text : ℤ → List ℕ) {z : ℤ} → SFits w32 z
     → Stored out at (text (toZ w64 (ofZ w64 (toZ w32 (ofZ w32 z))))) out′ at′ → Stored out at (text z) out′ at′
 stored-narrow text f d = rw (toZ-ofZ f) at (stored-told text (cast-wide tt f) d)
+
+-- a number and the byte behind it, which is LF
+pub stored-ended : {out out′ : List ℕ} {at at′ : ℕ} (b : ℕ) {z : ℤ} → SFits w64 z
+    → Stored out at (decimal (toZ w64 (ofZ w64 z)) ++ (b ∷ [])) out′ at′ → b ≡ LF → Stored out at (decimal z ++ (LF ∷ [])) out′ at′
+stored-ended b f d e = rw e at (stored-told (λ (x : ℤ). decimal x ++ (b ∷ [])) f d)
 
 -- a count
 pub stored-count : {out out′ : List ℕ} {at at′ : ℕ} (n : ℕ) (s : List ℕ) → Stored out at (digits n ++ s) out′ at′ → Stored out at (decimal (pos n) ++ s) out′ at′

@@ -4,16 +4,19 @@ use crate::reader::read_head;
 use crate::reader::read_plan;
 ghost use mathlib.Core.Path.{_≡_};
 ghost use Prim.Native.Nat.{_≤_};
-ghost use lib.ListN.{length, drop};
-ghost use Rattle.text.specs.Lines.{LF, before};
+ghost use lib.ListN.{length};
 ghost use Rattle.plan.specs.Reading.{faultyPart};
 ghost use Rattle.plan.specs.PlanRead.{planHead, planAlone};
+ghost use Rattle.plan.specs.PlanAnswers.{partAt};
 
-// The line that begins at a place, without its LF.
-fn line_at(s: &[u8], at: usize) -> &[u8]
+// The part that comes with an answer and its place: the line there without its LF, or nothing.
+fn faulty_part(s: &[u8], answer: PlanAnswer, at: usize) -> &[u8]
     requires { ⌜ at ≤ length (now s) ⌝ }
-    ensures { λ r. ⌜ now r ≡ before LF (drop at (now (s .entry))) ⌝ }
+    ensures { λ r. ⌜ now r ≡ partAt (now (s .entry)) at answer ⌝ }
 {
+    let PlanAnswer::Refused(_) = answer else {
+        return &s[..0];
+    };
     let rest = &s[at..];
     let len = text::len_to(rest, b'\n');
     &rest[..len]
@@ -25,11 +28,8 @@ pub fn faulty_in_head(s: &[u8]) -> &[u8]
 {
     let r = read_head(s);
     let answer = r.answer;
-    let PlanAnswer::Refused(_) = answer else {
-        return &s[..0];
-    };
     let at = r.at;
-    line_at(s, at)
+    faulty_part(s, answer, at)
 }
 
 // The same of a text that is to be a plan and nothing else.
@@ -38,9 +38,6 @@ pub fn faulty_in_plan(s: &[u8]) -> &[u8]
 {
     let r = read_plan(s);
     let answer = r.answer;
-    let PlanAnswer::Refused(_) = answer else {
-        return &s[..0];
-    };
     let at = r.at;
-    line_at(s, at)
+    faulty_part(s, answer, at)
 }

@@ -1,11 +1,7 @@
 -- `put_line`: the key, and the number with its LF, by `stored-append`.
-use mathlib.Core.List.{[], _∷_, _++_}
 use native.Mathlib.Omega.{arith}
-use lib.IntN.{ℤ}
-use Rattle.text.specs.Lines.{LF}
 use Rattle.text.specs.LentLaws.{stored-append}
-use Rattle.text.specs.Numbers.{decimal}
-use Rattle.plan.specs.PlanWrittenLaws.{stored-told}
+use Rattle.plan.specs.PlanWrittenLaws.{stored-ended}
 use borrow.Author.Needs.{needs}
 use Rattle.plan.proofs.writer.put_line.Statement.{statement}
 use Rattle.plan.proofs.writer.put_line.Tie as tie
@@ -23,7 +19,7 @@ returns : tie.Need-returns
 returns c =
     let key = c .before .before .before .before .before .before .put-bytes .ensures in
     let number = c .before .before .put-ended-number .ensures in
-    (stored-append key (stored-told (λ (z : ℤ). decimal z ++ (LF ∷ [])) (c .before .before .before .before .before .before .before .before .before .before .fits .z) (number .0)), omega arith)
+    (stored-append key (stored-ended _ (c .before .before .before .before .before .before .before .before .before .before .fits .z) (number .0) (omega arith)), omega arith)
 
 pub put-line-spec : {M : Type 1} → statement M
 put-line-spec = tie.close (tie.spec put-bytes-requires put-ended-number-requires same-length returns)

@@ -1,5 +1,5 @@
 -- `write_plan`: by the measure of the text (`measured-none`, `measured-whole`).
-use mathlib.Core.Path.{refl}
+use native.Mathlib.Omega.{arith}
 use Rattle.plan.specs.WrittenLaws.{measured-none, measured-whole}
 use borrow.Author.Needs.{needs}
 use Rattle.plan.proofs.writer.write_plan.Statement.{statement}
@@ -19,7 +19,7 @@ same-length c = search needs
 
 returns : tie.Need-returns
 returns c =
-    let d = measured-none (c .before .before .before .put-plan .ensures .0) refl (c .if1 .taken) in
+    let d = measured-none (c .before .before .before .put-plan .ensures .0) (omega arith) (c .if1 .taken) in
     (d .answer, d .bytes)
 
 put-plan-requires-2 : tie.Need-put-plan-requires-2
@@ -30,7 +30,7 @@ same-length-2 c = search needs
 
 returns-2 : tie.Need-returns-2
 returns-2 c =
-    let d = measured-whole (c .before .before .before .before .before .before .before .put-plan .ensures .0) refl (c .before .before .before .before .if1 .left) (c .before .before .put-plan2 .ensures .0) in
+    let d = measured-whole (c .before .before .before .before .before .before .before .put-plan .ensures .0) (omega arith) (c .before .before .before .before .if1 .left) (c .before .before .put-plan2 .ensures .0) in
     (d .answer, d .bytes)
 
 pub write-plan-spec : {M : Type 1} → statement M
