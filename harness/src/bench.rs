@@ -79,12 +79,12 @@ fn reading() -> Task {
     }
     let mut text = plan::text(&plan);
     text.pop();
-    Task { name: "read 9 jobs, 64 bounds".into(), text }
+    Task { name: "read, jobs=9, bounds=64".into(), text }
 }
 
 fn verdict(jobs: usize) -> Task {
     let (settled, plan) = named(jobs, 3);
-    Task { name: format!("verdict, {jobs} jobs, {} bounds, settled={settled}", plan.bounds.len()), text: plan::text(&plan) }
+    Task { name: format!("verdict, jobs={jobs}, bounds={}, settled={settled}", plan.bounds.len()), text: plan::text(&plan) }
 }
 
 /// The first random plan of so many jobs with a good number of bounds that settles in this round, or else in the latest found.
@@ -118,7 +118,7 @@ fn rounds(rounds: i64) -> Task {
         bounds.push(Bound { a: start(true, at), b: start(false, at), c: 150_000 });
     }
     let plan = Plan { window: 100_000, rounds, last: 1000, jobs: (0..9).map(job).collect(), bounds };
-    Task { name: format!("verdict, 9 jobs, {rounds} rounds"), text: plan::text(&plan) }
+    Task { name: format!("verdict, jobs=9, rounds={rounds}"), text: plan::text(&plan) }
 }
 
 /// Plan P with short windows, asked twice before each start.
@@ -153,7 +153,7 @@ mod tests {
             if let Some(count) = task.name.strip_prefix("session, ").and_then(|name| name.strip_suffix(" steps")) {
                 assert_eq!(lines, count.parse::<usize>().unwrap());
                 assert!(!answers.contains("refused"), "{}", task.name);
-            } else if task.name.ends_with("rounds") {
+            } else if task.name.contains("rounds=") {
                 assert!(answers.starts_with("refused=5,"), "{}: {answers}", task.name);
             } else if task.name.starts_with("verdict") {
                 assert_eq!(answers, "", "{}", task.name);
