@@ -22,9 +22,6 @@ use Rattle.plan.specs.Refusals.{outsideLimits}
 use Rattle.plan.specs.Limits.{mostJobs}
 use Rattle.plan.specs.PlanWritten.{judgedPlan}
 use Rattle.plan.specs.PlanJudged.{judgedAnswer}
-use Rattle.plan.specs.Accepted.{Accepted}
-use Rattle.plan.specs.JudgedLines.{Placed}
-use Rattle.plan.specs.JudgedLaws.{judgedPlan-accepted}
 use Rattle.plan.specs.PlanRead.{noJob}
 use Rattle.calendars.specs.declared.Calendar.{Calendar}
 use Rattle.runs.specs.declared.Answer.the-variants.{Final}
@@ -144,15 +141,12 @@ judged-bad : (o : Option Refusal) (x : Refusal) → judgedAnswer o ≡ planAnswe
 judged-bad none x e = absurd (let z : _≡_ {A = ℕ} 0 1 = cc in omega arith)
 judged-bad (some y) x e = cc
 
-module _ (p : Plan) (a : PlanAnswer) (judged : a ≡ judgedAnswer (judgedPlan p)) where
-  pub judged-accepted : Placed p → a ≡ planAnswer.Accepted → Accepted p
-  judged-accepted l e = judgedPlan-accepted p l (judged-good _ (sym judged ∙ e))
+-- with the answer a to its plan
+module _ (p : Plan) (c : Calendar) (r : Run) (st : Step) (a : PlanAnswer) (judged : a ≡ judgedAnswer (judgedPlan p)) where
+  pub step-refused : (x : Refusal) → a ≡ planAnswer.Refused x → refusedWith r x ≡ step p c r st
+  unfolding step valuesRefused unlessRefused
+  step-refused x e = rw (← judged-bad (judgedPlan p) x (sym judged ∙ e))
 
-  module _ (c : Calendar) (r : Run) (st : Step) where
-    pub step-refused : (x : Refusal) → a ≡ planAnswer.Refused x → refusedWith r x ≡ step p c r st
-    unfolding step valuesRefused unlessRefused
-    step-refused x e = rw (← judged-bad (judgedPlan p) x (sym judged ∙ e))
-
-    pub step-accepted : a ≡ planAnswer.Accepted → stepAccepted p c r st ≡ step p c r st
-    unfolding step
-    step-accepted e = rw (judged-good (judgedPlan p) (sym judged ∙ e))
+  pub step-accepted : a ≡ planAnswer.Accepted → stepAccepted p c r st ≡ step p c r st
+  unfolding step
+  step-accepted e = rw (judged-good (judgedPlan p) (sym judged ∙ e))

@@ -1,7 +1,6 @@
--- `take_step` meets its contract: a plan that is judged good is accepted (`judged-accepted`), its arrays having their sizes as every plan's (`plan-fits`).
+-- `take_step` meets its contract, by the answer to its plan: `step-refused` and `step-accepted`.
 use mathlib.Core.Path.{_∙_}
-use Rattle.runs.specs.StepLaws.{judged-accepted, step-refused, step-accepted}
-use Rattle.plan.proofs.Told.{plan-fits}
+use Rattle.runs.specs.StepLaws.{step-refused, step-accepted}
 use borrow.Author.Needs.{needs}
 use Rattle.runs.proofs.values.take_step.Statement.{statement}
 use Rattle.runs.proofs.values.take_step.Tie as tie
@@ -13,10 +12,7 @@ enum-told : tie.Need-enum-told
 enum-told c = search needs
 
 step-accepted-requires : tie.Need-step-accepted-requires
-step-accepted-requires c κs =
-    let j = c .before .before in
-    let p = j .before .args .p in
-    judged-accepted p (j .judge-plan .result) (j .judge-plan .ensures) (plan-fits p _ (j .before .good .0 .1 .1) .placed) (c .enum-told .given .1)
+step-accepted-requires c κs = c .before .before .judge-plan .ensures .1 (c .enum-told .given .1)
 
 enum-known-judged : tie.Need-enum-known-judged
 enum-known-judged c = search needs
@@ -28,13 +24,14 @@ returns : tie.Need-returns
 returns c =
     let j = c .before .before .before in
     let a = j .before .args in
-    c .step-accepted .ensures ∙ step-accepted (a .p) (j .judge-plan .result) (j .judge-plan .ensures) (a .c) (a .run) (a .st) (c .before .enum-told .given .1)
+    c .step-accepted .ensures ∙ step-accepted (a .p) (a .c) (a .run) (a .st) (j .judge-plan .result) (j .judge-plan .ensures .0) (c .before .enum-told .given .1)
 
 returns-2 : tie.Need-returns-2
 returns-2 c =
     let j = c .before .before .before .before in
     let a = j .before .args in
-    c .refused-with .ensures ∙ step-refused (a .p) (j .judge-plan .result) (j .judge-plan .ensures) (a .c) (a .run) (a .st) _ (c .before .before .judged .given .1)
+    c .refused-with .ensures
+    ∙ step-refused (a .p) (a .c) (a .run) (a .st) (j .judge-plan .result) (j .judge-plan .ensures .0) _ (c .before .before .judged .given .1)
 
 pub take-step-spec : {M : Type 1} → statement M
 take-step-spec =
