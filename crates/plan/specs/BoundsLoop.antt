@@ -1,6 +1,6 @@
 -- The loop over the bounds' lines: `BoundsPassed` is what holds after i bounds, at the beginning (`BoundsPassed-start`), after one more (`-past`), at a fault (`-stop`) and
 -- at the end (`-end`). The numbers of the pairs given decide as the pairs do (`judgedBound-numbered`, `boundLined-numbered`).
-use mathlib.Core.Path.{_≡_, refl, sym, _∙_, ap}
+use mathlib.Core.Path.{_≡_, refl, sym, _∙_, ap, subst}
 use mathlib.Core.Bool.{Bool, true, false, not, cond, _&&_}
 use mathlib.Core.List.{List, [], _∷_, _++_, map}
 use mathlib.Core.Option.{Option, none, some}
@@ -96,11 +96,14 @@ module _ (s : List ℕ) (from number jobs bounds : ℕ) (bound : List Bound) (gi
   BoundsPassed-stop h f e = p .told ∙ rw (one-more h, sym same-line ∙ e)
 
   pub BoundsPassed-past : i < bounds → bounds ≤ mostBounds → (d : Bound) (to code : ℕ) → to ≤ length s → code ≡ pairOf d
-      → line (boundLined jobs (isWrongNumbered (take i given))) (drop at s) n ≡ read d (drop to s) (n + 1)
-      → BoundsPassed s from number jobs bounds (set bound i d) (set given i code) to (n + 1) (i + 1)
+      → line (boundLined jobs (isWrongNumbered (take i given))) (drop at s) n ≡ read d (drop to s) (n + 1) → {k : ℕ} → n + 1 ≡ k
+      → BoundsPassed s from number jobs bounds (set bound i d) (set given i code) to k (i + 1)
   unfolding boundsAfter next
-  BoundsPassed-past h m d to code g k e =
-      record {
+  BoundsPassed-past h m d to code g k e l =
+      subst
+      (λ (line : ℕ). BoundsPassed s from number jobs bounds (set bound i d) (set given i code) to line (i + 1))
+      l
+      (record {
         count = omega arith;
         place = g;
         numbered = omega (arith, p .numbered);
@@ -113,7 +116,7 @@ module _ (s : List ℕ) (from number jobs bounds : ℕ) (bound : List Bound) (gi
             ∙ sym (ap (map pairOf) taken ∙ map-last (take i bound) d);
         small = rw taken (All-more (λ d. Small (d .a) (d .b)) (take i bound) d (p .small) (record { a-small = omega (arith, accepted .a-most); b-small = omega (arith, accepted .b-most) }));
         told = p .told ∙ step ∙ ap (λ (done : List Bound). boundsAfter jobs done (bounds - (i + 1)) (drop to s) (n + 1)) (sym taken);
-      }
+      })
     where
       taken : take (i + 1) (set bound i d) ≡ take i bound ++ (d ∷ [])
       taken = rw (add-one i) (take-suc-set bound i d (omega (arith, p .array .places)))

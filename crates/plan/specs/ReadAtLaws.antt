@@ -25,7 +25,7 @@ use Rattle.plan.specs.declared.Bound.{Bound}
 use Rattle.plan.specs.declared.BoundRead.{BoundRead}
 use Rattle.plan.specs.declared.BoundRead.the-variants as boundRead
 use Rattle.plan.specs.ReadAt.{planRest, boundTold, boundPlace, boundFault, jobTold, jobPlace, jobFault, faultyIn, numberTold, numberPlace, numberFault}
-use Rattle.plan.specs.Limits.{longestWindow, longestRunning, latestDeadline}
+use Rattle.plan.specs.Limits.{longestWindow, mostJobs, longestRunning, latestDeadline}
 use Rattle.plan.specs.Refusals.{faultAt}
 use Rattle.plan.specs.Reading.{Lined, value, bad, Reading, read, refused, next, lined, line, numberLine}
 use Rattle.plan.specs.PlanRead.{jobLines, planLines}
@@ -138,9 +138,9 @@ module _ (s : List ℕ) where
       planLines-third e = rw (e₁, e₂, e)
 
       module _ {last : ℤ} {s₃ : List ℕ} (e₃ : numberLine (bytes "last=") (pos 1) (pos 1000000000) s₂ 3 ≡ read last s₃ 4) where
-        pub planLines-fourth : {x : Refusal} {t : List ℕ} → numberLine (bytes "jobs=") (pos 1) (pos 9) s₃ 4 ≡ refused x t → planLines s 1 ≡ refused x t
+        pub planLines-fourth : (most : ℕ) {x : Refusal} {t : List ℕ} → numberLine (bytes "jobs=") (pos 1) (pos most) s₃ 4 ≡ refused x t → most ≡ mostJobs → planLines s 1 ≡ refused x t
         unfolding planLines next
-        planLines-fourth e = rw (e₁, e₂, e₃, e)
+        planLines-fourth most {x} {t} e l = let d : numberLine (bytes "jobs=") (pos 1) (pos 9) s₃ 4 ≡ refused x t = rw l at e in rw (e₁, e₂, e₃, d)
 
         pub planLines-rest : {jobs : ℤ} {t : List ℕ} → numberLine (bytes "jobs=") (pos 1) (pos 9) s₃ 4 ≡ read jobs t 5
             → planLines s 1 ≡ planRest window (natAbs rounds) (natAbs last) (natAbs jobs) t 5

@@ -82,6 +82,7 @@ loop-again c =
     (bound-value-fits (r .result) (length s) (r .ensures .1) (d .read .given .1))
     (c .pair-number .ensures)
     (bound-value s (v .line + 1) (r .result) (r .ensures .0) (d .read .given .1))
+    (omega arith)
 
 returns-2 : tie.Need-returns-2 Inv-loop μ-loop
 returns-2 c =

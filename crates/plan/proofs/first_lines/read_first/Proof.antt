@@ -135,7 +135,7 @@ returns-4 c =
     let e3 = number-value s 4 (c .before .before .before .before .before .before .before .before .before .read-number-line3 .result) (c .before .before .before .before .before .before .before .before .before .read-number-line3 .ensures .0) (c .before .before .before .before .before .before .before .third .given .1) in
     subst (FirstTold s (planLines s 1)) (sym (c .no-first4 .ensures))
     (record {
-      told = planLines-fourth s e1 e2 e3 (number-faulty s 5 (c .before .before .before .before .read-number-line4 .result) (c .before .before .before .before .read-number-line4 .ensures .0) (c .before .before .enum-told4 .given .1) (c .before .number-fault4 .ensures));
+      told = planLines-fourth s e1 e2 e3 _ (number-faulty s 5 (c .before .before .before .before .read-number-line4 .result) (c .before .before .before .before .read-number-line4 .ensures .0) (c .before .before .enum-told4 .given .1) (c .before .number-fault4 .ensures)) (omega arith);
       place = number-faulty-fits (c .before .before .before .before .read-number-line4 .result) (length s) (c .before .before .before .before .read-number-line4 .ensures .1) (c .before .before .enum-told4 .given .1) (c .before .number-fault4 .ensures);
       few = omega arith;
     })

@@ -1,5 +1,7 @@
 -- `write_plan`: by the measure of the text (`measured-none`, `measured-whole`).
 use native.Mathlib.Omega.{arith}
+use denote.Ref.{now}
+use lib.ListN.{length, length-take}
 use Rattle.plan.specs.WrittenLaws.{measured-none, measured-whole}
 use borrow.Author.Needs.{needs}
 use Rattle.plan.proofs.writer.write_plan.Statement.{statement}
@@ -9,7 +11,7 @@ slice-relend-prefix-put-plan : tie.Need-slice-relend-prefix-put-plan
 slice-relend-prefix-put-plan c = search needs
 
 slice-aggregate-put-plan : tie.Need-slice-aggregate-put-plan
-slice-aggregate-put-plan c = search needs
+slice-aggregate-put-plan c = let out = now (c .before .before .args .out) in omega (arith, length-take (length out) out)
 
 put-plan-requires : tie.Need-put-plan-requires
 put-plan-requires c κs = search needs
