@@ -12,4 +12,5 @@ pub mod CalendarTextLaws
 pub mod RecordedLaws
 pub mod CalendarsLaws
 pub mod DecisionsLaws
+pub mod ValueLaws
 pub mod Unique

@@ -10,6 +10,7 @@ use Rattle.text.specs.Lent.{Stored, written}
 use Rattle.plan.specs.declared.Plan.{Plan}
 use Rattle.plan.specs.declared.Written.{Written}
 use Rattle.plan.specs.Written.{writtenAs}
+use Rattle.plan.specs.PlanWritten.{judgedPlan}
 use Rattle.bounds.specs.Events.{nodes}
 use Rattle.bounds.specs.Flat.{rowsOf}
 use Rattle.rounds.specs.declared.Verdict.{Verdict}
@@ -17,10 +18,12 @@ use Rattle.rounds.specs.Rounds.{outcome, verdict}
 use Rattle.calendars.specs.declared.Events.{Events}
 use Rattle.calendars.specs.declared.Calendar.{Calendar}
 use Rattle.calendars.specs.declared.Decision.{Decision}
+use Rattle.calendars.specs.declared.ValueVerdict.{ValueVerdict}
+use Rattle.calendars.specs.declared.ValueDecision.{ValueDecision}
 use Rattle.calendars.specs.Bits.{hasEvent, eventSet, withEvent, eventCount, nextEvent}
 use Rattle.calendars.specs.Calendars.{beforeStarts, calendarOf, noCalendar}
 use Rattle.calendars.specs.CalendarText.{calendarText, calendarOutput}
-use Rattle.calendars.specs.Decisions.{madeCalendar}
+use Rattle.calendars.specs.Decisions.{madeCalendar, valueVerdict, valueCalendar, valueText}
 
 -- ---- sets of events
 
@@ -70,3 +73,20 @@ answer-unique s out = only
 
 pub answer-bytes-unique : (s out : List ℕ) {o p : List ℕ} → o ≡ written (calendarOutput s) out → p ≡ written (calendarOutput s) out → o ≡ p
 answer-bytes-unique s out = only
+
+-- ---- a plan as a value
+
+pub decide-value-unique : (p : Plan) {r q : ValueDecision} → (r .verdict ≡ valueVerdict p (judgedPlan p)) × (r .calendar ≡ valueCalendar p (judgedPlan p))
+    → (q .verdict ≡ valueVerdict p (judgedPlan p)) × (q .calendar ≡ valueCalendar p (judgedPlan p))
+    → r ≡ q
+decide-value-unique p d e = ap₂ (λ (v : ValueVerdict) (c : Calendar). record { verdict = v; calendar = c }) (only (d .0) (e .0)) (only (d .1) (e .1))
+
+pub answer-value-unique : (p : Plan) (out : List ℕ) {r q : Written} → r ≡ writtenAs (valueText p (judgedPlan p)) out
+    → q ≡ writtenAs (valueText p (judgedPlan p)) out
+    → r ≡ q
+answer-value-unique p out = only
+
+pub answer-value-bytes-unique : (p : Plan) (out : List ℕ) {o u : List ℕ} → o ≡ written (valueText p (judgedPlan p)) out
+    → u ≡ written (valueText p (judgedPlan p)) out
+    → o ≡ u
+answer-value-bytes-unique p out = only

@@ -1,6 +1,7 @@
 // The calendar of a settled plan, and its text.
 
 use clock::WindowTime;
+use plan::Refusal;
 use rounds::Verdict;
 
 // A set of events before a start, as bits in the calendar's order: the previous window's events first, by job, s before f, then the
@@ -35,6 +36,18 @@ pub struct Decision {
     pub calendar: Calendar,
 }
 
+// The verdict on a plan that was handed over as a value: settled in a round, or refused, by 1, 2 or 3 with the line that its text would have, or by 4 or 5.
+pub enum ValueVerdict {
+    Settled(u64),
+    Refused(Refusal),
+}
+
+// What is decided of a plan that was handed over as a value; beside a refusal a calendar that says nothing.
+pub struct ValueDecision {
+    pub verdict: ValueVerdict,
+    pub calendar: Calendar,
+}
+
 // More bytes than the text of any calendar has.
 const MOST_BYTES: usize = 32_768;
 
@@ -50,10 +63,13 @@ mod decision_text;
 mod print;
 mod program;
 mod recorded;
+mod value;
 mod walk;
 
 pub use decided::decide;
 pub use print::put_calendar;
 pub use program::answer;
+pub use value::answer_value;
+pub use value::decide_value;
 pub use walk::calendar_of;
 pub use walk::empty_calendar;

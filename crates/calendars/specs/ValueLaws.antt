@@ -1,0 +1,86 @@
+-- The laws of a plan as a value. One that is judged good is accepted (`value-accepted`), and its verdict, its calendar and its text are the plan's (`value-verdict`,
+-- `value-calendar`, `value-text`); one that is refused has its refusal, no calendar and the refusal's line (`refused-verdict`, `refused-calendar`, `refused-text`). A verdict
+-- is told case by case (`told-settled`, `told-refused`, `told-unsettled`).
+
+use Prim.Native.Nat.{ℕ}
+use mathlib.Core.Path.{_≡_, refl, sym, ap, _∙_}
+use mathlib.Core.List.{List}
+use mathlib.Core.Option.{Option, none, some}
+use native.Mathlib.Omega.{arith}
+use Rattle.plan.specs.declared.Plan.{Plan}
+use Rattle.plan.specs.declared.PlanAnswer.{PlanAnswer}
+use Rattle.plan.specs.declared.PlanAnswer.the-variants as planAnswer
+use Rattle.plan.specs.declared.Refusal.{Refusal}
+use Rattle.plan.specs.declared.Refusal.the-variants as refusal
+use Rattle.plan.specs.Refusals.{refusedLine}
+use Rattle.plan.specs.PlanWritten.{judgedPlan}
+use Rattle.plan.specs.PlanJudged.{judgedAnswer}
+use Rattle.plan.specs.JudgedLines.{Placed}
+use Rattle.plan.specs.JudgedLaws.{judgedPlan-accepted}
+use Rattle.plan.specs.Accepted.{Accepted}
+use Rattle.rounds.specs.declared.Verdict.{Verdict}
+use Rattle.rounds.specs.declared.Verdict.the-variants.{Settled, NoStrategy, Unsettled}
+use Rattle.rounds.specs.Rounds.{outcome, verdict}
+use Rattle.calendars.specs.declared.Calendar.{Calendar}
+use Rattle.calendars.specs.declared.ValueVerdict.{ValueVerdict}
+use Rattle.calendars.specs.declared.ValueVerdict.the-variants as told
+use Rattle.calendars.specs.Calendars.{noCalendar}
+use Rattle.calendars.specs.CalendarText.{outcomeText}
+use Rattle.calendars.specs.Decisions.{madeCalendar, verdictTold, valueVerdict, valueCalendar, valueText}
+
+module _ (v : Verdict) where
+  pub told-settled : (m : ℕ) → v ≡ Settled m → told.Settled m ≡ verdictTold v
+  unfolding verdictTold
+  told-settled m e = sym (ap verdictTold e)
+
+  pub told-refused : (K : ℕ) → v ≡ NoStrategy K → told.Refused (refusal.NoStrategy K) ≡ verdictTold v
+  unfolding verdictTold
+  told-refused K e = sym (ap verdictTold e)
+
+  pub told-unsettled : (rounds : ℕ) → v ≡ Unsettled rounds → told.Refused (refusal.Unsettled rounds) ≡ verdictTold v
+  unfolding verdictTold
+  told-unsettled rounds e = sym (ap verdictTold e)
+
+module _ (p : Plan) (a : PlanAnswer) (d : a ≡ judgedAnswer (judgedPlan p)) where
+  judged-good : a ≡ planAnswer.Accepted → judgedPlan p ≡ none
+  judged-good e = of (judgedPlan p) (sym e ∙ d)
+    where
+      of : (o : Option Refusal) → planAnswer.Accepted ≡ judgedAnswer o → o ≡ none
+      of none f = refl
+      of (some x) f = absurd (let z : _≡_ {A = ℕ} 0 1 = cc in omega arith)
+
+  judged-bad : (x : Refusal) → a ≡ planAnswer.Refused x → judgedPlan p ≡ some x
+  judged-bad x e = of (judgedPlan p) (sym e ∙ d)
+    where
+      of : (o : Option Refusal) → planAnswer.Refused x ≡ judgedAnswer o → o ≡ some x
+      of none f = absurd (let z : _≡_ {A = ℕ} 0 1 = cc in omega arith)
+      of (some y) f = let same : y ≡ x = cc in ap some same
+
+  module _ (e : a ≡ planAnswer.Accepted) where
+    pub value-accepted : Placed p → Accepted p
+    value-accepted l = judgedPlan-accepted p l (judged-good e)
+
+    pub value-verdict : (v : Verdict) → v ≡ verdict p → verdictTold v ≡ valueVerdict p (judgedPlan p)
+    unfolding valueVerdict
+    value-verdict v f = ap verdictTold f ∙ sym (ap (valueVerdict p) (judged-good e))
+
+    pub value-calendar : (c : Calendar) → c ≡ madeCalendar p (outcome p) → c ≡ valueCalendar p (judgedPlan p)
+    unfolding valueCalendar
+    value-calendar c f = f ∙ sym (ap (valueCalendar p) (judged-good e))
+
+    pub value-text : outcomeText p (outcome p) ≡ valueText p (judgedPlan p)
+    unfolding valueText
+    value-text = sym (ap (valueText p) (judged-good e))
+
+  module _ (x : Refusal) (e : a ≡ planAnswer.Refused x) where
+    pub refused-verdict : told.Refused x ≡ valueVerdict p (judgedPlan p)
+    unfolding valueVerdict
+    refused-verdict = sym (ap (valueVerdict p) (judged-bad x e))
+
+    pub refused-calendar : noCalendar p ≡ valueCalendar p (judgedPlan p)
+    unfolding valueCalendar
+    refused-calendar = sym (ap (valueCalendar p) (judged-bad x e))
+
+    pub refused-text : refusedLine x ≡ valueText p (judgedPlan p)
+    unfolding valueText
+    refused-text = sym (ap (valueText p) (judged-bad x e))

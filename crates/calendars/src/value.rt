@@ -1,0 +1,69 @@
+// A plan handed over as a value: what is decided of it, and the text that tells it.
+use crate::ValueDecision;
+use crate::ValueVerdict;
+use crate::decided::decide;
+use crate::decision_text::write_decision;
+use crate::walk::empty_calendar;
+use plan::Plan;
+use plan::PlanAnswer;
+use plan::Refusal;
+use plan::Written;
+use plan::judge_plan;
+use plan::write_refused;
+use rounds::Verdict;
+ghost use mathlib.Core.Path.{_≡_};
+ghost use Rattle.text.specs.Lent.{written};
+ghost use Rattle.plan.specs.PlanWritten.{judgedPlan};
+ghost use Rattle.plan.specs.Written.{writtenAs};
+ghost use Rattle.calendars.specs.Decisions.{verdictTold, valueVerdict, valueCalendar, valueText};
+
+// A verdict as it is told of a value: no strategy is refused by 4, and unsettled by 5.
+fn told_verdict(v: Verdict) -> ValueVerdict
+    ensures { λ r. ⌜ r ≡ verdictTold v ⌝ }
+{
+    match v {
+        Verdict::Settled(m) => ValueVerdict::Settled(m),
+        Verdict::NoStrategy(windows) => ValueVerdict::Refused(Refusal::NoStrategy(windows)),
+        Verdict::Unsettled(rounds) => ValueVerdict::Refused(Refusal::Unsettled(rounds)),
+    }
+}
+
+// The verdict on a plan and its calendar. The plan is judged first, as its text would be.
+pub fn decide_value(p: Plan) -> ValueDecision
+    ensures { λ r. ⌜ r .verdict ≡ valueVerdict p (judgedPlan p) ⌝ }
+    ensures { λ r. ⌜ r .calendar ≡ valueCalendar p (judgedPlan p) ⌝ }
+{
+    let judged = judge_plan(p);
+    match judged {
+        PlanAnswer::Accepted => {
+            let decision = decide(p);
+            let decided = decision.verdict;
+            let calendar = decision.calendar;
+            let verdict = told_verdict(decided);
+            ValueDecision { verdict, calendar }
+        }
+        PlanAnswer::Refused(x) => {
+            let calendar = empty_calendar();
+            let verdict = ValueVerdict::Refused(x);
+            ValueDecision { verdict, calendar }
+        }
+    }
+}
+
+// The text that tells what is decided of a plan: its calendar, or the line of its refusal; 12 and not one byte changed, where it has no room.
+pub fn answer_value(p: Plan, out: &mut [u8]) -> Written
+    ensures { λ r. ⌜ r ≡ writtenAs (valueText p (judgedPlan p)) (now (out .entry)) ⌝ }
+    ensures { λ _. ⌜ now (out .exit) ≡ written (valueText p (judgedPlan p)) (now (out .entry)) ⌝ }
+{
+    let judged = judge_plan(p);
+    match judged {
+        PlanAnswer::Accepted => {
+            let jobs = p.jobs;
+            let decision = decide(p);
+            let verdict = decision.verdict;
+            let calendar = decision.calendar;
+            write_decision(out, jobs, verdict, calendar)
+        }
+        PlanAnswer::Refused(x) => write_refused(out, x),
+    }
+}
