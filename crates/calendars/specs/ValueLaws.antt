@@ -14,9 +14,9 @@ use Rattle.plan.specs.declared.Refusal.{Refusal}
 use Rattle.plan.specs.declared.Refusal.the-variants as refusal
 use Rattle.plan.specs.Refusals.{refusedLine}
 use Rattle.plan.specs.PlanWritten.{judgedPlan}
-use Rattle.plan.specs.PlanJudged.{judgedAnswer}
-use Rattle.plan.specs.JudgedLines.{Placed}
-use Rattle.plan.specs.JudgedLaws.{judgedPlan-accepted}
+use Rattle.values.specs.PlanJudged.{judgedAnswer}
+use Rattle.values.specs.JudgedLines.{Placed}
+use Rattle.values.specs.JudgedLaws.{judgedPlan-accepted}
 use Rattle.plan.specs.Accepted.{Accepted}
 use Rattle.rounds.specs.declared.Verdict.{Verdict}
 use Rattle.rounds.specs.declared.Verdict.the-variants.{Settled, NoStrategy, Unsettled}

@@ -1,3 +1,2 @@
 -- The laws that several proofs cite.
 pub mod Widths
-pub mod Told

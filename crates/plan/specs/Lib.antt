@@ -12,11 +12,9 @@ pub mod Pairs
 pub mod BoundNames
 pub mod PlanAnswers
 pub mod ReadAt
-pub mod PlanJudged
 pub mod Accepted
 -- ---- laws
 pub mod WrittenLaws
-pub mod PlanWrittenLaws
 pub mod EventNameLaws
 pub mod ListLaws
 pub mod PairLaws
@@ -27,9 +25,5 @@ pub mod ReadAtLaws
 pub mod JobsLoop
 pub mod BoundsLoop
 pub mod HeadLaws
-pub mod JudgedLines
-pub mod JudgedLength
-pub mod JudgedLaws
-pub mod JudgedWays
 pub mod PartLaws
 pub mod Unique

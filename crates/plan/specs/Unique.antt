@@ -7,8 +7,6 @@ use Rattle.text.specs.Lent.{written}
 use Rattle.text.specs.Unique.{only}
 use Rattle.text.specs.declared.Fault.{Fault}
 use Rattle.plan.specs.declared.NameRead.{NameRead}
-use Rattle.plan.specs.declared.Plan.{Plan}
-use Rattle.plan.specs.declared.PlanAnswer.{PlanAnswer}
 use Rattle.plan.specs.declared.PlanRead.{PlanRead}
 use Rattle.plan.specs.declared.Refusal.{Refusal}
 use Rattle.plan.specs.declared.Written.{Written}
@@ -18,8 +16,6 @@ use Rattle.plan.specs.Reading.{faultyPart}
 use Rattle.plan.specs.PlanRead.{planHead, planAlone}
 use Rattle.plan.specs.PlanAnswers.{planRead}
 use Rattle.plan.specs.Written.{writtenAs}
-use Rattle.plan.specs.PlanJudged.{judgedAnswer}
-use Rattle.plan.specs.PlanWritten.{planText, judgedPlan}
 
 pub number-unique : (r : Refusal) {n m : ℕ} → n ≡ number r → m ≡ number r → n ≡ m
 number-unique r = only
@@ -48,17 +44,8 @@ faulty-in-head-unique s = only
 pub faulty-in-plan-unique : (s : List ℕ) {r q : List ℕ} → r ≡ faultyPart (planAlone s) → q ≡ faultyPart (planAlone s) → r ≡ q
 faulty-in-plan-unique s = only
 
-pub write-plan-unique : (p : Plan) (out : List ℕ) {r q : Written} → r ≡ writtenAs (planText p) out → q ≡ writtenAs (planText p) out → r ≡ q
-write-plan-unique p out = only
-
-pub write-plan-bytes-unique : (p : Plan) (out : List ℕ) {o u : List ℕ} → o ≡ written (planText p) out → u ≡ written (planText p) out → o ≡ u
-write-plan-bytes-unique p out = only
-
 pub write-refused-unique : (x : Refusal) (out : List ℕ) {r q : Written} → r ≡ writtenAs (refusedLine x) out → q ≡ writtenAs (refusedLine x) out → r ≡ q
 write-refused-unique x out = only
 
 pub write-refused-bytes-unique : (x : Refusal) (out : List ℕ) {o u : List ℕ} → o ≡ written (refusedLine x) out → u ≡ written (refusedLine x) out → o ≡ u
 write-refused-bytes-unique x out = only
-
-pub judge-plan-unique : (p : Plan) {r q : PlanAnswer} → r ≡ judgedAnswer (judgedPlan p) → q ≡ judgedAnswer (judgedPlan p) → r ≡ q
-judge-plan-unique p = only

@@ -185,27 +185,24 @@ pub struct PlanRead {
 
 mod bound_at;
 mod bound_line;
-mod bound_values;
 mod bounds_lines;
 mod first_lines;
 mod job_lines;
-mod job_values;
 mod jobs_lines;
 mod names;
 mod narrow;
 mod number_line;
 mod pairs;
 mod parts;
-mod plan_value;
 mod reader;
 mod refusals;
 mod refused;
-mod writer;
 
+pub use bound_line::judge_bound;
 pub use names::event_name;
+pub use pairs::pair_number;
 pub use parts::faulty_in_head;
 pub use parts::faulty_in_plan;
-pub use plan_value::judge_plan;
 pub use reader::read_head;
 pub use reader::read_plan;
 pub use refusals::ends;
@@ -214,4 +211,3 @@ pub use refusals::number;
 pub use refusals::value;
 pub use refused::put_refused;
 pub use refused::write_refused;
-pub use writer::write_plan;

@@ -19,7 +19,7 @@ ghost use Rattle.runs.specs.declared.Step.the-variants.{Ask, Start, Fini
 pub fn take_step(p: Plan, c: Calendar, run: Run, st: Step) -> Answered
     ensures { λ r. ⌜ r ≡ steps.step p c run st ⌝ }
 {
-    let judged = plan::judge_plan(p);
+    let judged = values::judge_plan(p);
     match judged {
         PlanAnswer::Accepted => step_accepted(p, c, run, st),
         PlanAnswer::Refused(x) => refused_with(run, x),

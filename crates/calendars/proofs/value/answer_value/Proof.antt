@@ -1,7 +1,7 @@
 -- `answer_value`: a plan that is judged good is decided (`value-accepted`, `text-of-outcome`, `value-text`), and one that is refused has its line (`refused-text`).
 use mathlib.Core.Path.{_∙_}
 use denote.Ref.{now}
-use Rattle.plan.specs.JudgedLines.{Placed}
+use Rattle.values.specs.JudgedLines.{Placed}
 use Rattle.plan.specs.WrittenLaws.{wrote-as}
 use Rattle.plan.proofs.Told.{plan-fits}
 use Rattle.calendars.specs.DecisionsLaws.{text-of-outcome}

@@ -1,7 +1,7 @@
 -- `decide_value`: a plan that is judged good is decided (`value-accepted`, `value-verdict`, `value-calendar`), and one that is refused has its refusal (`refused-verdict`,
 -- `refused-calendar`).
 use mathlib.Core.Path.{_∙_}
-use Rattle.plan.specs.JudgedLines.{Placed}
+use Rattle.values.specs.JudgedLines.{Placed}
 use Rattle.plan.proofs.Told.{plan-fits}
 use Rattle.calendars.specs.ValueLaws.{value-accepted, value-verdict, value-calendar, refused-verdict, refused-calendar}
 use borrow.Author.Needs.{needs}

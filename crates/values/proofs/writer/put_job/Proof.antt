@@ -1,0 +1,94 @@
+-- `put_job`: four lines in a row, by `stored-keyed-narrow`.
+use mathlib.Core.List.{[]}
+use native.Mathlib.Omega.{arith}
+use lib.IntN.{ℤ}
+use mir.Syntax.{w32}
+use Rattle.whole.specs.SplitLaws.{cast-wide, told-fits}
+use Rattle.text.specs.Bytes.{bytes}
+use Rattle.plan.specs.PlanWritten.{keyed, jobsText}
+use Rattle.values.specs.PlanWrittenLaws.{stored-keyed-narrow, stored-narrow}
+use borrow.Author.Needs.{needs}
+use Rattle.values.proofs.writer.put_job.Statement.{statement}
+use Rattle.values.proofs.writer.put_job.Tie as tie
+
+cast-min : tie.Need-cast-min
+cast-min c = cast-wide tt (told-fits w32 (c .before .before .before .args .j .min) (c .struct-told .given .0 .1))
+
+cast-max : tie.Need-cast-max
+cast-max c = cast-wide tt (told-fits w32 (c .before .before .before .before .before .args .j .max) (c .struct-told2 .given .1 .0 .1))
+
+cast-release : tie.Need-cast-release
+cast-release c = cast-wide tt (told-fits w32 (c .before .before .before .before .before .before .before .args .j .release) (c .struct-told3 .given .1 .1 .0 .1))
+
+cast-deadline : tie.Need-cast-deadline
+cast-deadline c = cast-wide tt (told-fits w32 (c .before .before .before .before .before .before .before .before .before .args .j .deadline) (c .struct-told4 .given .1 .1 .1 .0 .1))
+
+slice-aggregate-put-line : tie.Need-slice-aggregate-put-line
+slice-aggregate-put-line c = search needs
+
+put-line-requires : tie.Need-put-line-requires
+put-line-requires c κs = (omega arith, omega arith)
+
+slice-aggregate-put-line-2 : tie.Need-slice-aggregate-put-line-2
+slice-aggregate-put-line-2 c = search needs
+
+put-line-requires-2 : tie.Need-put-line-requires-2
+put-line-requires-2 c κs = (omega arith, omega arith)
+
+slice-aggregate-put-line-3 : tie.Need-slice-aggregate-put-line-3
+slice-aggregate-put-line-3 c = search needs
+
+put-line-requires-3 : tie.Need-put-line-requires-3
+put-line-requires-3 c κs = (omega arith, omega arith)
+
+slice-aggregate-put-line-4 : tie.Need-slice-aggregate-put-line-4
+slice-aggregate-put-line-4 c = search needs
+
+put-line-requires-4 : tie.Need-put-line-requires-4
+put-line-requires-4 c κs = (omega (arith, c .before .before .before .before .put-line3 .ensures .1, c .before .before .before .before .before .before .before .before .before .put-line2 .ensures .1, c .before .before .before .before .before .before .before .before .before .before .before .before .before .before .put-line .ensures .1, c .before .before .before .before .before .before .before .before .before .before .before .before .before .before .before .before .before .before .before .before .before .before .before .before .before .before .pre), omega arith)
+
+same-length : tie.Need-same-length
+same-length c = search needs
+
+returns : tie.Need-returns
+unfolding bytes jobsText
+returns c =
+    let j = c .before .before .before .before .before .before .before .before .before .before .before .before .before .before .before .before .before .before .before .before .before .before .before .before .before .before .before .before .before .args .j in
+    let first = c .before .before .before .before .before .before .before .before .before .before .before .before .before .before .before .before .before .put-line .ensures in
+    let second = c .before .before .before .before .before .before .before .before .before .before .before .before .put-line2 .ensures in
+    let third = c .before .before .before .before .before .before .before .put-line3 .ensures in
+    let fourth = c .before .before .put-line4 .ensures in (
+      stored-keyed-narrow
+          (bytes "min=")
+          (told-fits w32 (j .min) (c .before .before .before .before .before .before .before .before .before .before .before .before .before .before .before .before .before .before .before .before .before .before .before .before .before .before .struct-told .given .0 .1))
+          (first .0)
+          (stored-keyed-narrow
+          (bytes "max=")
+          (told-fits w32 (j .max) (c .before .before .before .before .before .before .before .before .before .before .before .before .before .before .before .before .before .before .before .before .before .before .before .before .struct-told2 .given .1 .0 .1))
+          (second .0)
+          (stored-keyed-narrow
+          (bytes "release=")
+          (told-fits w32 (j .release) (c .before .before .before .before .before .before .before .before .before .before .before .before .before .before .before .before .before .before .before .before .before .before .struct-told3 .given .1 .1 .0 .1))
+          (third .0)
+          (stored-narrow (λ (z : ℤ). keyed (bytes "deadline=") z []) (told-fits w32 (j .deadline) (c .before .before .before .before .before .before .before .before .before .before .before .before .before .before .before .before .before .before .before .before .struct-told4 .given .1 .1 .1 .0 .1)) (fourth .0)))),
+      omega (arith, first .1, second .1, third .1, fourth .1),
+    )
+
+pub put-job-spec : {M : Type 1} → statement M
+put-job-spec =
+    tie.close
+    (tie.spec
+    cast-min
+    cast-max
+    cast-release
+    cast-deadline
+    slice-aggregate-put-line
+    put-line-requires
+    slice-aggregate-put-line-2
+    put-line-requires-2
+    slice-aggregate-put-line-3
+    put-line-requires-3
+    slice-aggregate-put-line-4
+    put-line-requires-4
+    same-length
+    returns)

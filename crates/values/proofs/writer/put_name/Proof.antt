@@ -1,0 +1,52 @@
+-- `put_name`: the letter, the kind and the job in a row, by `stored-name`.
+use native.Mathlib.Omega.{arith}
+use Rattle.text.specs.LentLaws.{stored-append}
+use Rattle.text.specs.DigitLaws.{digits-short}
+use Rattle.values.specs.PlanWrittenLaws.{stored-name}
+use borrow.Author.Needs.{needs}
+use Rattle.values.proofs.writer.put_name.Statement.{statement}
+use Rattle.values.proofs.writer.put_name.Tie as tie
+
+cast-job : tie.Need-cast-job
+cast-job c = search needs
+
+letter-byte-requires : tie.Need-letter-byte-requires
+letter-byte-requires c κs = search needs
+
+kind-byte-requires : tie.Need-kind-byte-requires
+kind-byte-requires c κs = search needs
+
+put-byte-requires : tie.Need-put-byte-requires
+put-byte-requires c κs = omega arith
+
+put-byte-requires-2 : tie.Need-put-byte-requires-2
+put-byte-requires-2 c κs = omega arith
+
+put-count-requires : tie.Need-put-count-requires
+put-count-requires c κs = omega arith
+
+same-length : tie.Need-same-length
+same-length c = search needs
+
+returns : tie.Need-returns
+returns c =
+    let e = c .before .before .before .before .before .before .before .before .before .before .before .before .before .before .before .before .args .e in
+    let letter = c .before .before .before .before .before .before .before .before .before .before .put-byte .ensures in
+    let kind = c .before .before .before .before .before .before .put-byte2 .ensures in
+    let job = c .before .before .put-count .ensures in (
+      stored-name e (c .before .before .before .before .before .before .before .before .before .before .before .before .before .letter-byte .ensures) (c .before .before .before .before .before .before .before .before .before .before .before .before .kind-byte .ensures) letter kind job,
+      omega (arith, digits-short (e .job) (omega arith)),
+    )
+
+pub put-name-spec : {M : Type 1} → statement M
+put-name-spec =
+    tie.close
+    (tie.spec
+    cast-job
+    letter-byte-requires
+    kind-byte-requires
+    put-byte-requires
+    put-byte-requires-2
+    put-count-requires
+    same-length
+    returns)

@@ -1,0 +1,9 @@
+// A plan as a value: written out as its text, and judged as its text would be.
+
+mod bound_values;
+mod job_values;
+mod plan_value;
+mod writer;
+
+pub use plan_value::judge_plan;
+pub use writer::write_plan;

@@ -1,0 +1,45 @@
+// A plan handed over as a value, judged as its text would be.
+use crate::bound_values::judge_bounds;
+use crate::job_values::judge_count;
+use crate::job_values::judge_jobs;
+use crate::job_values::judge_number;
+use plan::Plan;
+use plan::PlanAnswer;
+ghost use mathlib.Core.Path.{_≡_};
+ghost use Rattle.plan.specs.declared.PlanAnswer.the-variants as answer;
+ghost use Rattle.plan.specs.Accepted.{Accepted};
+ghost use Rattle.values.specs.PlanJudged.{judgedAnswer};
+ghost use Rattle.plan.specs.PlanWritten.{judgedPlan};
+
+// Whether the plan's text would be read, and then the plan is accepted; or the refusal of its first faulty line. The text is not written for it.
+pub fn judge_plan(p: Plan) -> PlanAnswer
+    ensures { λ r. ⌜ r ≡ judgedAnswer (judgedPlan p) ⌝ }
+    ensures { λ r. ⌜ (r ≡ answer.Accepted → Accepted p) ⌝ }
+{
+    let window = judge_number(p.window, 1, 86_400_000, 1);
+    let PlanAnswer::Accepted = window else {
+        return window;
+    };
+    let rounds = judge_count(p.rounds, 1, 1_000, 2);
+    let PlanAnswer::Accepted = rounds else {
+        return rounds;
+    };
+    let last = judge_count(p.last, 1, 1_000_000_000, 3);
+    let PlanAnswer::Accepted = last else {
+        return last;
+    };
+    let jobs = judge_count(p.jobs as u64, 1, 9, 4);
+    let PlanAnswer::Accepted = jobs else {
+        return jobs;
+    };
+    let all_jobs = judge_jobs(p);
+    let PlanAnswer::Accepted = all_jobs else {
+        return all_jobs;
+    };
+    let line = 5 + 4 * p.jobs;
+    let bounds = judge_count(p.bounds as u64, 0, 64, line);
+    let PlanAnswer::Accepted = bounds else {
+        return bounds;
+    };
+    judge_bounds(p)
+}
