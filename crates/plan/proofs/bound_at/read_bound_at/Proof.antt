@@ -24,7 +24,7 @@ part-rest-end : tie.Need-part-rest-end
 part-rest-end c = search needs
 
 len-to-requires : tie.Need-len-to-requires
-len-to-requires c κs = search needs
+len-to-requires c κs = tt
 
 returns : tie.Need-returns
 returns c =
@@ -53,7 +53,7 @@ enum-known-found-2 : tie.Need-enum-known-found-2
 enum-known-found-2 c = search needs
 
 fault-at-requires : tie.Need-fault-at-requires
-fault-at-requires c κs = search needs
+fault-at-requires c κs = tt
 
 returns-2 : tie.Need-returns-2
 unfolding linedBound

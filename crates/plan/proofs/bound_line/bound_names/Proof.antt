@@ -1,5 +1,5 @@
 -- `bound_names`: the key, a name, and a name; `namesIn-other` without the key, `namesIn-key` with it. A name ends within the line (`nameTo-fits`).
-use mathlib.Core.Path.{_≡_, sym, _∙_, ap}
+use mathlib.Core.Path.{refl, _≡_, sym, _∙_, ap}
 use mathlib.Core.Bool.{true}
 use borrow.Author.Tests.{not-true, not-false}
 use denote.Ref.{now}
@@ -13,10 +13,10 @@ use Rattle.plan.proofs.bound_line.bound_names.Statement.{statement}
 use Rattle.plan.proofs.bound_line.bound_names.Tie as tie
 
 slice-aggregate-has-key : tie.Need-slice-aggregate-has-key
-slice-aggregate-has-key c = search needs
+slice-aggregate-has-key c = refl
 
 has-key-requires : tie.Need-has-key-requires
-has-key-requires c κs = search needs
+has-key-requires c κs = tt
 
 returns : tie.Need-returns
 unfolding bytes

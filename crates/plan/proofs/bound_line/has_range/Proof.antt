@@ -3,18 +3,17 @@ use mathlib.Core.Path.{sym, _∙_}
 use mir.Syntax.{w32}
 use mir.Facts.{toZ-ofZ}
 use borrow.Author.Tests.{not-true, not-false}
-use borrow.Author.Needs.{needs}
 use Rattle.plan.proofs.bound_line.has_range.Statement.{statement}
 use Rattle.plan.proofs.bound_line.has_range.Tie as tie
 
 is-job-requires : tie.Need-is-job-requires
-is-job-requires c κs = search needs
+is-job-requires c κs = tt
 
 returns : tie.Need-returns
 returns c = rw (sym (c .before .is-job .ensures) ∙ not-true (c .before .is-job .result) (c .if1 .taken))
 
 is-job-requires-2 : tie.Need-is-job-requires-2
-is-job-requires-2 c κs = search needs
+is-job-requires-2 c κs = tt
 
 returns-2 : tie.Need-returns-2
 returns-2 c =
@@ -25,7 +24,7 @@ returns-2 c =
     )
 
 is-c-requires : tie.Need-is-c-requires
-is-c-requires c κs = search needs
+is-c-requires c κs = tt
 
 returns-3 : tie.Need-returns-3
 returns-3 c =

@@ -10,7 +10,7 @@ use Rattle.plan.proofs.bound_line.judge_bound.Statement.{statement}
 use Rattle.plan.proofs.bound_line.judge_bound.Tie as tie
 
 has-range-requires : tie.Need-has-range-requires
-has-range-requires c κs = search needs
+has-range-requires c κs = tt
 
 returns : tie.Need-returns
 returns c =

@@ -20,7 +20,7 @@ part-s-end : tie.Need-part-s-end
 part-s-end c = search needs
 
 len-to-requires : tie.Need-len-to-requires
-len-to-requires c κs = search needs
+len-to-requires c κs = tt
 
 returns : tie.Need-returns
 returns c =
@@ -32,7 +32,7 @@ slice-aggregate-event-name : tie.Need-slice-aggregate-event-name
 slice-aggregate-event-name c = simp (length-take, length-drop) (omega arith)
 
 event-name-requires : tie.Need-event-name-requires
-event-name-requires c κs = search needs
+event-name-requires c κs = tt
 
 enum-known-name : tie.Need-enum-known-name
 enum-known-name c = search needs

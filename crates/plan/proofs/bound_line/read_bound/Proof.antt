@@ -24,7 +24,7 @@ use Rattle.plan.proofs.bound_line.read_bound.Statement.{statement}
 use Rattle.plan.proofs.bound_line.read_bound.Tie as tie
 
 bound-names-requires : tie.Need-bound-names-requires
-bound-names-requires c κs = search needs
+bound-names-requires c κs = tt
 
 enum-known-a : tie.Need-enum-known-a
 enum-known-a c = search needs
@@ -51,7 +51,7 @@ part-read-number-end : tie.Need-part-read-number-end
 part-read-number-end c = search needs
 
 read-number-requires : tie.Need-read-number-requires
-read-number-requires c κs = search needs
+read-number-requires c κs = tt
 
 enum-known-number : tie.Need-enum-known-number
 enum-known-number c = search needs

@@ -31,7 +31,7 @@ enum-told : tie.Need-enum-told Inv-loop μ-loop
 enum-told c = search needs
 
 bound-fault-requires : tie.Need-bound-fault-requires Inv-loop μ-loop
-bound-fault-requires c κs = search needs
+bound-fault-requires c κs = tt
 
 returns : tie.Need-returns Inv-loop μ-loop
 returns c =
@@ -46,7 +46,7 @@ returns c =
     )
 
 pair-number-requires : tie.Need-pair-number-requires Inv-loop μ-loop
-pair-number-requires c κs = search needs
+pair-number-requires c κs = tt
 
 mul-given : tie.Need-mul-given Inv-loop μ-loop
 mul-given c = omega (arith, c .before .before .before .before .before .before .before .before .loop-test .taken, c .before .before .before .before .before .before .before .before .before .before .before .pre .1 .1 .1, c .before .before .before .before .before .before .before .before .before .before .before .pre .1 .0, c .before .before .before .before .before .before .before .before .before .loop .inv .numbered)

@@ -1,5 +1,5 @@
 -- `read_first`: one law a way, `planLines-first` to `planLines-fourth` and `planLines-rest`. After each line stands what was read of it.
-use mathlib.Core.Path.{_≡_, sym, _∙_, ap, subst}
+use mathlib.Core.Path.{refl, _≡_, sym, _∙_, ap, subst}
 use Prim.Native.Nat.{_≤_}
 use native.Mathlib.Omega.{arith}
 use denote.Ref.{now}
@@ -19,7 +19,7 @@ use Rattle.plan.proofs.first_lines.read_first.Statement.{statement}
 use Rattle.plan.proofs.first_lines.read_first.Tie as tie
 
 slice-aggregate-read-number-line : tie.Need-slice-aggregate-read-number-line
-slice-aggregate-read-number-line c = search needs
+slice-aggregate-read-number-line c = refl
 
 read-number-line-requires : tie.Need-read-number-line-requires
 read-number-line-requires c κs = search needs
@@ -31,10 +31,10 @@ enum-told : tie.Need-enum-told
 enum-told c = search needs
 
 number-fault-requires : tie.Need-number-fault-requires
-number-fault-requires c κs = search needs
+number-fault-requires c κs = tt
 
 no-first-requires : tie.Need-no-first-requires
-no-first-requires c κs = search needs
+no-first-requires c κs = tt
 
 returns : tie.Need-returns
 unfolding bytes
@@ -48,7 +48,7 @@ returns c =
     })
 
 slice-aggregate-read-number-line-2 : tie.Need-slice-aggregate-read-number-line-2
-slice-aggregate-read-number-line-2 c = search needs
+slice-aggregate-read-number-line-2 c = refl
 
 read-number-line-requires-2 : tie.Need-read-number-line-requires-2
 read-number-line-requires-2 c κs = number-value-fits (c .before .before .before .before .read-number-line .result) (length (now (c .before .before .before .before .before .before .before .args .s))) (c .before .before .before .before .read-number-line .ensures .1) (c .before .before .first .given .1)
@@ -60,10 +60,10 @@ enum-told-2 : tie.Need-enum-told-2
 enum-told-2 c = search needs
 
 number-fault-requires-2 : tie.Need-number-fault-requires-2
-number-fault-requires-2 c κs = search needs
+number-fault-requires-2 c κs = tt
 
 no-first-requires-2 : tie.Need-no-first-requires-2
-no-first-requires-2 c κs = search needs
+no-first-requires-2 c κs = tt
 
 returns-2 : tie.Need-returns-2
 unfolding bytes
@@ -78,7 +78,7 @@ returns-2 c =
     })
 
 slice-aggregate-read-number-line-3 : tie.Need-slice-aggregate-read-number-line-3
-slice-aggregate-read-number-line-3 c = search needs
+slice-aggregate-read-number-line-3 c = refl
 
 read-number-line-requires-3 : tie.Need-read-number-line-requires-3
 read-number-line-requires-3 c κs = number-value-fits (c .before .before .before .before .read-number-line2 .result) (length (now (c .before .before .before .before .before .before .before .before .before .before .before .before .args .s))) (c .before .before .before .before .read-number-line2 .ensures .1) (c .before .before .second .given .1)
@@ -90,10 +90,10 @@ enum-told-3 : tie.Need-enum-told-3
 enum-told-3 c = search needs
 
 number-fault-requires-3 : tie.Need-number-fault-requires-3
-number-fault-requires-3 c κs = search needs
+number-fault-requires-3 c κs = tt
 
 no-first-requires-3 : tie.Need-no-first-requires-3
-no-first-requires-3 c κs = search needs
+no-first-requires-3 c κs = tt
 
 returns-3 : tie.Need-returns-3
 unfolding bytes
@@ -109,7 +109,7 @@ returns-3 c =
     })
 
 slice-aggregate-read-number-line-4 : tie.Need-slice-aggregate-read-number-line-4
-slice-aggregate-read-number-line-4 c = search needs
+slice-aggregate-read-number-line-4 c = refl
 
 read-number-line-requires-4 : tie.Need-read-number-line-requires-4
 read-number-line-requires-4 c κs = number-value-fits (c .before .before .before .before .read-number-line3 .result) (length (now (c .before .before .before .before .before .before .before .before .before .before .before .before .before .before .before .before .before .args .s))) (c .before .before .before .before .read-number-line3 .ensures .1) (c .before .before .third .given .1)
@@ -121,10 +121,10 @@ enum-told-4 : tie.Need-enum-told-4
 enum-told-4 c = search needs
 
 number-fault-requires-4 : tie.Need-number-fault-requires-4
-number-fault-requires-4 c κs = search needs
+number-fault-requires-4 c κs = tt
 
 no-first-requires-4 : tie.Need-no-first-requires-4
-no-first-requires-4 c κs = search needs
+no-first-requires-4 c κs = tt
 
 returns-4 : tie.Need-returns-4
 unfolding bytes

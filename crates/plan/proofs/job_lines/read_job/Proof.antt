@@ -1,4 +1,5 @@
 -- `read_job`: one law a way, `jobLines-first` to `jobLines-fourth` and `jobLines-all`. After each line stands what was read of it.
+use mathlib.Core.Path.{refl}
 use Prim.Native.Nat.{_+_}
 use denote.Ref.{now}
 use lib.ListN.{length, drop}
@@ -11,7 +12,7 @@ use Rattle.plan.proofs.job_lines.read_job.Statement.{statement}
 use Rattle.plan.proofs.job_lines.read_job.Tie as tie
 
 slice-aggregate-read-number-line : tie.Need-slice-aggregate-read-number-line
-slice-aggregate-read-number-line c = search needs
+slice-aggregate-read-number-line c = refl
 
 read-number-line-requires : tie.Need-read-number-line-requires
 read-number-line-requires c κs = search needs
@@ -23,7 +24,7 @@ enum-told : tie.Need-enum-told
 enum-told c = search needs
 
 number-fault-requires : tie.Need-number-fault-requires
-number-fault-requires c κs = search needs
+number-fault-requires c κs = tt
 
 returns : tie.Need-returns
 unfolding bytes
@@ -38,7 +39,7 @@ add-line2 : tie.Need-add-line2
 add-line2 c = search needs
 
 slice-aggregate-read-number-line-2 : tie.Need-slice-aggregate-read-number-line-2
-slice-aggregate-read-number-line-2 c = search needs
+slice-aggregate-read-number-line-2 c = refl
 
 read-number-line-requires-2 : tie.Need-read-number-line-requires-2
 read-number-line-requires-2 c κs = number-value-fits (c .before .before .before .before .read-number-line .result) (length (now (c .before .before .before .before .before .before .before .args .s))) (c .before .before .before .before .read-number-line .ensures .1) (c .before .before .first .given .1)
@@ -50,7 +51,7 @@ enum-told-2 : tie.Need-enum-told-2
 enum-told-2 c = search needs
 
 number-fault-requires-2 : tie.Need-number-fault-requires-2
-number-fault-requires-2 c κs = search needs
+number-fault-requires-2 c κs = tt
 
 returns-2 : tie.Need-returns-2
 unfolding bytes
@@ -66,7 +67,7 @@ add-line3 : tie.Need-add-line3
 add-line3 c = search needs
 
 slice-aggregate-read-number-line-3 : tie.Need-slice-aggregate-read-number-line-3
-slice-aggregate-read-number-line-3 c = search needs
+slice-aggregate-read-number-line-3 c = refl
 
 read-number-line-requires-3 : tie.Need-read-number-line-requires-3
 read-number-line-requires-3 c κs = number-value-fits (c .before .before .before .before .read-number-line2 .result) (length (now (c .before .before .before .before .before .before .before .before .before .before .before .before .args .s))) (c .before .before .before .before .read-number-line2 .ensures .1) (c .before .before .second .given .1)
@@ -78,7 +79,7 @@ enum-told-3 : tie.Need-enum-told-3
 enum-told-3 c = search needs
 
 number-fault-requires-3 : tie.Need-number-fault-requires-3
-number-fault-requires-3 c κs = search needs
+number-fault-requires-3 c κs = tt
 
 returns-3 : tie.Need-returns-3
 unfolding bytes
@@ -95,7 +96,7 @@ add-line4 : tie.Need-add-line4
 add-line4 c = search needs
 
 slice-aggregate-read-number-line-4 : tie.Need-slice-aggregate-read-number-line-4
-slice-aggregate-read-number-line-4 c = search needs
+slice-aggregate-read-number-line-4 c = refl
 
 read-number-line-requires-4 : tie.Need-read-number-line-requires-4
 read-number-line-requires-4 c κs = number-value-fits (c .before .before .before .before .read-number-line3 .result) (length (now (c .before .before .before .before .before .before .before .before .before .before .before .before .before .before .before .before .before .args .s))) (c .before .before .before .before .read-number-line3 .ensures .1) (c .before .before .third .given .1)
@@ -107,7 +108,7 @@ enum-told-4 : tie.Need-enum-told-4
 enum-told-4 c = search needs
 
 number-fault-requires-4 : tie.Need-number-fault-requires-4
-number-fault-requires-4 c κs = search needs
+number-fault-requires-4 c κs = tt
 
 returns-4 : tie.Need-returns-4
 unfolding bytes

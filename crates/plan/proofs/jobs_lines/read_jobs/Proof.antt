@@ -28,7 +28,7 @@ enum-told : tie.Need-enum-told Inv-loop μ-loop
 enum-told c = search needs
 
 job-fault-requires : tie.Need-job-fault-requires Inv-loop μ-loop
-job-fault-requires c κs = search needs
+job-fault-requires c κs = tt
 
 returns : tie.Need-returns Inv-loop μ-loop
 returns c =

@@ -20,7 +20,7 @@ shared-slice-read-named-in-2 : tie.Need-shared-slice-read-named-in-2
 shared-slice-read-named-in-2 c = search needs
 
 named-in-requires : tie.Need-named-in-requires
-named-in-requires c κs = search needs
+named-in-requires c κs = tt
 
 returns-2 : tie.Need-returns-2
 returns-2 c =
@@ -39,7 +39,7 @@ shared-slice-read-named-in-4 : tie.Need-shared-slice-read-named-in-4
 shared-slice-read-named-in-4 c = search needs
 
 named-in-requires-2 : tie.Need-named-in-requires-2
-named-in-requires-2 c κs = search needs
+named-in-requires-2 c κs = tt
 
 returns-3 : tie.Need-returns-3
 returns-3 c =

@@ -12,7 +12,7 @@ mul-result : tie.Need-mul-result
 mul-result c = search needs
 
 letter-number-requires : tie.Need-letter-number-requires
-letter-number-requires c κs = search needs
+letter-number-requires c κs = tt
 
 mul-result-2 : tie.Need-mul-result-2
 mul-result-2 c = omega (arith, c .letter-number .ensures, letterNumber-fits (c .before .before .args .e .letter))
@@ -21,7 +21,7 @@ add-result : tie.Need-add-result
 add-result c = omega (arith, c .letter-number .ensures, letterNumber-fits (c .before .before .args .e .letter))
 
 kind-number-requires : tie.Need-kind-number-requires
-kind-number-requires c κs = search needs
+kind-number-requires c κs = tt
 
 add-result-2 : tie.Need-add-result-2
 add-result-2 c =

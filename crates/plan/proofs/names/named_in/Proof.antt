@@ -1,17 +1,16 @@
 -- `named_in`: the two tests are those of `kindOf`.
-use borrow.Author.Needs.{needs}
 use borrow.Author.Tests.{eq-eqb, ne-eqb}
 use Rattle.plan.proofs.names.named_in.Statement.{statement}
 use Rattle.plan.proofs.names.named_in.Tie as tie
 
 named-requires : tie.Need-named-requires
-named-requires c κs = search needs
+named-requires c κs = tt
 
 returns : tie.Need-returns
 returns c = simp (eq-eqb (c .before .before .args .kind) 115 (c .before .if1 .taken)) (c .named .ensures)
 
 named-requires-2 : tie.Need-named-requires-2
-named-requires-2 c κs = search needs
+named-requires-2 c κs = tt
 
 returns-2 : tie.Need-returns-2
 returns-2 c =

@@ -32,7 +32,7 @@ part-rest-end : tie.Need-part-rest-end
 part-rest-end c = search needs
 
 len-to-requires : tie.Need-len-to-requires
-len-to-requires c κs = search needs
+len-to-requires c κs = tt
 
 returns : tie.Need-returns
 returns c =
@@ -52,7 +52,7 @@ cast-number-after-2 : tie.Need-cast-number-after-2
 cast-number-after-2 c = rw (toZ-ofZ (c .before .before .before .before .before .before .fits .hi)) (i32-wide (c .before .before .before .before .before .before .fits .hi))
 
 number-after-requires : tie.Need-number-after-requires
-number-after-requires c κs = search needs
+number-after-requires c κs = tt
 
 enum-known-number : tie.Need-enum-known-number
 enum-known-number c = search needs
@@ -95,7 +95,7 @@ enum-known-number-2 : tie.Need-enum-known-number-2
 enum-known-number-2 c = search needs
 
 fault-at-requires : tie.Need-fault-at-requires
-fault-at-requires c κs = search needs
+fault-at-requires c κs = tt
 
 returns-2 : tie.Need-returns-2
 unfolding linedNumber n b z s

@@ -9,7 +9,7 @@ use Rattle.plan.proofs.pairs.is_wrong_pair.Statement.{statement}
 use Rattle.plan.proofs.pairs.is_wrong_pair.Tie as tie
 
 both-next-requires : tie.Need-both-next-requires
-both-next-requires c κs = search needs
+both-next-requires c κs = tt
 
 returns : tie.Need-returns
 returns c =
@@ -17,10 +17,10 @@ returns c =
     sym (isWrongNumbered-next (take (a .n) (now (a .given))) (a .a) (a .b) (sym (c .before .both-next .ensures) ∙ c .if1 .taken))
 
 event-number-requires : tie.Need-event-number-requires
-event-number-requires c κs = search needs
+event-number-requires c κs = tt
 
 event-number-requires-2 : tie.Need-event-number-requires-2
-event-number-requires-2 c κs = search needs
+event-number-requires-2 c κs = tt
 
 returns-2 : tie.Need-returns-2
 returns-2 c =
@@ -32,7 +32,7 @@ returns-2 c =
     (sym (c .before .before .event-number .ensures .0) ∙ c .if2 .taken ∙ c .before .event-number2 .ensures .0))
 
 pair-number-requires : tie.Need-pair-number-requires
-pair-number-requires c κs = search needs
+pair-number-requires c κs = tt
 
 is-in-requires : tie.Need-is-in-requires
 is-in-requires c κs = search needs

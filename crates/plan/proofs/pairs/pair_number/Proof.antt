@@ -5,13 +5,13 @@ use Rattle.plan.proofs.pairs.pair_number.Statement.{statement}
 use Rattle.plan.proofs.pairs.pair_number.Tie as tie
 
 event-number-requires : tie.Need-event-number-requires
-event-number-requires c κs = search needs
+event-number-requires c κs = tt
 
 mul-result : tie.Need-mul-result
 mul-result c = omega (arith, c .event-number .ensures .1)
 
 event-number-requires-2 : tie.Need-event-number-requires-2
-event-number-requires-2 c κs = search needs
+event-number-requires-2 c κs = tt
 
 add-result : tie.Need-add-result
 add-result c = omega (arith, c .before .event-number .ensures .1, c .event-number2 .ensures .1)

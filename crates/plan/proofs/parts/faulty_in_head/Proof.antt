@@ -7,12 +7,11 @@ use Rattle.plan.specs.declared.PlanRead.{PlanRead}
 use Rattle.plan.specs.PlanRead.{planHead}
 use Rattle.plan.specs.PlanAnswers.{partAt}
 use Rattle.plan.specs.PartLaws.{planHead-tail, planRead-place, partAt-read}
-use borrow.Author.Needs.{needs}
 use Rattle.plan.proofs.parts.faulty_in_head.Statement.{statement}
 use Rattle.plan.proofs.parts.faulty_in_head.Tie as tie
 
 read-head-requires : tie.Need-read-head-requires
-read-head-requires c κs = search needs
+read-head-requires c κs = tt
 
 faulty-part-requires : tie.Need-faulty-part-requires
 faulty-part-requires c κs =

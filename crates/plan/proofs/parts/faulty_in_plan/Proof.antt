@@ -7,12 +7,11 @@ use Rattle.plan.specs.declared.PlanRead.{PlanRead}
 use Rattle.plan.specs.PlanRead.{planAlone}
 use Rattle.plan.specs.PlanAnswers.{partAt}
 use Rattle.plan.specs.PartLaws.{planAlone-tail, planRead-place, partAt-read}
-use borrow.Author.Needs.{needs}
 use Rattle.plan.proofs.parts.faulty_in_plan.Statement.{statement}
 use Rattle.plan.proofs.parts.faulty_in_plan.Tie as tie
 
 read-plan-requires : tie.Need-read-plan-requires
-read-plan-requires c κs = search needs
+read-plan-requires c κs = tt
 
 faulty-part-requires : tie.Need-faulty-part-requires
 faulty-part-requires c κs =

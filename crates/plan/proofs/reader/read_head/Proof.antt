@@ -1,5 +1,5 @@
 -- `read_head`: the length, the first four lines, the jobs, the count of the bounds, the bounds; after each group stands what was read of it. It rests on `HeadLaws`.
-use mathlib.Core.Path.{_≡_, sym, _∙_, ap, subst}
+use mathlib.Core.Path.{refl, _≡_, sym, _∙_, ap, subst}
 use mathlib.Core.List.{List, []}
 use Prim.Native.Nat.{ℕ, _+_, _*_, _≤_}
 use native.Mathlib.Omega.{arith}
@@ -29,7 +29,7 @@ use Rattle.plan.proofs.reader.read_head.Statement.{statement}
 use Rattle.plan.proofs.reader.read_head.Tie as tie
 
 refused-plan-requires : tie.Need-refused-plan-requires
-refused-plan-requires c κs = search needs
+refused-plan-requires c κs = tt
 
 returns : tie.Need-returns
 returns c =
@@ -37,7 +37,7 @@ returns c =
     c .refused-plan .ensures ∙ planRead-refused s _ (omega arith) (planHead-long s (c .before .if1 .taken))
 
 read-first-requires : tie.Need-read-first-requires
-read-first-requires c κs = search needs
+read-first-requires c κs = tt
 
 enum-known-went : tie.Need-enum-known-went
 enum-known-went c = search needs
@@ -46,10 +46,10 @@ enum-told : tie.Need-enum-told
 enum-told c = search needs
 
 went-fault-requires : tie.Need-went-fault-requires
-went-fault-requires c κs = search needs
+went-fault-requires c κs = tt
 
 refused-plan-requires-2 : tie.Need-refused-plan-requires-2
-refused-plan-requires-2 c κs = search needs
+refused-plan-requires-2 c κs = tt
 
 returns-2 : tie.Need-returns-2
 returns-2 c =
@@ -92,10 +92,10 @@ enum-told-2 : tie.Need-enum-told-2
 enum-told-2 c = search needs
 
 went-fault-requires-2 : tie.Need-went-fault-requires-2
-went-fault-requires-2 c κs = search needs
+went-fault-requires-2 c κs = tt
 
 refused-plan-requires-3 : tie.Need-refused-plan-requires-3
-refused-plan-requires-3 c κs = search needs
+refused-plan-requires-3 c κs = tt
 
 returns-3 : tie.Need-returns-3
 returns-3 c =
@@ -115,7 +115,7 @@ add-number : tie.Need-add-number
 add-number c = search needs
 
 slice-aggregate-read-number-line : tie.Need-slice-aggregate-read-number-line
-slice-aggregate-read-number-line c = search needs
+slice-aggregate-read-number-line c = refl
 
 -- ---- after the jobs
 
@@ -149,10 +149,10 @@ enum-told-3 : tie.Need-enum-told-3
 enum-told-3 c = search needs
 
 number-fault-requires : tie.Need-number-fault-requires
-number-fault-requires c κs = search needs
+number-fault-requires c κs = tt
 
 refused-plan-requires-4 : tie.Need-refused-plan-requires-4
-refused-plan-requires-4 c κs = search needs
+refused-plan-requires-4 c κs = tt
 
 returns-4 : tie.Need-returns-4
 unfolding bytes
@@ -214,10 +214,10 @@ enum-told-4 : tie.Need-enum-told-4
 enum-told-4 c = search needs
 
 went-fault-requires-3 : tie.Need-went-fault-requires-3
-went-fault-requires-3 c κs = search needs
+went-fault-requires-3 c κs = tt
 
 refused-plan-requires-5 : tie.Need-refused-plan-requires-5
-refused-plan-requires-5 c κs = search needs
+refused-plan-requires-5 c κs = tt
 
 returns-5 : tie.Need-returns-5
 returns-5 c =

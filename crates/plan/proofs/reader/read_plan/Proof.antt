@@ -13,7 +13,7 @@ use Rattle.plan.proofs.reader.read_plan.Statement.{statement}
 use Rattle.plan.proofs.reader.read_plan.Tie as tie
 
 read-head-requires : tie.Need-read-head-requires
-read-head-requires c κs = search needs
+read-head-requires c κs = tt
 
 enum-told : tie.Need-enum-told
 enum-told c = search needs
@@ -28,7 +28,7 @@ returns c =
     r .ensures ∙ alone-refused s (planHead s) (ap (λ (x : PlanRead). x .answer) (sym (r .ensures)) ∙ c .enum-told2 .given .1)
 
 refused-plan-requires : tie.Need-refused-plan-requires
-refused-plan-requires c κs = search needs
+refused-plan-requires c κs = tt
 
 returns-2 : tie.Need-returns-2
 returns-2 c =

@@ -1,4 +1,5 @@
 -- `put_refused`: the key and two counts in a row, by `refusedLine-stored`.
+use mathlib.Core.Path.{refl}
 use native.Mathlib.Omega.{arith}
 use Rattle.text.specs.Bytes.{bytes}
 use Rattle.plan.specs.WrittenLaws.{refusedLine-stored}
@@ -7,13 +8,13 @@ use Rattle.plan.proofs.refused.put_refused.Statement.{statement}
 use Rattle.plan.proofs.refused.put_refused.Tie as tie
 
 number-requires : tie.Need-number-requires
-number-requires c κs = search needs
+number-requires c κs = tt
 
 value-requires : tie.Need-value-requires
-value-requires c κs = search needs
+value-requires c κs = tt
 
 slice-aggregate-put-bytes : tie.Need-slice-aggregate-put-bytes
-slice-aggregate-put-bytes c = search needs
+slice-aggregate-put-bytes c = refl
 
 put-bytes-requires : tie.Need-put-bytes-requires
 put-bytes-requires c κs = search needs

@@ -1,4 +1,5 @@
 -- `put_bound`: the key, the two names with their commas, and the number with its LF, by `stored-bound`.
+use mathlib.Core.Path.{refl}
 use native.Mathlib.Omega.{arith}
 use mir.Syntax.{w32}
 use Rattle.whole.specs.SplitLaws.{cast-wide, told-fits}
@@ -12,7 +13,7 @@ cast-c : tie.Need-cast-c
 cast-c c = cast-wide tt (told-fits w32 (c .before .before .before .args .d .c) (c .struct-told .given .1 .1 .0 .1))
 
 slice-aggregate-put-bytes : tie.Need-slice-aggregate-put-bytes
-slice-aggregate-put-bytes c = search needs
+slice-aggregate-put-bytes c = refl
 
 put-bytes-requires : tie.Need-put-bytes-requires
 put-bytes-requires c κs = omega arith

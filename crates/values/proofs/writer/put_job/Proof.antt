@@ -1,4 +1,5 @@
 -- `put_job`: four lines in a row, by `stored-keyed-narrow`.
+use mathlib.Core.Path.{refl}
 use mathlib.Core.List.{[]}
 use native.Mathlib.Omega.{arith}
 use lib.IntN.{ℤ}
@@ -24,25 +25,25 @@ cast-deadline : tie.Need-cast-deadline
 cast-deadline c = cast-wide tt (told-fits w32 (c .before .before .before .before .before .before .before .before .before .args .j .deadline) (c .struct-told4 .given .1 .1 .1 .0 .1))
 
 slice-aggregate-put-line : tie.Need-slice-aggregate-put-line
-slice-aggregate-put-line c = search needs
+slice-aggregate-put-line c = refl
 
 put-line-requires : tie.Need-put-line-requires
 put-line-requires c κs = (omega arith, omega arith)
 
 slice-aggregate-put-line-2 : tie.Need-slice-aggregate-put-line-2
-slice-aggregate-put-line-2 c = search needs
+slice-aggregate-put-line-2 c = refl
 
 put-line-requires-2 : tie.Need-put-line-requires-2
 put-line-requires-2 c κs = (omega arith, omega arith)
 
 slice-aggregate-put-line-3 : tie.Need-slice-aggregate-put-line-3
-slice-aggregate-put-line-3 c = search needs
+slice-aggregate-put-line-3 c = refl
 
 put-line-requires-3 : tie.Need-put-line-requires-3
 put-line-requires-3 c κs = (omega arith, omega arith)
 
 slice-aggregate-put-line-4 : tie.Need-slice-aggregate-put-line-4
-slice-aggregate-put-line-4 c = search needs
+slice-aggregate-put-line-4 c = refl
 
 put-line-requires-4 : tie.Need-put-line-requires-4
 put-line-requires-4 c κs = (omega (arith, c .before .before .before .before .put-line3 .ensures .1, c .before .before .before .before .before .before .before .before .before .put-line2 .ensures .1, c .before .before .before .before .before .before .before .before .before .before .before .before .before .before .put-line .ensures .1, c .before .before .before .before .before .before .before .before .before .before .before .before .before .before .before .before .before .before .before .before .before .before .before .before .before .before .pre), omega arith)

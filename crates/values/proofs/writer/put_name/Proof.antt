@@ -11,10 +11,10 @@ cast-job : tie.Need-cast-job
 cast-job c = search needs
 
 letter-byte-requires : tie.Need-letter-byte-requires
-letter-byte-requires c κs = search needs
+letter-byte-requires c κs = tt
 
 kind-byte-requires : tie.Need-kind-byte-requires
-kind-byte-requires c κs = search needs
+kind-byte-requires c κs = tt
 
 put-byte-requires : tie.Need-put-byte-requires
 put-byte-requires c κs = omega arith

@@ -1,5 +1,5 @@
 -- `put_plan`: the first four lines, the jobs, the count of the bounds and the bounds in a row, by `stored-keyed` and `stored-jobs`.
-use mathlib.Core.Path.{_∙_}
+use mathlib.Core.Path.{refl, _∙_}
 use native.Mathlib.Omega.{arith}
 use lib.IntN.{pos}
 use mir.Syntax.{w32}
@@ -7,7 +7,6 @@ use Rattle.whole.specs.SplitLaws.{cast-wide, told-fits}
 use Rattle.text.specs.Bytes.{bytes}
 use Rattle.plan.specs.PlanWritten.{planText, jobsOf}
 use Rattle.values.specs.PlanWrittenLaws.{stored-keyed, stored-keyed-narrow, stored-jobs}
-use borrow.Author.Needs.{needs}
 use Rattle.values.proofs.writer.put_plan.Statement.{statement}
 use Rattle.values.proofs.writer.put_plan.Tie as tie
 
@@ -15,25 +14,25 @@ cast-window : tie.Need-cast-window
 cast-window c = cast-wide tt (told-fits w32 (c .before .before .before .args .p .window) (c .struct-told .given .0 .1))
 
 slice-aggregate-put-line : tie.Need-slice-aggregate-put-line
-slice-aggregate-put-line c = search needs
+slice-aggregate-put-line c = refl
 
 put-line-requires : tie.Need-put-line-requires
 put-line-requires c κs = (omega arith, omega arith)
 
 slice-aggregate-put-count-line : tie.Need-slice-aggregate-put-count-line
-slice-aggregate-put-count-line c = search needs
+slice-aggregate-put-count-line c = refl
 
 put-count-line-requires : tie.Need-put-count-line-requires
 put-count-line-requires c κs = (omega arith, omega arith)
 
 slice-aggregate-put-count-line-2 : tie.Need-slice-aggregate-put-count-line-2
-slice-aggregate-put-count-line-2 c = search needs
+slice-aggregate-put-count-line-2 c = refl
 
 put-count-line-requires-2 : tie.Need-put-count-line-requires-2
 put-count-line-requires-2 c κs = (omega arith, omega arith)
 
 slice-aggregate-put-count-line-3 : tie.Need-slice-aggregate-put-count-line-3
-slice-aggregate-put-count-line-3 c = search needs
+slice-aggregate-put-count-line-3 c = refl
 
 put-count-line-requires-3 : tie.Need-put-count-line-requires-3
 put-count-line-requires-3 c κs = (omega arith, omega arith)
@@ -42,7 +41,7 @@ put-jobs-requires : tie.Need-put-jobs-requires
 put-jobs-requires c κs = omega arith
 
 slice-aggregate-put-count-line-4 : tie.Need-slice-aggregate-put-count-line-4
-slice-aggregate-put-count-line-4 c = search needs
+slice-aggregate-put-count-line-4 c = refl
 
 put-count-line-requires-4 : tie.Need-put-count-line-requires-4
 put-count-line-requires-4 c κs = (
