@@ -78,21 +78,27 @@ stored-ended b f d e = rw e at (stored-told (λ (x : ℤ). decimal x ++ (b ∷ [
 pub stored-count : {out out′ : List ℕ} {at at′ : ℕ} (n : ℕ) (s : List ℕ) → Stored out at (digits n ++ s) out′ at′ → Stored out at (decimal (pos n) ++ s) out′ at′
 stored-count n s d = rw (decimal-above (pos n) (omega wholes)) d
 
--- a name by its parts
-pub stored-name : {out o o′ o″ : List ℕ} {at j j′ j″ letter kind : ℕ} (e : EventName) → letter ≡ letterByte (e .letter) → kind ≡ kindByte (e .kind)
-    → Stored out at (letter ∷ []) o j → Stored o j (kind ∷ []) o′ j′ → Stored o′ j′ (digits (e .job)) o″ j″ → Stored out at (nameBytes e) o″ j″
-stored-name e a b p q r = rw (← a, ← b) (stored-append (stored-append p q) r)
+-- a text and the byte behind it, before another
+stored-behind : {out t o o′ : List ℕ} {at j j′ : ℕ} (s : List ℕ) (b : ℕ) → Stored out at (s ++ (b ∷ [])) o j → Stored o j t o′ j′ → Stored out at (s ++ (b ∷ t)) o′ j′
+stored-behind {out} {t} {o′ = o′} {at = at} {j′ = j′} s b p q = subst (λ (x : List ℕ). Stored out at x o′ j′) (append-assoc s (b ∷ []) t) (stored-append p q)
+
+-- a name by its parts, and the byte behind it
+pub stored-name : {out o o′ o″ : List ℕ} {at j j′ j″ letter kind : ℕ} (e : EventName) (b : ℕ) → letter ≡ letterByte (e .letter) → kind ≡ kindByte (e .kind)
+    → Stored out at (letter ∷ []) o j → Stored o j (kind ∷ []) o′ j′ → Stored o′ j′ (digits (e .job) ++ (b ∷ [])) o″ j″ → Stored out at (nameBytes e ++ (b ∷ [])) o″ j″
+stored-name e b f g p q r = rw (← f, ← g) (stored-append (stored-append p q) r)
 
 -- a bound's line by its parts
-module _ {out o₁ o₂ o₃ o₄ o₅ o₆ : List ℕ} {at j₁ j₂ j₃ j₄ j₅ j₆ : ℕ} where
+module _ {out o₁ o₂ o₃ o₄ : List ℕ} {at j₁ j₂ j₃ j₄ : ℕ} where
   pub stored-bound : (d : Bound) → SFits w32 (d .c)
-      → Stored out at (bytes "bound=") o₁ j₁ → Stored o₁ j₁ (nameBytes (d .a)) o₂ j₂ → Stored o₂ j₂ (comma ∷ []) o₃ j₃
-      → Stored o₃ j₃ (nameBytes (d .b)) o₄ j₄ → Stored o₄ j₄ (comma ∷ []) o₅ j₅
-      → Stored o₅ j₅ (decimal (toZ w64 (ofZ w64 (toZ w32 (ofZ w32 (d .c))))) ++ (LF ∷ [])) o₆ j₆
-      → Stored out at (boundsText (d ∷ [])) o₆ j₆
+      → Stored out at (bytes "bound=") o₁ j₁ → Stored o₁ j₁ (nameBytes (d .a) ++ (comma ∷ [])) o₂ j₂ → Stored o₂ j₂ (nameBytes (d .b) ++ (comma ∷ [])) o₃ j₃
+      → Stored o₃ j₃ (decimal (toZ w64 (ofZ w64 (toZ w32 (ofZ w32 (d .c))))) ++ (LF ∷ [])) o₄ j₄
+      → Stored out at (boundsText (d ∷ [])) o₄ j₄
   unfolding boundsText
-  stored-bound d f key a mark b mark2 c =
-      stored-append key (stored-append a (stored-append mark (stored-append b (stored-append mark2 (stored-narrow (λ (z : ℤ). decimal z ++ (LF ∷ [])) f c)))))
+  stored-bound d f key a b c =
+      stored-append key
+      (stored-behind (nameBytes (d .a)) comma a
+      (stored-behind (nameBytes (d .b)) comma b
+      (stored-narrow (λ (z : ℤ). decimal z ++ (LF ∷ [])) f c)))
 
 -- a line, and the lines behind it
 pub stored-keyed : {out s o o′ : List ℕ} {at j j′ : ℕ} (key : List ℕ) (z : ℤ)

@@ -10,7 +10,7 @@ use plan::Plan;
 use plan::Refusal;
 use plan::Written;
 ghost use mathlib.Core.Path.{_≡_};
-ghost use mathlib.Core.List.{[], _∷_};
+ghost use mathlib.Core.List.{[], _∷_, _++_};
 ghost use lib.IntN.{pos};
 ghost use lib.ListN.{length, take};
 ghost use Prim.Native.Nat.{_+_, _^_, _≤_};
@@ -96,11 +96,11 @@ fn kind_byte(k: Kind) -> u8
     }
 }
 
-// The name of an event.
-fn put_name(out: &mut [u8], at: usize, e: EventName) -> usize
-    requires { ⌜ at ≤ 2 ^ 61 ⌝ }
-    ensures { λ r. ⌜ Stored (now (out .entry)) at (nameBytes e) (now (out .exit)) r ⌝ }
-    ensures { λ r. ⌜ r ≤ at + 22 ⌝ }
+// The name of an event, and the byte behind it.
+fn put_name(out: &mut [u8], at: usize, e: EventName, end: u8) -> usize
+    requires { ⌜ at ≤ 2 ^ 60 ⌝ }
+    ensures { λ r. ⌜ Stored (now (out .entry)) at (nameBytes e ++ (end ∷ [])) (now (out .exit)) r ⌝ }
+    ensures { λ r. ⌜ r ≤ at + 23 ⌝ }
 {
     let letter = e.letter;
     let kind = e.kind;
@@ -109,7 +109,7 @@ fn put_name(out: &mut [u8], at: usize, e: EventName) -> usize
     let next = kind_byte(kind);
     let second = text::put_byte(out, at, first);
     let third = text::put_byte(out, second, next);
-    text::put_count(out, third, job)
+    text::put_ended_count(out, third, job, end)
 }
 
 // The line of a bound.
@@ -120,10 +120,8 @@ fn put_bound(out: &mut [u8], at: usize, d: Bound) -> usize
 {
     let c = d.c as i64;
     let first = text::put_bytes(out, at, b"bound=");
-    let mark = put_name(out, first, d.a);
-    let second = text::put_byte(out, mark, b',');
-    let mark2 = put_name(out, second, d.b);
-    let number = text::put_byte(out, mark2, b',');
+    let second = put_name(out, first, d.a, b',');
+    let number = put_name(out, second, d.b, b',');
     text::put_ended_number(out, number, c, b'\n')
 }
 

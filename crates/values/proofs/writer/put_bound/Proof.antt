@@ -21,14 +21,8 @@ put-bytes-requires c κs = omega arith
 put-name-requires : tie.Need-put-name-requires
 put-name-requires c κs = omega arith
 
-put-byte-requires : tie.Need-put-byte-requires
-put-byte-requires c κs = omega arith
-
 put-name-requires-2 : tie.Need-put-name-requires-2
 put-name-requires-2 c κs = omega arith
-
-put-byte-requires-2 : tie.Need-put-byte-requires-2
-put-byte-requires-2 c κs = omega arith
 
 put-ended-number-requires : tie.Need-put-ended-number-requires
 put-ended-number-requires c κs = omega arith
@@ -39,16 +33,12 @@ same-length c = search needs
 returns : tie.Need-returns
 unfolding bytes
 returns c =
-    let d = c .before .before .before .before .before .before .before .before .before .before .before .before .before .before .before .before .before .before .before .before .before .before .before .before .before .before .before .before .args .d in
-    let key = c .before .before .before .before .before .before .before .before .before .before .before .before .before .before .before .before .before .before .before .before .before .before .put-bytes .ensures in
-    let first = c .before .before .before .before .before .before .before .before .before .before .before .before .before .before .before .before .before .before .put-name .ensures in
-    let mark = c .before .before .before .before .before .before .before .before .before .before .before .before .before .before .put-byte .ensures in
-    let second = c .before .before .before .before .before .before .before .before .before .before .put-name2 .ensures in
-    let mark2 = c .before .before .before .before .before .before .put-byte2 .ensures in
-    let number = c .before .before .put-ended-number .ensures in (
-      stored-bound d (told-fits w32 (d .c) (c .before .before .before .before .before .before .before .before .before .before .before .before .before .before .before .before .before .before .before .before .before .before .before .before .before .struct-told .given .1 .1 .0 .1)) key (first .0) mark (second .0) mark2 (number .0),
-      omega (arith, c .before .before .before .before .before .before .before .before .before .before .before .before .before .before .before .before .before .before .before .before .before .before .before .before .before .before .before .before .pre, key .place, first .1, mark .place, second .1, mark2 .place, number .1),
-    )
+    let d = c .before .before .before .before .before .before .before .before .before .before .before .before .before .before .before .before .before .before .before .before .args .d in
+    let key = c .before .before .before .before .before .before .before .before .before .before .before .before .before .before .put-bytes .ensures in
+    let first = c .before .before .before .before .before .before .before .before .before .before .put-name .ensures in
+    let second = c .before .before .before .before .before .before .put-name2 .ensures in
+    let number = c .before .before .put-ended-number .ensures in
+    (stored-bound d (told-fits w32 (d .c) (c .before .before .before .before .before .before .before .before .before .before .before .before .before .before .before .before .before .struct-told .given .1 .1 .0 .1)) key (first .0) (second .0) (number .0), omega (arith, key .place, first .1, second .1, number .1))
 
 pub put-bound-spec : {M : Type 1} → statement M
 put-bound-spec =
@@ -58,9 +48,7 @@ put-bound-spec =
     slice-aggregate-put-bytes
     put-bytes-requires
     put-name-requires
-    put-byte-requires
     put-name-requires-2
-    put-byte-requires-2
     put-ended-number-requires
     same-length
     returns)

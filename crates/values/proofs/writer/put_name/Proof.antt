@@ -1,7 +1,5 @@
--- `put_name`: the letter, the kind and the job in a row, by `stored-name`.
+-- `put_name`: the letter, the kind and the job with the byte behind it in a row, by `stored-name`.
 use native.Mathlib.Omega.{arith}
-use Rattle.text.specs.LentLaws.{stored-append}
-use Rattle.text.specs.DigitLaws.{digits-short}
 use Rattle.values.specs.PlanWrittenLaws.{stored-name}
 use borrow.Author.Needs.{needs}
 use Rattle.values.proofs.writer.put_name.Statement.{statement}
@@ -22,21 +20,19 @@ put-byte-requires c κs = omega arith
 put-byte-requires-2 : tie.Need-put-byte-requires-2
 put-byte-requires-2 c κs = omega arith
 
-put-count-requires : tie.Need-put-count-requires
-put-count-requires c κs = omega arith
+put-ended-count-requires : tie.Need-put-ended-count-requires
+put-ended-count-requires c κs = omega arith
 
 same-length : tie.Need-same-length
 same-length c = search needs
 
 returns : tie.Need-returns
 returns c =
-    let e = c .before .before .before .before .before .before .before .before .before .before .before .before .before .before .before .before .args .e in
+    let a = c .before .before .before .before .before .before .before .before .before .before .before .before .before .before .before .before .args in
     let letter = c .before .before .before .before .before .before .before .before .before .before .put-byte .ensures in
     let kind = c .before .before .before .before .before .before .put-byte2 .ensures in
-    let job = c .before .before .put-count .ensures in (
-      stored-name e (c .before .before .before .before .before .before .before .before .before .before .before .before .before .letter-byte .ensures) (c .before .before .before .before .before .before .before .before .before .before .before .before .kind-byte .ensures) letter kind job,
-      omega (arith, digits-short (e .job) (omega arith)),
-    )
+    let job = c .before .before .put-ended-count .ensures in
+    (stored-name (a .e) (a .end) (c .before .before .before .before .before .before .before .before .before .before .before .before .before .letter-byte .ensures) (c .before .before .before .before .before .before .before .before .before .before .before .before .kind-byte .ensures) letter kind (job .0), omega (arith, letter .place, kind .place, job .1))
 
 pub put-name-spec : {M : Type 1} → statement M
 put-name-spec =
@@ -47,6 +43,6 @@ put-name-spec =
     kind-byte-requires
     put-byte-requires
     put-byte-requires-2
-    put-count-requires
+    put-ended-count-requires
     same-length
     returns)
