@@ -3,7 +3,7 @@ use mathlib.Core.Path.{_∙_}
 use denote.Ref.{now}
 use Rattle.values.specs.JudgedLines.{Placed}
 use Rattle.plan.specs.WrittenLaws.{wrote-as}
-use Rattle.plan.proofs.Told.{plan-fits}
+use Rattle.values.proofs.Told.{plan-fits}
 use Rattle.calendars.specs.DecisionsLaws.{text-of-outcome}
 use Rattle.calendars.specs.ValueLaws.{value-accepted, value-text, refused-text}
 use borrow.Author.Needs.{needs}

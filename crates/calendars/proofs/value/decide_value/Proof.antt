@@ -2,7 +2,7 @@
 -- `refused-calendar`).
 use mathlib.Core.Path.{_∙_}
 use Rattle.values.specs.JudgedLines.{Placed}
-use Rattle.plan.proofs.Told.{plan-fits}
+use Rattle.values.proofs.Told.{plan-fits}
 use Rattle.calendars.specs.ValueLaws.{value-accepted, value-verdict, value-calendar, refused-verdict, refused-calendar}
 use borrow.Author.Needs.{needs}
 use Rattle.calendars.proofs.value.decide_value.Statement.{statement}
