@@ -1,4 +1,4 @@
--- The laws of a plan as a value. One that is judged good is accepted (`value-accepted`), and its verdict, its calendar and its text are the plan's (`value-verdict`,
+-- The laws of a plan as a value. Of one that is judged good the verdict, the calendar and the text are the plan's (`value-verdict`,
 -- `value-calendar`, `value-text`); one that is refused has its refusal, no calendar and the refusal's line (`refused-verdict`, `refused-calendar`, `refused-text`). A verdict
 -- is told case by case (`told-settled`, `told-refused`, `told-unsettled`).
 
@@ -15,9 +15,6 @@ use Rattle.plan.specs.declared.Refusal.the-variants as refusal
 use Rattle.plan.specs.Refusals.{refusedLine}
 use Rattle.plan.specs.PlanWritten.{judgedPlan}
 use Rattle.values.specs.PlanJudged.{judgedAnswer}
-use Rattle.values.specs.JudgedLines.{Placed}
-use Rattle.values.specs.JudgedLaws.{judgedPlan-accepted}
-use Rattle.plan.specs.Accepted.{Accepted}
 use Rattle.rounds.specs.declared.Verdict.{Verdict}
 use Rattle.rounds.specs.declared.Verdict.the-variants.{Settled, NoStrategy, Unsettled}
 use Rattle.rounds.specs.Rounds.{outcome, verdict}
@@ -57,9 +54,6 @@ module _ (p : Plan) (a : PlanAnswer) (d : a ≡ judgedAnswer (judgedPlan p)) whe
       of (some y) f = let same : y ≡ x = cc in ap some same
 
   module _ (e : a ≡ planAnswer.Accepted) where
-    pub value-accepted : Placed p → Accepted p
-    value-accepted l = judgedPlan-accepted p l (judged-good e)
-
     pub value-verdict : (v : Verdict) → v ≡ verdict p → verdictTold v ≡ valueVerdict p (judgedPlan p)
     unfolding valueVerdict
     value-verdict v f = ap verdictTold f ∙ sym (ap (valueVerdict p) (judged-good e))

@@ -1,17 +1,12 @@
--- `answer_value`: a plan that is judged good is decided (`value-accepted`, `text-of-outcome`, `value-text`), and one that is refused has its line (`refused-text`).
+-- `answer_value`: a plan that is judged good is decided (`text-of-outcome`, `value-text`), and one that is refused has its line (`refused-text`).
 use mathlib.Core.Path.{_∙_}
 use denote.Ref.{now}
-use Rattle.values.specs.JudgedLines.{Placed}
 use Rattle.plan.specs.WrittenLaws.{wrote-as}
-use Rattle.values.proofs.Told.{plan-fits}
 use Rattle.calendars.specs.DecisionsLaws.{text-of-outcome}
-use Rattle.calendars.specs.ValueLaws.{value-accepted, value-text, refused-text}
+use Rattle.calendars.specs.ValueLaws.{value-text, refused-text}
 use borrow.Author.Needs.{needs}
 use Rattle.calendars.proofs.value.answer_value.Statement.{statement}
 use Rattle.calendars.proofs.value.answer_value.Tie as tie
-
-placed : (c : tie.Start) → Placed (c .args .p)
-placed c = plan-fits (c .args .p) _ (c .good .0 .1 .1) .placed
 
 judge-plan-requires : tie.Need-judge-plan-requires
 judge-plan-requires c κs = search needs
@@ -21,15 +16,11 @@ enum-told c = search needs
 
 decide-requires : tie.Need-decide-requires
 decide-requires c κs =
-    let s = c .before .before .before .before in
-    let j = c .before .before .judge-plan in
-    value-accepted (s .args .p) (j .result) (j .ensures) (c .enum-told .given .1) (placed s)
+    c .before .before .judge-plan .ensures .1 (c .enum-told .given .1)
 
 write-decision-requires : tie.Need-write-decision-requires
 write-decision-requires c κs =
-    let s = c .before .before .before .before .before .before .before in
-    let j = c .before .before .before .before .before .judge-plan in
-    value-accepted (s .args .p) (j .result) (j .ensures) (c .before .before .before .enum-told .given .1) (placed s) .jobs-most
+    c .before .before .before .before .before .judge-plan .ensures .1 (c .before .before .before .enum-told .given .1) .jobs-most
 
 enum-known-judged : tie.Need-enum-known-judged
 enum-known-judged c = search needs
@@ -46,7 +37,7 @@ returns c =
     let j = c .before .before .before .before .before .before .before .before .judge-plan in
     let d = c .before .before .before .before .before .decide in
     let e = c .before .before .before .before .before .before .enum-told .given .1 in
-    wrote-as (now (s .args .out)) (text-of-outcome (s .args .p) _ _ (d .ensures .0) (d .ensures .1) ∙ value-text (s .args .p) (j .result) (j .ensures) e) (c .before .before .write-decision .ensures)
+    wrote-as (now (s .args .out)) (text-of-outcome (s .args .p) _ _ (d .ensures .0) (d .ensures .1) ∙ value-text (s .args .p) (j .result) (j .ensures .0) e) (c .before .before .write-decision .ensures)
 
 same-length-2 : tie.Need-same-length-2
 same-length-2 c = search needs
@@ -55,7 +46,7 @@ returns-2 : tie.Need-returns-2
 returns-2 c =
     let s = c .before .before .before .before .before .before .before .before .before in
     let j = c .before .before .before .before .before .before .before .judge-plan in
-    wrote-as (now (s .args .out)) (refused-text (s .args .p) (j .result) (j .ensures) _ (c .before .before .before .before .before .judged .given .1)) (c .before .before .write-refused .ensures)
+    wrote-as (now (s .args .out)) (refused-text (s .args .p) (j .result) (j .ensures .0) _ (c .before .before .before .before .before .judged .given .1)) (c .before .before .write-refused .ensures)
 
 pub answer-value-spec : {M : Type 1} → statement M
 answer-value-spec =

@@ -1,15 +1,10 @@
--- `decide_value`: a plan that is judged good is decided (`value-accepted`, `value-verdict`, `value-calendar`), and one that is refused has its refusal (`refused-verdict`,
+-- `decide_value`: a plan that is judged good is decided (`value-verdict`, `value-calendar`), and one that is refused has its refusal (`refused-verdict`,
 -- `refused-calendar`).
 use mathlib.Core.Path.{_∙_}
-use Rattle.values.specs.JudgedLines.{Placed}
-use Rattle.values.proofs.Told.{plan-fits}
-use Rattle.calendars.specs.ValueLaws.{value-accepted, value-verdict, value-calendar, refused-verdict, refused-calendar}
+use Rattle.calendars.specs.ValueLaws.{value-verdict, value-calendar, refused-verdict, refused-calendar}
 use borrow.Author.Needs.{needs}
 use Rattle.calendars.proofs.value.decide_value.Statement.{statement}
 use Rattle.calendars.proofs.value.decide_value.Tie as tie
-
-placed : (c : tie.Start) → Placed (c .args .p)
-placed c = plan-fits (c .args .p) _ (c .good .0 .1 .1) .placed
 
 judge-plan-requires : tie.Need-judge-plan-requires
 judge-plan-requires c κs = search needs
@@ -19,9 +14,7 @@ enum-told c = search needs
 
 decide-requires : tie.Need-decide-requires
 decide-requires c κs =
-    let s = c .before .before .before in
-    let j = c .before .before .judge-plan in
-    value-accepted (s .args .p) (j .result) (j .ensures) (c .enum-told .given .1) (placed s)
+    c .before .before .judge-plan .ensures .1 (c .enum-told .given .1)
 
 told-verdict-requires : tie.Need-told-verdict-requires
 told-verdict-requires c κs = search needs
@@ -38,8 +31,8 @@ returns c =
     let j = c .before .before .before .before .before .judge-plan in
     let d = c .before .before .decide in
     let e = c .before .before .before .enum-told .given .1 in (
-      c .told-verdict .ensures ∙ value-verdict (s .args .p) (j .result) (j .ensures) e (d .result .verdict) (d .ensures .0),
-      value-calendar (s .args .p) (j .result) (j .ensures) e (d .result .calendar) (d .ensures .1),
+      c .told-verdict .ensures ∙ value-verdict (s .args .p) (j .result) (j .ensures .0) e (d .result .verdict) (d .ensures .0),
+      value-calendar (s .args .p) (j .result) (j .ensures .0) e (d .result .calendar) (d .ensures .1),
     )
 
 returns-2 : tie.Need-returns-2
@@ -47,8 +40,8 @@ returns-2 c =
     let s = c .before .before .before .before .before in
     let j = c .before .before .before .before .judge-plan in
     let e = c .before .before .judged .given .1 in (
-      refused-verdict (s .args .p) (j .result) (j .ensures) _ e,
-      c .empty-calendar .ensures (s .args .p) ∙ refused-calendar (s .args .p) (j .result) (j .ensures) _ e,
+      refused-verdict (s .args .p) (j .result) (j .ensures .0) _ e,
+      c .empty-calendar .ensures (s .args .p) ∙ refused-calendar (s .args .p) (j .result) (j .ensures .0) _ e,
     )
 
 pub decide-value-spec : {M : Type 1} → statement M
