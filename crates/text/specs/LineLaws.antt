@@ -4,6 +4,8 @@
 -- a b is what stands before it, the b, and what follows (`has-split`); a text without b is all before it (`has-false`, `has-free`, `before-free`).
 -- Keys: a key that was written is given back (`afterKey-back`), and only a text that begins with the key has something after it (`afterKey-split`); one turn
 -- of the comparison (`afterKey-same`, `afterKey-other`, `afterKey-short`, `afterKey-end`); and what the test `hasKey` tells (`hasKey-true`, `hasKey-false`).
+-- The place behind a line: it is in the text, or behind it (`behindLine-in`, `behindLine-past`); from a place of the text on it is the line's length and one
+-- (`nextLine-at`).
 -- A part of a slice that goes to its end is what is left behind its start (`drop-rest`).
 -- That b does not stand in s is said as `lenTo b s ≡ length s`.
 
@@ -19,7 +21,7 @@ use lib.Dec.{eqb}
 use lib.ListN.{length, getD, take, drop, length-append, length-drop, drop-of-length-le}
 use lib.Seq.{drop-cons, take-all, take-length, split-at, take-at, drop-at, drop-drop, drop-append-seam}
 use borrow.Author.Tests.{eqb-true, eq-eqb, ne-eqb, lt-ltb, le-ltb, ltb-true, ltb-false}
-use Rattle.text.specs.Lines.{lenTo, before, has, after, afterKey, hasKey, isSome}
+use Rattle.text.specs.Lines.{LF, lenTo, before, has, after, behindLine, nextLine, afterKey, hasKey, isSome}
 
 -- ---- the length to a byte
 
@@ -97,6 +99,17 @@ has-free b s e = le-ltb (lenTo b s) (length s) (omega arith)
 
 pub before-free : (b : ℕ) (s : List ℕ) → lenTo b s ≡ length s → before b s ≡ s
 before-free b s e = ap (λ (n : ℕ). take n s) e ∙ take-length s
+
+-- ---- the place behind a line
+
+pub behindLine-in : (n at i : ℕ) → at + i ≤ n → behindLine n at i ≡ at + i + 1
+behindLine-in n at i h = rw (le-ltb n (at + i) h)
+
+pub behindLine-past : (n at i : ℕ) → n < at + i → behindLine n at i ≡ n + 1
+behindLine-past n at i h = rw (lt-ltb n (at + i) h)
+
+pub nextLine-at : (s : List ℕ) (at : ℕ) → at ≤ length s → nextLine s at ≡ at + lenTo LF (drop at s) + 1
+nextLine-at s at h = behindLine-in (length s) at (lenTo LF (drop at s)) (omega (arith, lenTo-fits LF (drop at s), length-drop at s))
 
 -- ---- keys
 

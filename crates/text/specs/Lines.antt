@@ -28,6 +28,15 @@ has b s = ltb (lenTo b s) (length s)
 abbrev pub after : ℕ → List ℕ → List ℕ
 after b s = drop (lenTo b s + 1) s
 
+-- 'each ended by one LF': the place behind the LF of a line of i bytes, which begins at a place of a text of n bytes; behind the text, where the LF
+-- would stand there
+abbrev pub behindLine : ℕ → ℕ → ℕ → ℕ
+behindLine n at i = cond (ltb n (at + i)) (n + 1) (at + i + 1)
+
+-- where the line ends that begins at a place, its LF included; behind the text, where it is not ended
+abbrev pub nextLine : List ℕ → ℕ → ℕ
+nextLine s at = behindLine (length s) at (lenTo LF (drop at s))
+
 -- what follows a key; nothing, where the line does not begin with it
 unfoldable pub afterKey : List ℕ → List ℕ → Option (List ℕ)
 afterKey [] s = some s

@@ -19,11 +19,18 @@ enum Digits {
     Bad,
 }
 
+// A place of a text, at which a line begins, and the text.
+struct LineReader<'a> {
+    text: &'a [u8],
+    at: usize,
+}
+
 // Above every i64; a number below a tenth of it has room for one more digit.
 const TOO_LARGE: u64 = 10_000_000_000_000_000_000;
 
 mod ended;
 mod line;
+mod line_reader;
 mod numbers;
 mod write;
 
@@ -31,6 +38,7 @@ pub use ended::put_ended_count;
 pub use ended::put_ended_number;
 pub use line::has_key;
 pub use line::len_to;
+pub use line_reader::next_line;
 pub use numbers::number_after;
 pub use numbers::read_number;
 pub use write::put_byte;

@@ -1,6 +1,7 @@
 // Where a line ends, and whether it begins with a key.
 ghost use mathlib.Core.Path.{_≡_};
-ghost use Rattle.text.specs.Lines.{lenTo, hasKey};
+ghost use lib.ListN.{length, drop};
+ghost use Rattle.text.specs.Lines.{LF, lenTo, behindLine, hasKey};
 
 // How many bytes stand before the first b; all of them, where there is none.
 pub fn len_to(s: &[u8], b: u8) -> usize
@@ -14,6 +15,29 @@ pub fn len_to(s: &[u8], b: u8) -> usize
         i += 1;
     }
     i
+}
+
+// How many bytes stand from a place on before the first LF; all that are left, where there is none.
+pub fn len_from(s: &[u8], at: usize) -> usize
+    ensures { λ r. ⌜ r ≡ lenTo LF (drop at (now (s .entry))) ⌝ }
+{
+    if s.len() <= at {
+        return 0;
+    }
+    len_to(&s[at..], b'\n')
+}
+
+// The place behind the LF of a line of len bytes that begins at a place; behind the text, where the LF would stand there.
+pub fn behind_line(s: &[u8], at: usize, len: usize) -> usize
+    ensures { λ r. ⌜ r ≡ behindLine (length (now (s .entry))) at len ⌝ }
+{
+    if s.len() < at {
+        return s.len() + 1;
+    }
+    if s.len() - at < len {
+        return s.len() + 1;
+    }
+    at + len + 1
 }
 
 // Whether s begins with the key.
