@@ -1,17 +1,18 @@
 -- The laws by which the code's line readers are right. A line at a place of the text has no LF, or lacks something, or has its value (`lineAt-bare`,
--- `lineAt-fault`, `lineAt-value`); and a group of lines ends with the first refusal (`jobLines-first` to `jobLines-fourth`) or is read (`jobLines-all`).
-use mathlib.Core.Path.{_≡_, sym, _∙_, ap, subst}
+-- `lineAt-fault`, `lineAt-value`; by the place behind the LF: `lineTo-bare`, `lineTo-fault`, `lineTo-value`); and a group of lines ends with the first refusal (`jobLines-first` to `jobLines-fourth`) or is read (`jobLines-all`).
+use mathlib.Core.Path.{_≡_, refl, sym, _∙_, ap, subst}
 use mathlib.Core.List.{List}
-use Prim.Native.Nat.{ℕ, _+_, _≤_, _<_}
+use Prim.Native.Nat.{ℕ, _+_, _-_, _≤_, _<_}
 use native.Mathlib.Nat.{add-assoc}
 use native.Mathlib.Numerals.{add-one}
 use native.Mathlib.Omega.{arith}
 use borrow.Author.Tests.{lt-ltb, le-ltb}
 use lib.IntN.{ℤ, pos, natAbs}
-use lib.ListN.{length, take, drop}
+use lib.ListN.{length, take, drop, length-drop}
 use lib.Seq.{drop-drop}
 use Rattle.text.specs.Bytes.{bytes}
-use Rattle.text.specs.Lines.{LF, lenTo}
+use Rattle.text.specs.Lines.{LF, lenTo, nextLine}
+use Rattle.text.specs.LineLaws.{nextLine-at}
 use Rattle.text.specs.declared.Fault.{Fault}
 use Rattle.plan.specs.declared.Refusal.{Refusal}
 use Rattle.plan.specs.declared.Refusal.the-variants.{Form}
@@ -48,6 +49,24 @@ module _ {A : Type 0} (f : List ℕ → Lined A) (s : List ℕ) (at n : ℕ) (t 
   pub lineAt-value : {a : A} → i < length t → f (take i t) ≡ value a → line f (drop at s) n ≡ read a (drop (at + i + 1) s) (n + 1)
   unfolding lined
   lineAt-value {a} h d = held (value a) h d ∙ rw (← rest, ← len) (rw (rest, drop-drop (i + 1) at s, add-assoc at i 1, add-one n))
+
+-- ---- a line at a place: next is the place behind its LF
+
+module _ {A : Type 0} (f : List ℕ → Lined A) (s : List ℕ) (at n next : ℕ) (within : at ≤ length s) (end : next ≡ nextLine s at) where
+  len : next - 1 - at ≡ lenTo LF (drop at s)
+  len = omega (arith, end ∙ nextLine-at s at within)
+
+  pub lineTo-bare : length s < next → line f (drop at s) n ≡ refused (Form n) (drop at s)
+  lineTo-bare h = lineAt-bare f s at n (drop at s) (next - 1 - at) refl len (omega (arith, length-drop at s))
+
+  pub lineTo-fault : {e : Fault} → next ≤ length s → f (take (next - 1 - at) (drop at s)) ≡ bad e → line f (drop at s) n ≡ refused (faultAt n e) (drop at s)
+  lineTo-fault h d = lineAt-fault f s at n (drop at s) (next - 1 - at) refl len (omega (arith, length-drop at s, end ∙ nextLine-at s at within)) d
+
+  pub lineTo-value : {a : A} → next ≤ length s → f (take (next - 1 - at) (drop at s)) ≡ value a → line f (drop at s) n ≡ read a (drop next s) (n + 1)
+  lineTo-value {a} h d =
+      let place : at + (next - 1 - at) + 1 ≡ next = omega (arith, end ∙ nextLine-at s at within) in
+      lineAt-value f s at n (drop at s) (next - 1 - at) refl len (omega (arith, length-drop at s, end ∙ nextLine-at s at within)) d
+      ∙ ap (λ (k : ℕ). read a (drop k s) (n + 1)) place
 
 -- ---- an answer taken apart: m is the reading that it tells, of a text s
 

@@ -26,20 +26,17 @@ pub fn read_bound_at(
     ensures { λ r. ⌜ line (boundLined jobs (isWrongNumbered (take n (now (given .entry))))) (drop at (now (s .entry))) number ≡ boundTold (now (s .entry)) (number + 1) r ⌝ }
     ensures { λ r. ⌜ boundPlace r ≤ length (now (s .entry)) ⌝ }
 {
-    let rest = &s[at..];
-    let len = text::len_to(rest, b'\n');
-    if rest.len() <= len {
+    let next = text::next_line(s, at);
+    if s.len() < next {
         return BoundRead::Bad(Faulty {
             refusal: Refusal::Form(number),
             at,
         });
     }
-    let found = read_bound(&rest[..len], jobs, given, n);
+    let end = next - 1;
+    let found = read_bound(&s[at..end], jobs, given, n);
     match found {
-        BoundLine::Value(d) => {
-            let next = at + len + 1;
-            BoundRead::Value(d, next)
-        }
+        BoundLine::Value(d) => BoundRead::Value(d, next),
         BoundLine::Bad(f) => {
             let refusal = fault_at(number, f);
             BoundRead::Bad(Faulty { refusal, at })

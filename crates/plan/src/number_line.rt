@@ -24,20 +24,17 @@ pub fn read_number_line(
     ensures { λ r. ⌜ numberLine (now (key .entry)) lo hi (drop at (now (s .entry))) line ≡ numberTold (now (s .entry)) (line + 1) r ⌝ }
     ensures { λ r. ⌜ numberPlace r ≤ length (now (s .entry)) ⌝ }
 {
-    let rest = &s[at..];
-    let len = text::len_to(rest, b'\n');
-    if rest.len() <= len {
+    let next = text::next_line(s, at);
+    if s.len() < next {
         return NumberLine::Bad(Faulty {
             refusal: Refusal::Form(line),
             at,
         });
     }
-    let number = text::number_after(&rest[..len], key, lo as i64, hi as i64);
+    let end = next - 1;
+    let number = text::number_after(&s[at..end], key, lo as i64, hi as i64);
     match number {
-        Number::Value(z) => {
-            let next = at + len + 1;
-            NumberLine::Value(narrow(z), next)
-        }
+        Number::Value(z) => NumberLine::Value(narrow(z), next),
         Number::Bad(f) => {
             let refusal = fault_at(line, f);
             NumberLine::Bad(Faulty { refusal, at })

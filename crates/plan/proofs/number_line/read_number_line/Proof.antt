@@ -1,75 +1,74 @@
--- `read_number_line`: one law a way, `lineAt-bare`, `lineAt-value`, `lineAt-fault`.
+-- `read_number_line`: one law a way, `lineTo-bare`, `lineTo-value`, `lineTo-fault`; and the line begins before its end (`nextLine-at`).
 use mathlib.Core.Path.{_≡_, sym, _∙_, ap}
-use Prim.Native.Nat.{_-_}
+use Prim.Native.Nat.{ℕ, _-_}
 use native.Mathlib.Omega.{arith}
 use denote.Ref.{now}
 use lib.IntN.{ℤ}
 use mathlib.Core.List.{List}
-use Prim.Native.Nat.{ℕ}
-use lib.ListN.{length, take, drop, length-take, length-drop}
+use lib.ListN.{length, take, drop}
 use mir.Facts.{toZ-ofZ}
 use mir.Syntax.{w32, w64}
 use mir.Val.{toZ, ofZ}
-use Rattle.text.specs.LineLaws.{drop-rest}
+use Rattle.text.specs.LineLaws.{nextLine-at}
 use Rattle.text.specs.Numbers.{numberAfter}
 use Rattle.text.specs.NumberLaws.{numberAfter-value}
 use Rattle.whole.specs.Rules.{whole}
 use Rattle.text.specs.declared.Number.the-variants as number
 use Rattle.plan.specs.Reading.{refused, linedNumber}
-use Rattle.plan.specs.ReadAtLaws.{lineAt-bare, lineAt-value, lineAt-fault}
+use Rattle.plan.specs.ReadAtLaws.{lineTo-bare, lineTo-value, lineTo-fault}
 use borrow.Author.Needs.{needs}
 use Rattle.plan.proofs.Widths.{i32-least, i32-most, i32-wide, i32-widened}
 use Rattle.plan.proofs.number_line.read_number_line.Statement.{statement}
 use Rattle.plan.proofs.number_line.read_number_line.Tie as tie
 
-sub-rest : tie.Need-sub-rest
-sub-rest c = search needs
-
-part-rest-start : tie.Need-part-rest-start
-part-rest-start c = search needs
-
-part-rest-end : tie.Need-part-rest-end
-part-rest-end c = search needs
-
-len-to-requires : tie.Need-len-to-requires
-len-to-requires c κs = tt
+next-line-requires : tie.Need-next-line-requires
+next-line-requires c κs = search needs
 
 returns : tie.Need-returns
 returns c =
-    let a = c .before .before .before .before .before .args in
-    let s = now (a .s) in (
-      lineAt-bare (λ l. linedNumber (numberAfter (now (a .key)) (a .lo) (a .hi) l)) s (a .at) (a .line) (take (length s - a .at) (drop (a .at) s)) (c .before .len-to .result) (drop-rest (a .at) s) (c .before .len-to .ensures) (simp (length-take, length-drop) (omega arith)),
-      c .before .before .before .before .before .pre,
+    let b = c .before .before .before .before in
+    let a = b .args in (
+      lineTo-bare (λ l. linedNumber (numberAfter (now (a .key)) (a .lo) (a .hi) l)) (now (a .s)) (a .at) (a .line) (c .before .next-line .result) (b .pre) (c .before .next-line .ensures) (omega arith),
+      b .pre,
     )
 
-slice-aggregate-number-after : tie.Need-slice-aggregate-number-after
-slice-aggregate-number-after c = simp (length-take, length-drop) (omega arith)
+sub-end : tie.Need-sub-end
+sub-end c =
+    let b = c .before .before .before .before in
+    omega (arith, c .before .next-line .ensures ∙ nextLine-at (now (b .args .s)) (b .args .at) (b .pre))
+
+sub-number-after : tie.Need-sub-number-after
+sub-number-after c =
+    let b = c .before .before .before .before in
+    omega (arith, c .before .next-line .ensures ∙ nextLine-at (now (b .args .s)) (b .args .at) (b .pre))
+
+part-number-after-start : tie.Need-part-number-after-start
+part-number-after-start c =
+    let b = c .before .before .before .before in
+    omega (arith, c .before .next-line .ensures ∙ nextLine-at (now (b .args .s)) (b .args .at) (b .pre))
+
+part-number-after-end : tie.Need-part-number-after-end
+part-number-after-end c = search needs
 
 cast-number-after : tie.Need-cast-number-after
-cast-number-after c = rw (toZ-ofZ (c .before .before .before .before .before .before .fits .lo)) (i32-wide (c .before .before .before .before .before .before .fits .lo))
+cast-number-after c = rw (toZ-ofZ (c .before .before .before .before .before .fits .lo)) (i32-wide (c .before .before .before .before .before .fits .lo))
 
 cast-number-after-2 : tie.Need-cast-number-after-2
-cast-number-after-2 c = rw (toZ-ofZ (c .before .before .before .before .before .before .fits .hi)) (i32-wide (c .before .before .before .before .before .before .fits .hi))
+cast-number-after-2 c = rw (toZ-ofZ (c .before .before .before .before .before .fits .hi)) (i32-wide (c .before .before .before .before .before .fits .hi))
 
 number-after-requires : tie.Need-number-after-requires
-number-after-requires c κs = tt
+number-after-requires c κs = search needs
 
 enum-known-number : tie.Need-enum-known-number
 enum-known-number c = search needs
 
-add-next : tie.Need-add-next
-add-next c = search needs
-
-add-next-2 : tie.Need-add-next-2
-add-next-2 c = search needs
-
 -- the number that was read, and its range
 module _ (c : tie.After-known-told) where
-  n : tie.After-len-to
+  n : tie.After-next-line
   n = c .before .before .before .before .before .before
 
   b : tie.Start
-  b = n .before .before .before .before
+  b = n .before .before .before
 
   z : ℤ
   z = c .before .number .given .0 .0
@@ -77,7 +76,7 @@ module _ (c : tie.After-known-told) where
   s : List ℕ
   s = now (b .args .s)
 
-  told : numberAfter (now (b .args .key)) (b .args .lo) (b .args .hi) (take (n .len-to .result) (take (length s - b .args .at) (drop (b .args .at) s))) ≡ number.Value z
+  told : numberAfter (now (b .args .key)) (b .args .lo) (b .args .hi) (take (n .next-line .result - 1 - b .args .at) (drop (b .args .at) s)) ≡ number.Value z
   unfolding n b z s
   told = sym (rw (i32-widened (b .fits .lo), i32-widened (b .fits .hi)) at (c .before .before .before .number-after .ensures)) ∙ c .before .number .given .1
 
@@ -95,17 +94,16 @@ enum-known-number-2 : tie.Need-enum-known-number-2
 enum-known-number-2 c = search needs
 
 fault-at-requires : tie.Need-fault-at-requires
-fault-at-requires c κs = tt
+fault-at-requires c κs = search needs
 
 returns-2 : tie.Need-returns-2
 unfolding linedNumber n b z s
 returns-2 c =
     let e = c .before in
     let a = b e .args in
-    let t = take (length (s e) - a .at) (drop (a .at) (s e)) in
     let same : toZ w32 (ofZ w32 (c .narrow .result)) ≡ z e = toZ-ofZ {w = w32} {z = c .narrow .result} (record { sfits = c .narrow .ok }) ∙ c .narrow .ensures ∙ z-back e in (
-      lineAt-value (λ l. linedNumber (numberAfter (now (a .key)) (a .lo) (a .hi) l)) (s e) (a .at) (a .line) t (n e .len-to .result) (drop-rest (a .at) (s e)) (n e .len-to .ensures) (simp (length-take, length-drop) (omega arith)) (ap linedNumber (told e ∙ ap number.Value (sym same))),
-      omega (arith, length-drop (a .at) (s e), length-take (length (s e) - a .at) (drop (a .at) (s e))),
+      lineTo-value (λ l. linedNumber (numberAfter (now (a .key)) (a .lo) (a .hi) l)) (s e) (a .at) (a .line) (n e .next-line .result) (b e .pre) (n e .next-line .ensures) (omega arith) (ap linedNumber (told e ∙ ap number.Value (sym same))),
+      omega arith,
     )
 
 returns-3 : tie.Need-returns-3
@@ -113,13 +111,12 @@ unfolding linedNumber
 returns-3 c =
     let m = c .before .before .before .before in
     let l = m .before .before .before in
-    let f = l .before .before .before .before in
+    let f = l .before .before .before in
     let a = f .args in
     let x = now (a .s) in
-    let t = take (length x - a .at) (drop (a .at) x) in
-    let back : numberAfter (now (a .key)) (a .lo) (a .hi) (take (l .len-to .result) t) ≡ number.Bad (c .before .before .number2 .given .0 .0) =
+    let back : numberAfter (now (a .key)) (a .lo) (a .hi) (take (l .next-line .result - 1 - a .at) (drop (a .at) x)) ≡ number.Bad (c .before .before .number2 .given .0 .0) =
     sym (rw (i32-widened (f .fits .lo), i32-widened (f .fits .hi)) at (m .number-after .ensures)) ∙ c .before .before .number2 .given .1 in (
-      lineAt-fault (λ l. linedNumber (numberAfter (now (a .key)) (a .lo) (a .hi) l)) x (a .at) (a .line) t (l .len-to .result) (drop-rest (a .at) x) (l .len-to .ensures) (simp (length-take, length-drop) (omega arith)) (ap linedNumber back)
+      lineTo-fault (λ l. linedNumber (numberAfter (now (a .key)) (a .lo) (a .hi) l)) x (a .at) (a .line) (l .next-line .result) (f .pre) (l .next-line .ensures) (omega arith) (ap linedNumber back)
           ∙ ap (λ r. refused r (drop (a .at) x)) (sym (c .fault-at .ensures)),
       f .pre,
     )
@@ -128,18 +125,16 @@ pub read-number-line-spec : {M : Type 1} → statement M
 read-number-line-spec =
     tie.close
     (tie.spec
-    sub-rest
-    part-rest-start
-    part-rest-end
-    len-to-requires
+    next-line-requires
     returns
-    slice-aggregate-number-after
+    sub-end
+    sub-number-after
+    part-number-after-start
+    part-number-after-end
     cast-number-after
     cast-number-after-2
     number-after-requires
     enum-known-number
-    add-next
-    add-next-2
     narrow-requires
     enum-known-number-2
     fault-at-requires
