@@ -26,6 +26,13 @@ answerLine (Started j i t) = bytes "started=" ++ turnText j i (t .0)
 answerLine (Final j i t) = bytes "final=" ++ turnText j i (t .0)
 answerLine (Refused x) = refusedLine x
 
+-- the job of `started=j,i,T` and `final=j,i,T`; 0 where none is named
+abbrev pub answerJob : Answer → ℕ
+answerJob (Offered o) = 0
+answerJob (Started j i t) = i
+answerJob (Final j i t) = i
+answerJob (Refused x) = 0
+
 -- 'A step refused by 1 or 2 ends the program; other refusals go on.'
 unfoldable pub endsSession : Answer → Bool
 endsSession (Offered o) = false

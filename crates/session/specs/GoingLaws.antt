@@ -32,7 +32,7 @@ use Rattle.session.specs.SessionLaws.{answers-end, answers-refused, answ
 -- what the loop comes to: all answers, written, and a bound of their length from that of the text
 pub record Done (text out₀ : List ℕ) (from at : ℕ) (whole : List ℕ) (out : List ℕ) (end : ℕ) : Type 0 where
   pub stored : Stored out₀ at whole out end
-  pub short : 8 * end + 71 * from ≤ 8 * at + 71 * length text + 568
+  pub short : end + 7 * from ≤ at + 7 * length text + 56
 
 -- where it stands: whatever writes the answers that are left has written all of them
 pub record Going (p : Plan) (c : Calendar) (text out₀ : List ℕ) (from line at : ℕ) (run₀ : Run) (out : List ℕ) (run : Run) (place number end : ℕ) : Type 0 where
@@ -42,7 +42,7 @@ pub record Going (p : Plan) (c : Calendar) (text out₀ : List ℕ) (from line a
   pub inside : Inside p c run
   pub placed : place ≤ length text
   pub numbered : number + from ≤ line + place
-  pub near : 8 * end + 71 * from ≤ 8 * at + 71 * place
+  pub near : end + 7 * from ≤ at + 7 * place
 
 nothing-stored : (out : List ℕ) (end : ℕ) → Stored out end [] out end
 nothing-stored out end = record { place = sym (add-zero end); slice = sym (put-nil out end) }
@@ -63,7 +63,7 @@ module _ (p : Plan) (c : Calendar) (text out₀ : List ℕ) (from line at : ℕ)
           short = omega arith;
         }
 
-    module _ (h : place < length text) (o : List ℕ) (e : ℕ) (short : e ≤ end + 71) where
+    module _ (h : place < length text) (o : List ℕ) (e : ℕ) (short : e ≤ end + 56) where
       some : 0 < length (drop place text)
       some = omega (arith, length-drop place text)
 

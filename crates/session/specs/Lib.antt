@@ -8,6 +8,7 @@ pub mod Judged
 -- ---- laws
 pub mod StepReadLaws
 pub mod AnswerTextLaws
+pub mod AnswerJobLaws
 pub mod SessionLaws
 pub mod GoingLaws
 pub mod JudgedLaws

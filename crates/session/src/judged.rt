@@ -35,7 +35,7 @@ fn put_session(
     requires { ⌜ line ≤ 65537 ⌝ }
     requires { ⌜ Judged p v c ⌝ }
     ensures { λ r. ⌜ Stored (now (out .entry)) 0 (judgedSession p (outcome p) (drop from (now (text .entry))) line) (now (out .exit)) r ⌝ }
-    ensures { λ r. ⌜ r + 9 * from ≤ 9 * length (now (text .entry)) + 71 ⌝ }
+    ensures { λ r. ⌜ r + 7 * from ≤ 7 * length (now (text .entry)) + 56 ⌝ }
 {
     match v {
         Verdict::Settled(_) => {
@@ -65,7 +65,7 @@ fn write_session(
     ensures { λ _. ⌜ now (out .exit) ≡ written (judgedSession p (outcome p) (drop from (now (text .entry))) line) (now (out .entry)) ⌝ }
 {
     let steps = text.len() - from;
-    let most = 9 * steps + 71;
+    let most = 7 * steps + 56;
     if most <= out.len() {
         let length = put_session(text, from, line, p, v, c, out);
         return Written::Length(length);

@@ -32,7 +32,7 @@ pub fn put_answers(
     requires { ⌜ at ≤ 65536 ⌝ }
     requires { ⌜ Inside p c run ⌝ }
     ensures { λ r. ⌜ Stored (now (out .entry)) at (answers p c run (drop from (now (text .entry))) line) (now (out .exit)) r ⌝ }
-    ensures { λ r. ⌜ 8 * r + 71 * from ≤ 8 * at + 71 * length (now (text .entry)) + 568 ⌝ }
+    ensures { λ r. ⌜ r + 7 * from ≤ at + 7 * length (now (text .entry)) + 56 ⌝ }
 {
     let least = c.at_least;
     let most = c.at_most;

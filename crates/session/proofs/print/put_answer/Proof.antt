@@ -15,13 +15,13 @@ enum-known-a-2 : tie.Need-enum-known-a-2
 enum-known-a-2 c = search needs
 
 put-started-requires : tie.Need-put-started-requires
-put-started-requires c κs = search needs
+put-started-requires c κs = (omega arith, rw (c .before .before .a2 .given .1) at (c .before .before .before .before .before .pre .1))
 
 enum-known-a-3 : tie.Need-enum-known-a-3
 enum-known-a-3 c = search needs
 
 put-final-requires : tie.Need-put-final-requires
-put-final-requires c κs = search needs
+put-final-requires c κs = (omega arith, rw (c .before .before .a3 .given .1) at (c .before .before .before .before .before .pre .1))
 
 enum-known-a-4 : tie.Need-enum-known-a-4
 enum-known-a-4 c = search needs

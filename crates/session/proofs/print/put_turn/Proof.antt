@@ -1,5 +1,10 @@
--- `put_turn`: three numbers in a row, by `turnText-stored`.
+-- `put_turn`: three numbers in a row, by `turnText-stored`; the job has one digit.
+use mathlib.Core.List.{[], _∷_}
 use native.Mathlib.Omega.{arith}
+use lib.ListN.{length-append}
+use Rattle.text.specs.Lines.{comma}
+use Rattle.text.specs.Numbers.{digits}
+use Rattle.text.specs.DigitLaws.{digits-length-one}
 use Rattle.session.specs.AnswerTextLaws.{turnText-stored}
 use borrow.Author.Needs.{needs}
 use Rattle.session.proofs.print.put_turn.Statement.{statement}
@@ -23,7 +28,7 @@ returns c =
     let first = c .before .before .before .before .before .before .before .before .before .before .put-ended-count .ensures in
     let second = c .before .before .before .before .before .before .put-ended-count2 .ensures in
     let third = c .before .before .put-ended-time .ensures in
-    (turnText-stored (a .j) (a .i) (a .t .0) (first .0) (second .0) (third .0), omega (arith, first .1, second .1, third .1))
+    (turnText-stored (a .j) (a .i) (a .t .0) (first .0) (second .0) (third .0), omega (arith, first .1, second .0 .place, length-append (digits (a .i)) (comma ∷ []), digits-length-one (a .i) (omega arith), third .1))
 
 pub put-turn-spec : {M : Type 1} → statement M
 put-turn-spec =

@@ -1,6 +1,6 @@
 -- `put_answers`: the invariant is `Going`, that whatever writes the answers that are left has written all of them; one law a way, `going-..`. What is due,
 -- read off the plan and the calendar, is all that a step reads (`stepped-due`).
-use Prim.Native.Nat.{_+_, _-_, _<_}
+use Prim.Native.Nat.{_+_, _-_, _≤_, _<_}
 use mathlib.Core.Path.{_≡_, sym, ap, subst, _∙_}
 use native.Mathlib.Omega.{arith}
 use denote.Ref.{now}
@@ -9,6 +9,7 @@ use mir.Syntax.{w32}
 use mir.Val.{SFits}
 use mir.Facts.{toZ-ofZ}
 use Rattle.plan.specs.Reading.{read}
+use Rattle.runs.specs.declared.Answered.{Answered}
 use Rattle.runs.specs.declared.Due.{Due}
 use Rattle.runs.specs.Steps.{stepped}
 use Rattle.runs.specs.Due.{duePlan, dueCalendar, StepInside}
@@ -16,6 +17,8 @@ use Rattle.runs.specs.DueLaws.{dueOf-made, stepped-due}
 use Rattle.runs.specs.InsideLaws.{inside-step, inside-job}
 use Rattle.session.specs.StepRead.{stepLine}
 use Rattle.session.specs.StepAt.{stepTold}
+use Rattle.session.specs.AnswerText.{answerJob}
+use Rattle.session.specs.AnswerJobLaws.{stepped-job}
 use Rattle.session.specs.GoingLaws.{Going, going-start, going-end, going-refused, going-last, going-more}
 use borrow.Author.Needs.{needs}
 use Rattle.session.proofs.steps.put_answers.Statement.{statement}
@@ -107,8 +110,17 @@ module _ (c : tie.After-step-due Inv-loop μ-loop) where
       (dueOf-made (a .args .t4) (a .args .t5) (l .loop .run) _ _ (toZ-ofZ w) (c .before .before .before .before .before .before .jobs-done .ensures))
       ∙ stepped-due (a .args .t4) (a .args .t5) (l .loop .run) (inside-job (a .args .t4) (a .args .t5) (l .loop .run) (l .loop .inv .inside)) (c .before .before .before .before .before .before .before .before .read2 .given .0 .0)
 
+  answer-job : answerJob (c .step-due .result .answer) ≤ 9
+  answer-job =
+      let i = inside-job (a .args .t4) (a .args .t5) (l .loop .run) (l .loop .inv .inside) in
+      let h = stepped-job (a .args .t4) (a .args .t5) (l .loop .run) (c .before .before .before .before .before .before .before .before .read2 .given .0 .0) in
+      subst (λ (x : Answered). answerJob (x .answer) ≤ 9) (sym stepped-there) (omega (arith, i, h))
+
 put-answer-requires : tie.Need-put-answer-requires Inv-loop μ-loop
-put-answer-requires c κs = omega (arith, c .before .before .before .before .before .before .before .before .before .before .before .before .before .loop .inv .near, c .before .before .before .before .before .before .before .before .before .before .before .before .before .loop .inv .placed, c .before .before .before .before .before .before .before .before .before .before .before .before .before .before .before .before .before .before .pre)
+put-answer-requires c κs = (
+  omega (arith, c .before .before .before .before .before .before .before .before .before .before .before .before .before .loop .inv .near, c .before .before .before .before .before .before .before .before .before .before .before .before .before .loop .inv .placed, c .before .before .before .before .before .before .before .before .before .before .before .before .before .before .before .before .before .before .pre),
+  answer-job (c .before),
+)
 
 ends-session-requires : tie.Need-ends-session-requires Inv-loop μ-loop
 ends-session-requires c κs = search needs
