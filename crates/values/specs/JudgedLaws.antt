@@ -124,9 +124,14 @@ planJudged-accepted p l e =
           at (AllBounds-at (p .jobs) [] (boundsOf p) i ds (omega (arith, length-take (p .bounds) (p .bound), l .bound-places)) .1);
     }
 
-judgedAnswer-none : (o : Option Refusal) → judgedAnswer o ≡ answer.Accepted → o ≡ none
+-- the answer tells the refusal, or that there is none
+pub judgedAnswer-none : (o : Option Refusal) → judgedAnswer o ≡ answer.Accepted → o ≡ none
 judgedAnswer-none none e = refl
 judgedAnswer-none (some r) e = absurd (let z : _≡_ {A = ℕ} 0 1 = cc in omega arith)
+
+pub judgedAnswer-some : (o : Option Refusal) (x : Refusal) → judgedAnswer o ≡ answer.Refused x → o ≡ some x
+judgedAnswer-some none x e = absurd (let z : _≡_ {A = ℕ} 0 1 = cc in omega arith)
+judgedAnswer-some (some r) x e = let same : r ≡ x = cc in ap some same
 
 -- 'A plan handed over as a value is judged as its text would be': where its text would be read, it is accepted
 pub judgedPlan-accepted : (p : Plan) → Placed p → judgedPlan p ≡ none → Accepted p

@@ -3,19 +3,18 @@ use mathlib.Core.Path.{_≡_}
 use mathlib.Core.List.{List}
 use Prim.Native.Nat.{ℕ}
 use Rattle.text.specs.Unique.{only}
-use Rattle.text.specs.Lent.{written}
 use Rattle.plan.specs.declared.Plan.{Plan}
 use Rattle.plan.specs.declared.PlanAnswer.{PlanAnswer}
 use Rattle.plan.specs.declared.Written.{Written}
-use Rattle.plan.specs.PlanWritten.{planText, judgedPlan}
-use Rattle.plan.specs.Written.{writtenAs}
+use Rattle.plan.specs.PlanWritten.{judgedPlan}
 use Rattle.values.specs.PlanJudged.{judgedAnswer}
+use Rattle.values.specs.PlanWriting.{writtenPlan, planBytes}
 
 pub judge-plan-unique : (p : Plan) {r q : PlanAnswer} → r ≡ judgedAnswer (judgedPlan p) → q ≡ judgedAnswer (judgedPlan p) → r ≡ q
 judge-plan-unique p = only
 
-pub write-plan-unique : (p : Plan) (out : List ℕ) {r q : Written} → r ≡ writtenAs (planText p) out → q ≡ writtenAs (planText p) out → r ≡ q
+pub write-plan-unique : (p : Plan) (out : List ℕ) {r q : Written} → r ≡ writtenPlan p out → q ≡ writtenPlan p out → r ≡ q
 write-plan-unique p out = only
 
-pub write-plan-bytes-unique : (p : Plan) (out : List ℕ) {o u : List ℕ} → o ≡ written (planText p) out → u ≡ written (planText p) out → o ≡ u
+pub write-plan-bytes-unique : (p : Plan) (out : List ℕ) {o u : List ℕ} → o ≡ planBytes p out → u ≡ planBytes p out → o ≡ u
 write-plan-bytes-unique p out = only

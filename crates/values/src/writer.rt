@@ -1,4 +1,5 @@
 // A plan's text, written into a lent slice.
+use crate::plan_value::judge_plan;
 use plan::Bound;
 use plan::EventName;
 use plan::Job;
@@ -7,6 +8,7 @@ use plan::Letter;
 use plan::MOST_BOUNDS;
 use plan::MOST_JOBS;
 use plan::Plan;
+use plan::PlanAnswer;
 use plan::Refusal;
 use plan::Written;
 ghost use mathlib.Core.Path.{_≡_};
@@ -18,6 +20,7 @@ ghost use Rattle.text.specs.Lent.{Stored, written};
 ghost use Rattle.plan.specs.EventNames.{letterByte, kindByte, nameBytes};
 ghost use Rattle.plan.specs.PlanWritten.{keyed, jobsText, boundsText, planText};
 ghost use Rattle.plan.specs.Written.{writtenAs};
+ghost use Rattle.values.specs.PlanWriting.{writtenPlan, planBytes};
 
 // A line that is a key and a number.
 pub fn put_line(out: &mut [u8], at: usize, key: &[u8], z: i64) -> usize
@@ -165,7 +168,7 @@ pub fn put_plan(out: &mut [u8], at: usize, p: Plan) -> usize
 }
 
 // The whole text of a plan, or 12 and not one byte changed.
-pub fn write_plan(p: Plan, out: &mut [u8]) -> Written
+fn write_text(p: Plan, out: &mut [u8]) -> Written
     ensures { λ r. ⌜ r ≡ writtenAs (planText p) (now (out .entry)) ⌝ }
     ensures { λ _. ⌜ now (out .exit) ≡ written (planText p) (now (out .entry)) ⌝ }
 {
@@ -175,4 +178,16 @@ pub fn write_plan(p: Plan, out: &mut [u8]) -> Written
     }
     let length = put_plan(out, 0, p);
     Written::Length(length)
+}
+
+// A plan, judged as its text would be, and then its whole text; or its refusal, or 12, and not one byte changed.
+pub fn write_plan(p: Plan, out: &mut [u8]) -> Written
+    ensures { λ r. ⌜ r ≡ writtenPlan p (now (out .entry)) ⌝ }
+    ensures { λ _. ⌜ now (out .exit) ≡ planBytes p (now (out .entry)) ⌝ }
+{
+    let judged = judge_plan(p);
+    match judged {
+        PlanAnswer::Accepted => write_text(p, out),
+        PlanAnswer::Refused(x) => Written::Refused(x),
+    }
 }

@@ -1,49 +1,45 @@
--- `write_plan`: by the measure of the text (`measured-none`, `measured-whole`).
-use native.Mathlib.Omega.{arith}
+-- `write_plan`: a plan that is judged good is written as its text is (`writtenPlan-accepted`), and one that is judged bad is refused by its own refusal (`writtenPlan-refused`).
 use denote.Ref.{now}
-use lib.ListN.{length, length-take}
-use Rattle.plan.specs.WrittenLaws.{measured-none, measured-whole}
+use Rattle.values.specs.WritingLaws.{writtenPlan-refused, writtenPlan-accepted}
 use borrow.Author.Needs.{needs}
 use Rattle.values.proofs.writer.write_plan.Statement.{statement}
 use Rattle.values.proofs.writer.write_plan.Tie as tie
 
-slice-relend-prefix-put-plan : tie.Need-slice-relend-prefix-put-plan
-slice-relend-prefix-put-plan c = search needs
+judge-plan-requires : tie.Need-judge-plan-requires
+judge-plan-requires c κs = search needs
 
-slice-aggregate-put-plan : tie.Need-slice-aggregate-put-plan
-slice-aggregate-put-plan c = let out = now (c .before .before .args .out) in omega (arith, length-take (length out) out)
+enum-told : tie.Need-enum-told
+enum-told c = search needs
 
-put-plan-requires : tie.Need-put-plan-requires
-put-plan-requires c κs = search needs
+write-text-requires : tie.Need-write-text-requires
+write-text-requires c κs = search needs
+
+enum-known-judged : tie.Need-enum-known-judged
+enum-known-judged c = search needs
 
 same-length : tie.Need-same-length
 same-length c = search needs
 
 returns : tie.Need-returns
 returns c =
-    let d = measured-none (c .before .before .before .put-plan .ensures .0) (omega arith) (c .if1 .taken) in
-    (d .answer, d .bytes)
-
-put-plan-requires-2 : tie.Need-put-plan-requires-2
-put-plan-requires-2 c κs = search needs
-
-same-length-2 : tie.Need-same-length-2
-same-length-2 c = search needs
+    let s = c .before .before .before .before .before .before .before .before in
+    let j = c .before .before .before .before .before .before .judge-plan in
+    writtenPlan-accepted (s .args .p) (now (s .args .out)) (j .result) (j .ensures .0) (c .before .before .before .before .enum-told .given .1) (c .before .before .write-text .ensures)
 
 returns-2 : tie.Need-returns-2
 returns-2 c =
-    let d = measured-whole (c .before .before .before .before .before .before .before .put-plan .ensures .0) (omega arith) (c .before .before .before .before .if1 .left) (c .before .before .put-plan2 .ensures .0) in
-    (d .answer, d .bytes)
+    let s = c .before .before .before .before .before in
+    let j = c .before .before .before .judge-plan in
+    writtenPlan-refused (s .args .p) (now (s .args .out)) (j .result) (j .ensures .0) _ (c .before .judged .given .1)
 
 pub write-plan-spec : {M : Type 1} → statement M
 write-plan-spec =
     tie.close
     (tie.spec
-    slice-relend-prefix-put-plan
-    slice-aggregate-put-plan
-    put-plan-requires
+    judge-plan-requires
+    enum-told
+    write-text-requires
+    enum-known-judged
     same-length
     returns
-    put-plan-requires-2
-    same-length-2
     returns-2)
