@@ -1,10 +1,11 @@
 -- The tables on which the code works: every bound in them was judged and is kept, and each event has its two bounds with the origin, which
 -- only fall. So every weight lies in range.
-use Prim.Native.Nat.{ℕ, _+_, _<_}
+use Prim.Native.Nat.{ℕ, _+_, _≤_, _<_}
 use mathlib.Core.Path.{_≡_}
 use lib.IntN.{ℤ, negℤ}
 use lib.Signed.{_≤ℤ_}
 use mathlib.Core.List.{List}
+use lib.ListN.{length}
 use Rattle.plan.specs.declared.Plan.{Plan}
 use Rattle.plan.specs.Accepted.{Accepted}
 use Rattle.bounds.specs.declared.Judgement.{Judgement}
@@ -13,7 +14,7 @@ use Rattle.bounds.specs.Events.{earliest, latest, eventOf, nodes}
 use Rattle.bounds.specs.Judgements.{judged}
 use Rattle.bounds.specs.Tables.{Cell, off, upto, Rows, at}
 use Rattle.bounds.specs.Spans.{Times}
-use Rattle.bounds.specs.Flat.{AllTimed}
+use Rattle.bounds.specs.Flat.{AllTimed, rowsOf}
 
 -- a cell that holds a bound of at most w
 pub record AtMost (c : Cell) (w : ℤ) : Type 0 where
@@ -32,3 +33,15 @@ pub record Clocked (p : Plan) (early late : List ℤ) : Type 0 where
   pub accepted : Accepted p
   pub times : Times p (nodes (p .jobs + p .jobs)) early late
   pub timed : AllTimed early late
+
+-- with these, an array that holds a table on so many of the plan's nodes: what the elimination of its last events rests on
+pub record StandingOf (p : Plan) (early late : List ℤ) (k : ℕ) (ws : List ℤ) : Type 0 where
+  pub clocked : Clocked p early late
+  pub room : k ≤ nodes (p .jobs + p .jobs)
+  pub size : length ws ≡ 1369
+  pub fit : Fit p k (rowsOf k ws)
+
+-- and the same of some plan
+pub record Standing (early late : List ℤ) (k : ℕ) (ws : List ℤ) : Type 0 where
+  pub plan : Plan
+  pub stands : StandingOf plan early late k ws

@@ -46,6 +46,10 @@ rowsOf k ws = build k (cellAt ws)
 abbrev pub setOf : ℕ → JudgedSet → Set
 setOf k r = cond (r .contradiction) contradiction (bounds (rowsOf k (r .table .weights)))
 
+-- the set that an array holds on k nodes, where no contradiction was found
+abbrev pub setIn : ℕ → Bool → List ℤ → Set
+setIn k found ws = cond found contradiction (bounds (rowsOf k ws))
+
 -- ---- one bound put into an array
 
 -- an array, and whether a contradiction was found

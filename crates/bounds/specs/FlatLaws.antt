@@ -12,7 +12,7 @@ use Rattle.whole.specs.Split.{eqZ}
 use Rattle.bounds.specs.declared.Judgement.{Judgement}
 use Rattle.bounds.specs.declared.Judgement.the-variants.{Contradiction, LeftOut, Kept}
 use Rattle.bounds.specs.Spans.{judgedAt}
-use Rattle.bounds.specs.Flat.{noBound, place, weightAt, Flat, flat, stored, keptAt, putAt, thenFlat, eachNode, joinedAt, joinedCells, joinedRow, movedAt}
+use Rattle.bounds.specs.Flat.{noBound, place, weightAt, Flat, flat, stored, keptAt, putAt, thenFlat, eachNode, joinedAt, joinedCells, joinedRow, joinedRows, movedAt, movedRows}
 
 module _ (early late : List ℤ) (y z : ℕ) (v a : ℤ) (ws : List ℤ) where
   pub putAt-none : eqZ v noBound ≡ true → flat false ws ≡ putAt early late y z v a ws
@@ -130,6 +130,12 @@ eachNode-keeps step n P each z (suc count) e ws h =
     thenFlat-keeps P (step z ws) (eachNode step (z + 1) count) (each z ws (omega arith) h)
     (λ us k. eachNode-keeps step n P each (z + 1) count (omega arith) us k)
 
+-- a step that keeps the array's length, at each node
+pub eachNode-length : (step : ℕ → List ℤ → Flat) → ((z : ℕ) (ws : List ℤ) → length (step z ws .weights) ≡ length ws)
+    → (z count : ℕ) (ws : List ℤ) → length (eachNode step z count ws .weights) ≡ length ws
+eachNode-length step each z count ws =
+    eachNode-keeps step (z + count) (λ us. length us ≡ length ws) (λ z us l e. each z us ∙ e) z count refl ws refl
+
 -- a stage for each node: each step leads from one to the next, or fails
 pub eachNode-outcome : (step : ℕ → List ℤ → Flat) (n : ℕ) (P : ℕ → List ℤ → Type 0) (F : Type 0)
     → ((z : ℕ) (ws : List ℤ) → z < n → P z ws → Outcome (P (z + 1)) F (step z ws))
@@ -168,6 +174,15 @@ module _ (early late : List ℤ) (s y : ℕ) (ws : List ℤ) where
       ws
       refl)
 
+  joinedRow-length : length (joinedRow early late s y ws .weights) ≡ length ws
+  unfolding joinedRow
+  joinedRow-length =
+      either-length (eqZ (weightAt ws y s) noBound) _ ws
+      (eachNode-length (joinedAt early late s y (weightAt ws y s)) (λ z us. putAt-length early late y z (weightAt us s z) (weightAt ws y s) us) 0 s ws)
+
+pub joinedRows-length : (early late : List ℤ) (s : ℕ) (ws : List ℤ) → length (joinedRows early late s ws .weights) ≡ length ws
+joinedRows-length early late s ws = eachNode-length (joinedRow early late s) (λ y us. joinedRow-length early late s y us) 0 s ws
+
 -- ---- a node of a finish that is eliminated
 
 module _ (early late : List ℤ) (s f : ℕ) (less more : ℤ) (y : ℕ) (ws : List ℤ) where
@@ -192,3 +207,14 @@ module _ (early late : List ℤ) (s f : ℕ) (less more : ℤ) (y : ℕ) (ws : L
       thenFlat-keeps (λ us. getD us i d ≡ getD ws i d) (putAt early late y s (weightAt ws y f) less ws) (λ us. putAt early late s y (weightAt us f y) more us)
       (putAt-same early late y s (weightAt ws y f) less ws i d m)
       (λ us e. putAt-same early late s y (weightAt us f y) more us i d n ∙ e)
+
+  movedAt-length : length (movedAt early late s f less more y ws .weights) ≡ length ws
+  unfolding movedAt
+  movedAt-length =
+      thenFlat-keeps (λ us. length us ≡ length ws) (putAt early late y s (weightAt ws y f) less ws) (λ us. putAt early late s y (weightAt us f y) more us)
+      (putAt-length early late y s (weightAt ws y f) less ws)
+      (λ us e. putAt-length early late s y (weightAt us f y) more us ∙ e)
+
+pub movedRows-length : (early late : List ℤ) (s f : ℕ) (less more : ℤ) (ws : List ℤ) → length (movedRows early late s f less more ws .weights) ≡ length ws
+movedRows-length early late s f less more ws =
+    eachNode-length (movedAt early late s f less more) (λ y us. movedAt-length early late s f less more y us) 0 f ws

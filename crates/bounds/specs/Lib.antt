@@ -21,6 +21,7 @@ pub mod FinishLaws
 pub mod FitLaws
 pub mod ClockedLaws
 pub mod PlacesLaws
+pub mod StandingLaws
 pub mod TowardsLaws
 pub mod BoundsLaws
 pub mod FillLaws

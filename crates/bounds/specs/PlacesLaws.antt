@@ -11,7 +11,7 @@ use Rattle.bounds.specs.declared.JudgedSet.{JudgedSet}
 use Rattle.bounds.specs.Events.{startNode, finishNode, nodes}
 use Rattle.bounds.specs.Tables.{Rows, Set, contradiction, bounds}
 use Rattle.bounds.specs.Elimination.{withoutStart, withoutFinish, thenSet, withoutPlace, eliminated}
-use Rattle.bounds.specs.Flat.{rowsOf, setOf}
+use Rattle.bounds.specs.Flat.{rowsOf, setOf, setIn}
 use Rattle.bounds.specs.Fit.{Fit}
 use Rattle.bounds.specs.FitLaws.{withoutStart-fit, withoutFinish-fit}
 
@@ -23,9 +23,15 @@ setOf-found k r e = ap (λ b. cond b contradiction (bounds (rowsOf k (r .table .
 pub setOf-left : (k : ℕ) (r : JudgedSet) → r .contradiction ≡ false → setOf k r ≡ bounds (rowsOf k (r .table .weights))
 setOf-left k r e = ap (λ b. cond b contradiction (bounds (rowsOf k (r .table .weights)))) e
 
+pub setIn-found : (k : ℕ) (found : Bool) (ws : List ℤ) → found ≡ true → setIn k found ws ≡ contradiction
+setIn-found k found ws e = ap (λ b. setIn k b ws) e
+
+pub setIn-left : (k : ℕ) (found : Bool) (ws : List ℤ) → found ≡ false → setIn k found ws ≡ bounds (rowsOf k ws)
+setIn-left k found ws e = ap (λ b. setIn k b ws) e
+
 -- ---- nodes
 
-finish-next : (k : ℕ) → finishNode k ≡ suc (startNode k)
+pub finish-next : (k : ℕ) → finishNode k ≡ suc (startNode k)
 finish-next k = omega arith
 
 pub place-next : (k : ℕ) → suc (finishNode k) ≡ nodes (k + 1)
@@ -53,6 +59,14 @@ module _ (p : Plan) (k : ℕ) (t : Rows) where
       subst (λ n. Fit p n (rowsOf n (r .table .weights))) (finish-next k)
       (withoutFinish-fit p k t (rowsOf (finishNode k) (r .table .weights)) fit (sym e ∙ setOf-left (finishNode k) r c))
 
+  pub withoutPlace-none : withoutFinish p k t ≡ contradiction → withoutPlace p k t ≡ contradiction
+  unfolding withoutPlace thenSet
+  withoutPlace-none e = ap (λ s. thenSet s (withoutStart p k)) e
+
+  pub withoutPlace-some : (u : Rows) → withoutFinish p k t ≡ bounds u → withoutPlace p k t ≡ withoutStart p k u
+  unfolding withoutPlace thenSet
+  withoutPlace-some u e = ap (λ s. thenSet s (withoutStart p k)) e
+
 then-fit : (p : Plan) (k : ℕ) (s : Set) (u : Rows) → ((v : Rows) → s ≡ bounds v → Fit p (finishNode k) v) → thenSet s (withoutStart p k) ≡ bounds u → Fit p (startNode k) u
 unfolding thenSet
 then-fit p k contradiction u f e = absurd (let z : _≡_ {A = ℕ} 0 1 = cc in omega arith)
@@ -79,6 +93,14 @@ module _ (p : Plan) (low count : ℕ) (t : Rows) (some : 0 < count) where
       → eliminated p low count t ≡ eliminated p low (count - 1) (rowsOf k (r .table .weights))
   unfolding thenSet
   eliminated-past r k e c = turn ∙ ap (λ s. thenSet s (eliminated p low (count - 1))) (sym e ∙ setOf-left k r c)
+
+  pub eliminated-none : withoutPlace p (low + (count - 1)) t ≡ contradiction → eliminated p low count t ≡ contradiction
+  unfolding thenSet
+  eliminated-none e = turn ∙ ap (λ s. thenSet s (eliminated p low (count - 1))) e
+
+  pub eliminated-some : (u : Rows) → withoutPlace p (low + (count - 1)) t ≡ bounds u → eliminated p low count t ≡ eliminated p low (count - 1) u
+  unfolding thenSet
+  eliminated-some u e = turn ∙ ap (λ s. thenSet s (eliminated p low (count - 1))) e
 
 pub eliminated-end : (p : Plan) (low count : ℕ) (t : Rows) → count ≡ 0 → eliminated p low count t ≡ bounds t
 unfolding eliminated

@@ -4,10 +4,14 @@ mod cells;
 mod eliminate;
 mod judging;
 mod nodes;
+mod places;
 mod tables;
 mod times;
 
 pub use cells::put;
+pub use places::drop_finish;
+pub use places::drop_places;
+pub use places::drop_start;
 pub use times::times_of;
 
 // The events of a bound z - y <= w. Jobs are counted by their place from the first job of this window on, so that the next window's

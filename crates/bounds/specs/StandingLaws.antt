@@ -1,0 +1,84 @@
+-- Events eliminated from an array, one after the other: where no contradiction is found, the array that remains stands for what follows, and where one is,
+-- that is the whole answer.
+use Prim.Native.Nat.{ℕ, suc, _+_, _-_, _<_}
+use mathlib.Core.Path.{_≡_, sym, ap, subst, _∙_}
+use mathlib.Core.Bool.{Bool, true, false}
+use mathlib.Core.List.{List}
+use native.Mathlib.Omega.{arith}
+use lib.IntN.{ℤ}
+use lib.ListN.{length}
+use Rattle.plan.specs.declared.Plan.{Plan}
+use Rattle.bounds.specs.Events.{startNode, finishNode, nodes}
+use Rattle.bounds.specs.Tables.{contradiction, bounds}
+use Rattle.bounds.specs.Elimination.{withoutStart, withoutFinish, withoutPlace, eliminated}
+use Rattle.bounds.specs.Flat.{rowsOf, setIn}
+use Rattle.bounds.specs.Fit.{Fit, StandingOf}
+use Rattle.bounds.specs.FitLaws.{withoutFinish-fit}
+use Rattle.bounds.specs.PlacesLaws.{setIn-found, setIn-left, finish-next, place-next, withoutPlace-none, withoutPlace-some, withoutPlace-fit, eliminated-none, eliminated-some}
+
+-- ---- one place
+
+module _ (p : Plan) (early late : List ℤ) (k : ℕ) (ws : List ℤ) where
+  pub finish-standing : StandingOf p early late (nodes (k + 1)) ws → StandingOf p early late (suc (finishNode k)) ws
+  finish-standing g = subst (λ n. StandingOf p early late n ws) (sym (place-next k)) g
+
+  -- what its finish leaves
+  module _ (found : Bool) (us : List ℤ) (e : setIn (finishNode k) found us ≡ withoutFinish p k (rowsOf (suc (finishNode k)) ws)) where
+    finish-is : setIn (finishNode k) found us ≡ withoutFinish p k (rowsOf (nodes (k + 1)) ws)
+    finish-is = e ∙ ap (λ n. withoutFinish p k (rowsOf n ws)) (place-next k)
+
+    pub place-found : found ≡ true → withoutPlace p k (rowsOf (nodes (k + 1)) ws) ≡ contradiction
+    place-found f = withoutPlace-none p k (rowsOf (nodes (k + 1)) ws) (sym finish-is ∙ setIn-found (finishNode k) found us f)
+
+    pub place-left : found ≡ false → withoutPlace p k (rowsOf (nodes (k + 1)) ws) ≡ withoutStart p k (rowsOf (suc (startNode k)) us)
+    place-left f =
+        withoutPlace-some p k (rowsOf (nodes (k + 1)) ws) (rowsOf (suc (startNode k)) us)
+        (sym finish-is ∙ setIn-left (finishNode k) found us f ∙ ap (λ n. bounds (rowsOf n us)) (finish-next k))
+
+    pub start-standing : StandingOf p early late (suc (finishNode k)) ws → found ≡ false → length us ≡ length ws → StandingOf p early late (suc (startNode k)) us
+    start-standing g f size =
+        let room = g .room in
+        record {
+          clocked = g .clocked;
+          room = omega arith;
+          size = size ∙ g .size;
+          fit = subst (λ n. Fit p n (rowsOf n us)) (finish-next k)
+              (withoutFinish-fit p k (rowsOf (suc (finishNode k)) ws) (rowsOf (finishNode k) us) (g .fit) (sym e ∙ setIn-left (finishNode k) found us f));
+        }
+
+-- ---- the last of several places
+
+last-place : (low left : ℕ) → 0 < left → nodes (low + left) ≡ nodes (low + (left - 1) + 1)
+last-place low left h = omega arith
+
+module _ (p : Plan) (early late : List ℤ) (low left : ℕ) (ws : List ℤ) (some : 0 < left) where
+  pub last-standing : StandingOf p early late (nodes (low + left)) ws → StandingOf p early late (nodes (low + (left - 1) + 1)) ws
+  last-standing g = subst (λ n. StandingOf p early late n ws) (last-place low left some) g
+
+  module _ (found : Bool) (us : List ℤ)
+      (e : setIn (nodes (low + (left - 1))) found us ≡ withoutPlace p (low + (left - 1)) (rowsOf (nodes (low + (left - 1) + 1)) ws)) where
+    place-is : setIn (nodes (low + (left - 1))) found us ≡ withoutPlace p (low + (left - 1)) (rowsOf (nodes (low + left)) ws)
+    place-is = e ∙ ap (λ n. withoutPlace p (low + (left - 1)) (rowsOf n ws)) (sym (last-place low left some))
+
+    pub places-found : found ≡ true → eliminated p low left (rowsOf (nodes (low + left)) ws) ≡ contradiction
+    places-found f =
+        eliminated-none p low left (rowsOf (nodes (low + left)) ws) some (sym place-is ∙ setIn-found (nodes (low + (left - 1))) found us f)
+
+    pub places-left : found ≡ false
+        → eliminated p low left (rowsOf (nodes (low + left)) ws) ≡ eliminated p low (left - 1) (rowsOf (nodes (low + (left - 1))) us)
+    places-left f =
+        eliminated-some p low left (rowsOf (nodes (low + left)) ws) some (rowsOf (nodes (low + (left - 1))) us)
+        (sym place-is ∙ setIn-left (nodes (low + (left - 1))) found us f)
+
+    pub places-standing : StandingOf p early late (nodes (low + left)) ws → found ≡ false → length us ≡ length ws
+        → StandingOf p early late (nodes (low + (left - 1))) us
+    places-standing g f size =
+        let room = g .room in
+        record {
+          clocked = g .clocked;
+          room = omega arith;
+          size = size ∙ g .size;
+          fit = withoutPlace-fit p (low + (left - 1)) (rowsOf (nodes (low + (left - 1) + 1)) ws) (rowsOf (nodes (low + (left - 1))) us)
+              (last-standing g .fit)
+              (sym e ∙ setIn-left (nodes (low + (left - 1))) found us f);
+        }
