@@ -2,7 +2,7 @@
 use Prim.Native.Nat.{ℕ, zero, suc, _+_, _*_, _-_, _≤_, _<_}
 use mathlib.Core.Path.{_≡_, refl, sym, ap, subst, _∙_}
 use mathlib.Core.Bool.{Bool, true, false, cond}
-use mathlib.Core.List.{List}
+use mathlib.Core.List.{List, [], _∷_}
 use native.Mathlib.Omega.{arith}
 use lib.IntN.{ℤ, pos, _+ℤ_}
 use lib.Signed.{leZ}
@@ -11,8 +11,10 @@ use lib.Seq.{getD-set-other}
 use Rattle.whole.specs.Split.{eqZ}
 use Rattle.bounds.specs.declared.Judgement.{Judgement}
 use Rattle.bounds.specs.declared.Judgement.the-variants.{Contradiction, LeftOut, Kept}
+use Rattle.bounds.specs.Events.{nodeOf}
+use Rattle.bounds.specs.Tables.{Between}
 use Rattle.bounds.specs.Spans.{judgedAt}
-use Rattle.bounds.specs.Flat.{noBound, place, weightAt, Flat, flat, stored, keptAt, putAt, thenFlat, eachNode, joinedAt, joinedCells, joinedRow, joinedRows, movedAt, movedRows}
+use Rattle.bounds.specs.Flat.{noBound, place, weightAt, Flat, flat, stored, keptAt, putAt, thenFlat, eachNode, putBounds, joinedAt, joinedCells, joinedRow, joinedRows, movedAt, movedRows}
 
 module _ (early late : List ℤ) (y z : ℕ) (v a : ℤ) (ws : List ℤ) where
   pub putAt-none : eqZ v noBound ≡ true → flat false ws ≡ putAt early late y z v a ws
@@ -149,6 +151,15 @@ eachNode-outcome step n P F each z zero e ws h =
 eachNode-outcome step n P F each z (suc count) e ws h =
     thenFlat-outcome (P (z + 1)) (P n) F (step z ws) (eachNode step (z + 1) count) (each z ws (omega arith) h)
     (λ us k. eachNode-outcome step n P F each (z + 1) count (omega arith) us k)
+
+-- bounds that are put one after the other keep the array's length
+pub putBounds-length : (early late : List ℤ) (bs : List Between) (ws : List ℤ) → length (putBounds early late bs ws .weights) ≡ length ws
+unfolding putBounds
+putBounds-length early late [] ws = refl
+putBounds-length early late (b ∷ bs) ws =
+    thenFlat-keeps (λ us. length us ≡ length ws) (putAt early late (nodeOf (b .y)) (nodeOf (b .z)) (b .w) (pos 0) ws) (putBounds early late bs)
+    (putAt-length early late (nodeOf (b .y)) (nodeOf (b .z)) (b .w) (pos 0) ws)
+    (λ us e. putBounds-length early late bs us ∙ e)
 
 -- ---- a row of a start that is eliminated
 

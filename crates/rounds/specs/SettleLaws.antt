@@ -4,24 +4,25 @@ use mathlib.Core.Path.{_≡_, refl, sym, ap, subst, _∙_}
 use mathlib.Core.Bool.{Bool, true, false, cond}
 use mathlib.Core.List.{List}
 use native.Mathlib.Omega.{arith}
-use lib.IntN.{ℤ}
+use lib.IntN.{ℤ, _-ℤ_}
+use lib.ListN.{length, length-replicate}
 use Rattle.whole.specs.Rules.{wholes}
 use Rattle.plan.specs.declared.Plan.{Plan}
-use Rattle.bounds.specs.declared.JudgedSet.{JudgedSet}
 use Rattle.bounds.specs.Events.{nodes}
 use Rattle.bounds.specs.Tables.{Rows, Set, contradiction, bounds}
 use Rattle.bounds.specs.Elimination.{thenSet, eliminated}
-use Rattle.bounds.specs.Flat.{rowsOf, setOf, weightAt, Weighed, flat, putBounds, noBounds}
+use Rattle.bounds.specs.Flat.{rowsOf, setIn, weightAt, Weighed, flat, noBound, putBounds, noBounds}
 use Rattle.bounds.specs.FlatLaws as flats
+use Rattle.bounds.specs.FlatLaws.{putAt-length, eachNode-length, putBounds-length}
 use Rattle.bounds.specs.TowardsLaws.{Towards}
-use Rattle.bounds.specs.Fit.{Fit, Clocked}
+use Rattle.bounds.specs.Fit.{Fit, Clocked, StandingOf}
 use Rattle.bounds.specs.FitLaws.{fit-weighed}
-use Rattle.bounds.specs.PlacesLaws.{setOf-found, setOf-left}
+use Rattle.bounds.specs.PlacesLaws.{setIn-found, setIn-left}
 use Rattle.rounds.specs.declared.Verdict.the-variants.{Settled, NoStrategy, Unsettled}
 use Rattle.rounds.specs.Given.{ownBounds, betweenBounds}
 use Rattle.rounds.specs.Rounds.{C0, onNext, joined, round, sameRows, isContradictory, failsAlone, Outcome, settled, noStrategy, unsettled, decided, roundsFrom, outcomeFrom, outcome, verdictOf, verdict}
 use Rattle.rounds.specs.SameLaws.{sameRows-unique}
-use Rattle.rounds.specs.Next.{Nexts, nextRows}
+use Rattle.rounds.specs.Next.{Nexts, onto, movedBy, nextAt, nextRow, nextRows}
 use Rattle.rounds.specs.NextLaws.{nextRows-outcome}
 use Rattle.rounds.specs.JoinedLaws.{own-rows, between-outcome}
 use Rattle.rounds.specs.CarriedLaws.{C0-fit, joined-fit, eliminated-fit}
@@ -99,6 +100,12 @@ module _ (p : Plan) (early late : List ℤ) (clocked : Clocked p early late) (ow
   pub own-fit : Fit p (nodes (p .jobs)) (rowsOf (nodes (p .jobs)) own)
   own-fit = C0-fit p c0 (own-rows p early late clocked own own-put)
 
+  pub own-size : length own ≡ 1369
+  own-size = ap (λ r. length (r .weights)) own-put ∙ putBounds-length early late (ownBounds p) noBounds ∙ length-replicate 1369 noBound
+
+  pub own-standing : StandingOf p early late (nodes (p .jobs)) own
+  own-standing = record { clocked = clocked; room = omega arith; size = own-size; fit = own-fit }
+
   pub first-round : outcome p ≡ roundsFrom p (rowsOf (nodes (p .jobs)) own) 1 (p .rounds) (rowsOf (nodes (p .jobs)) own)
   unfolding outcome outcomeFrom
   first-round = ap (outcomeFrom p) (own-rows p early late clocked own own-put)
@@ -122,6 +129,16 @@ pub record Carrying (p : Plan) (early late own base : List ℤ) (m left : ℕ) (
   pub some : 0 < left
   pub before : outcome p ≡ roundsFrom p (rowsOf (nodes (p .jobs)) own) m left (rowsOf (nodes (p .jobs)) ts)
   pub fit : Fit p (nodes (p .jobs)) (rowsOf (nodes (p .jobs)) ts)
+  pub size : length ts ≡ 1369
+
+-- a carried set that is put on the next window keeps the array's length
+nextRows-length : (early late : List ℤ) (jobs : ℕ) (window : ℤ) (ts ws : List ℤ) → length (nextRows early late jobs window ts ws .weights) ≡ length ws
+nextRows-length early late jobs window ts ws =
+    eachNode-length (nextRow early late jobs window ts)
+    (λ y us. eachNode-length (nextAt early late jobs window ts y) (λ z vs. putAt-length early late (onto jobs y) (onto jobs z) (weightAt ts y z) (movedBy window z -ℤ movedBy window y) vs) 0 (nodes jobs) us)
+    0
+    (nodes jobs)
+    ws
 
 module _ {p : Plan} {early late own base : List ℤ} {m left : ℕ} {ts : List ℤ} (g : Carrying p early late own base m left ts) where
   abbrev k : ℕ
@@ -132,6 +149,14 @@ module _ {p : Plan} {early late own base : List ℤ} {m left : ℕ} {ts : List �
 
   weighed : (y z : ℕ) → y < nodes (p .jobs) → z < nodes (p .jobs) → Weighed (weightAt ts y z)
   weighed = fit-weighed p k ts (g .fit) (g .clocked .accepted) (omega arith)
+
+  pub carried-standing : StandingOf p early late (nodes (p .jobs)) ts
+  carried-standing = record { clocked = g .clocked; room = omega arith; size = g .size; fit = g .fit }
+
+  base-size : length base ≡ 1369
+  base-size =
+      ap (λ r. length (r .weights)) (g .based .base-put) ∙ putBounds-length early late (betweenBounds p) own
+      ∙ own-size p early late (g .clocked) own (g .based .own-put)
 
   pub carried-nexts : Nexts early late (p .jobs) (p .window) ts
   carried-nexts =
@@ -173,31 +198,40 @@ module _ {p : Plan} {early late own base : List ℤ} {m left : ℕ} {ts : List �
       joined-fits =
           joined-fit p (rowsOf k own) (rowsOf k ts) (own-fit p early late (g .clocked) own (g .based .own-put)) (g .fit) (rowsOf both us) joined-is
 
-      -- and the next window's events are eliminated
-      module _ (r : JudgedSet) (e : setOf (nodes (p .jobs)) r ≡ eliminated p (p .jobs) (p .jobs) (rowsOf (nodes (p .jobs + p .jobs)) us)) where
-        pub remains-none : r .contradiction ≡ true → outcome p ≡ noStrategy (cond (failsAlone p (rowsOf (nodes (p .jobs)) ts)) m (m + 1))
-        remains-none c = turn-none (round-some p (rowsOf k own) (rowsOf k ts) (rowsOf both us) joined-is ∙ sym e ∙ setOf-found k r c)
+      pub joined-standing : StandingOf p early late (nodes (p .jobs + p .jobs)) us
+      joined-standing =
+          record {
+            clocked = g .clocked;
+            room = omega arith;
+            size = ap (λ r. length (r .weights)) put ∙ nextRows-length early late (p .jobs) (p .window) ts base ∙ base-size;
+            fit = joined-fits;
+          }
 
-        module _ (c : r .contradiction ≡ false) where
+      -- and the next window's events are eliminated
+      module _ (none : Bool) (vs : List ℤ) (e : setIn (nodes (p .jobs)) none vs ≡ eliminated p (p .jobs) (p .jobs) (rowsOf (nodes (p .jobs + p .jobs)) us)) where
+        pub remains-none : none ≡ true → outcome p ≡ noStrategy (cond (failsAlone p (rowsOf (nodes (p .jobs)) ts)) m (m + 1))
+        remains-none c = turn-none (round-some p (rowsOf k own) (rowsOf k ts) (rowsOf both us) joined-is ∙ sym e ∙ setIn-found k none vs c)
+
+        module _ (c : none ≡ false) where
           abbrev remains : Rows
-          remains = rowsOf k (r .table .weights)
+          remains = rowsOf k vs
 
           left-is : eliminated p (p .jobs) (p .jobs) (rowsOf both us) ≡ bounds remains
-          left-is = sym e ∙ setOf-left k r c
+          left-is = sym e ∙ setIn-left k none vs c
 
           round-is : round p (rowsOf k own) (rowsOf k ts) ≡ bounds remains
           round-is = round-some p (rowsOf k own) (rowsOf k ts) (rowsOf both us) joined-is ∙ left-is
 
-          pub remains-fit : Fit p (nodes (p .jobs)) (rowsOf (nodes (p .jobs)) (r .table .weights))
+          pub remains-fit : Fit p (nodes (p .jobs)) (rowsOf (nodes (p .jobs)) vs)
           remains-fit = eliminated-fit p (p .jobs) (p .jobs) (rowsOf both us) remains joined-fits left-is
 
-          pub round-later : sameRows (rowsOf (nodes (p .jobs)) ts) (rowsOf (nodes (p .jobs)) (r .table .weights)) ≡ false
-              → outcome p ≡ roundsFrom p (rowsOf (nodes (p .jobs)) own) (m + 1) (left - 1) (rowsOf (nodes (p .jobs)) (r .table .weights))
+          pub round-later : sameRows (rowsOf (nodes (p .jobs)) ts) (rowsOf (nodes (p .jobs)) vs) ≡ false
+              → outcome p ≡ roundsFrom p (rowsOf (nodes (p .jobs)) own) (m + 1) (left - 1) (rowsOf (nodes (p .jobs)) vs)
           round-later h =
               turn ∙ decided-later p m (rowsOf k ts) (round p (rowsOf k own) (rowsOf k ts)) (roundsFrom p (rowsOf k own) (m + 1) (left - 1)) remains round-is h
 
-          module _ (h : sameRows (rowsOf (nodes (p .jobs)) ts) (rowsOf (nodes (p .jobs)) (r .table .weights)) ≡ true) where
-            pub round-settled : outcome p ≡ settled m (rowsOf (nodes (p .jobs)) (r .table .weights))
+          module _ (h : sameRows (rowsOf (nodes (p .jobs)) ts) (rowsOf (nodes (p .jobs)) vs) ≡ true) where
+            pub round-settled : outcome p ≡ settled m (rowsOf (nodes (p .jobs)) vs)
             round-settled =
                 turn
                 ∙ decided-settled p m (rowsOf k ts) (round p (rowsOf k own) (rowsOf k ts)) (roundsFrom p (rowsOf k own) (m + 1) (left - 1)) remains round-is h
@@ -215,11 +249,11 @@ module _ {p : Plan} {early late own base : List ℤ} {m left : ℕ} {ts : List �
 
 -- ---- one window alone
 
-pub alone-is : (p : Plan) (t : Rows) (n : ℕ) (r : JudgedSet) → setOf n r ≡ eliminated p 0 (p .jobs) t → r .contradiction ≡ failsAlone p t
+pub alone-is : (p : Plan) (t : Rows) (n : ℕ) (found : Bool) (ws : List ℤ) → setIn n found ws ≡ eliminated p 0 (p .jobs) t → found ≡ failsAlone p t
 unfolding failsAlone
-alone-is p t n r e = told (r .contradiction) ∙ ap isContradictory e
+alone-is p t n found ws e = told found ∙ ap isContradictory e
   where
-    told : (b : Bool) → b ≡ isContradictory (cond b contradiction (bounds (rowsOf n (r .table .weights))))
+    told : (b : Bool) → b ≡ isContradictory (setIn n b ws)
     told true = refl
     told false = refl
 

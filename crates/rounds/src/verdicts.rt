@@ -6,14 +6,16 @@ use super::own::put_between;
 use super::own::put_own;
 use super::same::same_rows;
 use bounds::Table;
+use bounds::drop_places;
 use plan::Plan;
 ghost use mathlib.Core.Path.{_≡_};
 ghost use mathlib.Core.Bool.{cond};
 ghost use Prim.Native.Nat.{_+_, _≤_};
+ghost use lib.ListN.{length};
 ghost use Rattle.plan.specs.Limits.{mostRounds};
 ghost use Rattle.bounds.specs.Events.{nodes};
 ghost use Rattle.bounds.specs.Flat.{rowsOf};
-ghost use Rattle.bounds.specs.Fit.{Fit, Clocked};
+ghost use Rattle.bounds.specs.Fit.{Clocked, StandingOf};
 ghost use Rattle.rounds.specs.declared.Verdict.the-variants.{NoStrategy};
 ghost use Rattle.rounds.specs.Rounds.{failsAlone, verdict};
 ghost use Rattle.rounds.specs.Settling.{SettledOn, Based};
@@ -23,14 +25,14 @@ fn fails_alone<'a>(
     p: Plan,
     early: &'a [i32; Table::SIDE],
     late: &'a [i32; Table::SIDE],
-    carried: Table,
+    carried: &'a [i32; Table::SIZE],
 ) -> bool
-    requires { ⌜ (Clocked p (now early) (now late)) × (Fit p (nodes (p .jobs)) (rowsOf (nodes (p .jobs)) (carried .weights))) ⌝ }
-    ensures { λ r. ⌜ r ≡ failsAlone p (rowsOf (nodes (p .jobs)) (carried .weights)) ⌝ }
+    requires { ⌜ StandingOf p (now early) (now late) (nodes (p .jobs)) (now carried) ⌝ }
+    ensures { λ r. ⌜ r ≡ failsAlone p (rowsOf (nodes (p .jobs)) (now (carried .entry))) ⌝ }
 {
     let jobs = p.jobs;
-    let alone = carried.eliminated(p, early, late, 0, jobs);
-    alone.contradiction
+    let mut weights = *carried;
+    drop_places(&mut weights, early, late, 0, jobs)
 }
 
 // 'First contradiction in round m: if one window alone, with C(m-1), gives a contradiction when it is eliminated, K = m, else K = m + 1.'
@@ -38,71 +40,55 @@ fn contradicted<'a>(
     p: Plan,
     early: &'a [i32; Table::SIDE],
     late: &'a [i32; Table::SIDE],
-    carried: Table,
+    carried: &'a [i32; Table::SIZE],
     m: u64,
-) -> Settling
-    requires { ⌜ (Clocked p (now early) (now late)) × (Fit p (nodes (p .jobs)) (rowsOf (nodes (p .jobs)) (carried .weights))) × (m ≤ mostRounds) ⌝ }
-    ensures { λ r. ⌜ r .verdict ≡ NoStrategy (cond (failsAlone p (rowsOf (nodes (p .jobs)) (carried .weights))) m (m + 1)) ⌝ }
+) -> Verdict
+    requires { ⌜ (StandingOf p (now early) (now late) (nodes (p .jobs)) (now carried)) × (m ≤ mostRounds) ⌝ }
+    ensures { λ r. ⌜ r ≡ NoStrategy (cond (failsAlone p (rowsOf (nodes (p .jobs)) (now (carried .entry)))) m (m + 1)) ⌝ }
 {
     if fails_alone(p, early, late, carried) {
-        return Settling {
-            verdict: Verdict::NoStrategy(m),
-            joined: Table::empty(),
-        };
+        return Verdict::NoStrategy(m);
     }
     let next = m + 1;
-    Settling {
-        verdict: Verdict::NoStrategy(next),
-        joined: Table::empty(),
-    }
+    Verdict::NoStrategy(next)
 }
 
-// The rounds from the first on: `own` is C(0), and `base` has the bounds between windows put into it.
+// The rounds from the first on: `own` is C(0), and `base` has the bounds between windows put into it. The joined table of each round is put into `joined`.
 fn settle_rounds<'a>(
     p: Plan,
     early: &'a [i32; Table::SIDE],
     late: &'a [i32; Table::SIDE],
-    own: Table,
-    base: Table,
-) -> Settling
-    requires { ⌜ (Clocked p (now early) (now late)) × (Based p (now early) (now late) (own .weights) (base .weights)) ⌝ }
-    ensures { λ r. ⌜ r .verdict ≡ verdict p ⌝ }
-    ensures { λ r. ⌜ SettledOn p (rowsOf (nodes (p .jobs + p .jobs)) (r .joined .weights)) ⌝ }
+    own: &'a [i32; Table::SIZE],
+    base: &'a [i32; Table::SIZE],
+    joined: &mut [i32; Table::SIZE],
+) -> Verdict
+    requires { ⌜ (Clocked p (now early) (now late)) × (Based p (now early) (now late) (now own) (now base)) × (length (now joined) ≡ 1369) ⌝ }
+    ensures { λ r. ⌜ r ≡ verdict p ⌝ }
+    ensures { λ r. ⌜ SettledOn p (rowsOf (nodes (p .jobs + p .jobs)) (now (joined .exit))) ⌝ }
+    ensures { λ r. ⌜ length (now (joined .exit)) ≡ 1369 ⌝ }
 {
     let jobs = p.jobs;
     let window = p.window;
     let rounds = p.rounds;
     let count = 1 + 2 * jobs;
-    let start = base.weights;
-    let mut carried = own.weights;
+    let mut carried = *own;
     let mut m: u64 = 1;
     while m <= rounds {
-        let mut weights = start;
+        let mut weights = *base;
         if put_next(&mut weights, early, late, jobs, window, &carried) {
-            let last = Table { weights: carried };
-            return contradicted(p, early, late, last, m);
+            return contradicted(p, early, late, &carried, m);
         }
-        let table = Table { weights: weights };
-        let remains = table.eliminated(p, early, late, jobs, jobs);
-        if remains.contradiction {
-            let last = Table { weights: carried };
-            return contradicted(p, early, late, last, m);
+        *joined = weights;
+        if drop_places(&mut weights, early, late, jobs, jobs) {
+            return contradicted(p, early, late, &carried, m);
         }
-        let rest = remains.table;
-        let left = rest.weights;
-        if same_rows(&carried, &left, count) {
-            return Settling {
-                verdict: Verdict::Settled(m),
-                joined: table,
-            };
+        if same_rows(&carried, &weights, count) {
+            return Verdict::Settled(m);
         }
-        carried = left;
+        carried = weights;
         m += 1;
     }
-    Settling {
-        verdict: Verdict::Unsettled(rounds),
-        joined: Table::empty(),
-    }
+    Verdict::Unsettled(rounds)
 }
 
 // The verdict on a plan, and where it is settled the joined table of its last round, of which the calendar is made.
@@ -111,18 +97,28 @@ pub fn settle<'a>(p: Plan, early: &'a [i32; Table::SIDE], late: &'a [i32; Table:
     ensures { λ r. ⌜ r .verdict ≡ verdict p ⌝ }
     ensures { λ r. ⌜ SettledOn p (rowsOf (nodes (p .jobs + p .jobs)) (r .joined .weights)) ⌝ }
 {
-    let empty = Table::empty();
-    let mut weights = empty.weights;
+    let mut joined = [Table::NO_BOUND; Table::SIZE];
+    let mut weights = joined;
     if put_own(&mut weights, early, late, p) {
+        let none = Table { weights: joined };
         return Settling {
             verdict: Verdict::NoStrategy(1),
-            joined: empty,
+            joined: none,
         };
     }
-    let own = Table { weights: weights };
+    let own = weights;
     if put_between(&mut weights, early, late, p) {
-        return contradicted(p, early, late, own, 1);
+        let refused = contradicted(p, early, late, &own, 1);
+        let none = Table { weights: joined };
+        return Settling {
+            verdict: refused,
+            joined: none,
+        };
     }
-    let base = Table { weights: weights };
-    settle_rounds(p, early, late, own, base)
+    let settled = settle_rounds(p, early, late, &own, &weights, &mut joined);
+    let table = Table { weights: joined };
+    Settling {
+        verdict: settled,
+        joined: table,
+    }
 }

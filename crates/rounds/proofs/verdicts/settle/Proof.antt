@@ -2,75 +2,69 @@
 use mathlib.Core.Path.{_≡_, sym, _∙_, ap}
 use mathlib.Core.Bool.{false}
 use native.Mathlib.Omega.{arith}
-use Rattle.bounds.specs.Flat.{flat, putBounds, noBounds}
+use lib.ListN.{length-replicate}
+use Rattle.bounds.specs.Flat.{flat, putBounds, noBound, noBounds}
 use Rattle.rounds.specs.Given.{ownBounds}
 use Rattle.rounds.specs.JoinedLaws.{own-none}
-use Rattle.rounds.specs.SettleLaws.{verdict-none, none-on, first-none, own-fit, between-none}
+use Rattle.rounds.specs.SettleLaws.{verdict-none, none-on, first-none, own-standing, between-none}
 use Rattle.rounds.proofs.verdicts.settle.Statement.{statement}
 use Rattle.rounds.proofs.verdicts.settle.Tie as tie
 
-empty-requires : tie.Need-empty-requires
-empty-requires c κs = tt
-
 put-own-requires : tie.Need-put-own-requires
-put-own-requires c κs = c .before .before .before .pre
-
--- what `put_own` answers of the table without a bound
-own-is : (c : tie.After-put-own)
-    → let a = c .before .before .before .before .args in flat (c .put-own .result) (c .put-own .last .0) ≡ putBounds (a .early .now) (a .late .now) (ownBounds (a .p)) noBounds
-own-is c =
-    let a = c .before .before .before .before .args in
-    c .put-own .ensures ∙ ap (putBounds (a .early .now) (a .late .now) (ownBounds (a .p))) (c .before .before .before .empty .ensures)
+put-own-requires c κs = c .before .pre
 
 returns : tie.Need-returns
 returns c =
-    let s = c .before .before .before .before .before in
+    let s = c .before .before .before in
     let a = s .args in
-    let none = first-none (a .p)
-    (own-none (a .p) (a .early .now) (a .late .now) (s .pre) (c .before .put-own .result) (c .before .put-own .last .0) (own-is (c .before)) (c .if1 .taken)) in
+    let o = c .before .put-own in
+    let none = first-none (a .p) (own-none (a .p) (a .early .now) (a .late .now) (s .pre) (o .result) (o .last .0) (o .ensures) (c .if1 .taken)) in
     (verdict-none (a .p) 1 none, none-on (a .p) 1 _ none)
 
 put-between-requires : tie.Need-put-between-requires
-put-between-requires c κs = c .before .before .before .before .before .before .pre
+put-between-requires c κs = c .before .before .before .before .pre
 
--- where it finds no contradiction, the array holds C(0)
+-- where `put_own` finds no contradiction, the array holds C(0)
 own-put : (c : tie.After-put-own) → c .put-own .result ≡ false
-    → let a = c .before .before .before .before .args in flat false (c .put-own .last .0) ≡ putBounds (a .early .now) (a .late .now) (ownBounds (a .p)) noBounds
-own-put c f = ap (λ r. flat r (c .put-own .last .0)) (sym f) ∙ own-is c
+    → let a = c .before .before .args in flat false (c .put-own .last .0) ≡ putBounds (a .early .now) (a .late .now) (ownBounds (a .p)) noBounds
+own-put c f = ap (λ r. flat r (c .put-own .last .0)) (sym f) ∙ c .put-own .ensures
 
 contradicted-requires : tie.Need-contradicted-requires
 contradicted-requires c κs =
-    let s = c .before .before .before .before .before .before .before .before in
+    let s = c .before .before .before .before .before .before .before in
     let a = s .args in
-    let o = c .before .before .before .before in
-    (s .pre, own-fit (a .p) (a .early .now) (a .late .now) (s .pre) (o .put-own .last .0) (own-put o (c .before .before .before .if1 .left)), omega arith)
+    let o = c .before .before .before .before .before in
+    (own-standing (a .p) (a .early .now) (a .late .now) (s .pre) (o .put-own .last .0) (own-put o (c .before .before .before .before .if1 .left)), omega arith)
 
 returns-2 : tie.Need-returns-2
 returns-2 c =
-    let s = c .before .before .before .before .before .before .before .before .before in
+    let s = c .before .before .before .before .before .before .before .before in
     let a = s .args in
-    let o = c .before .before .before .before .before in
-    let r = c .before .before in
-    let none = between-none (a .p) (a .early .now) (a .late .now) (s .pre) (o .put-own .last .0) (own-put o (c .before .before .before .before .if1 .left)) (r .put-between .result) (r .put-between .last .0)
-    (r .put-between .ensures)
-    (c .before .if2 .taken) in
+    let o = c .before .before .before .before .before .before in
+    let r = c .before .before .before .put-between in
+    let none = between-none (a .p) (a .early .now) (a .late .now) (s .pre) (o .put-own .last .0) (own-put o (c .before .before .before .before .before .if1 .left)) (r .result) (r .last .0)
+    (r .ensures)
+    (c .before .before .if2 .taken) in
     (c .contradicted .ensures ∙ verdict-none (a .p) _ none, none-on (a .p) _ _ none)
 
 settle-rounds-requires : tie.Need-settle-rounds-requires
 settle-rounds-requires c κs =
-    let r = c .before in (
-      c .before .before .before .before .before .before .before .before .pre,
-      record { own-put = own-put (c .before .before .before .before) (c .before .before .before .if1 .left); base-put = ap (λ f. flat f (r .put-between .last .0)) (sym (c .if2 .left)) ∙ r .put-between .ensures },
+    let r = c .before .before .before .before .put-between in (
+      c .before .before .before .before .before .before .before .before .before .pre,
+      record {
+        own-put = own-put (c .before .before .before .before .before .before .before) (c .before .before .before .before .before .before .if1 .left);
+        base-put = ap (λ f. flat f (r .last .0)) (sym (c .before .before .before .if2 .left)) ∙ r .ensures;
+      },
+      length-replicate 1369 noBound,
     )
 
 returns-3 : tie.Need-returns-3
-returns-3 c = c .settle-rounds .ensures
+returns-3 c = (c .settle-rounds .ensures .0, c .settle-rounds .ensures .1 .0)
 
 pub settle-spec : {M : Type 1} → statement M
 settle-spec =
     tie.close
     (tie.spec
-    empty-requires
     put-own-requires
     returns
     put-between-requires

@@ -2,7 +2,9 @@
 -- A turn is one round, by the laws of `SettleLaws`.
 use Prim.Native.Nat.{ℕ, _+_, _-_, _≤_}
 use mathlib.Core.Path.{_≡_, sym, _∙_, ap, subst}
+use mathlib.Core.Bool.{false}
 use native.Mathlib.Omega.{arith}
+use lib.ListN.{length}
 use mir.Syntax.{w32}
 use mir.Val.{SFits}
 use mir.Facts.{toZ-ofZ}
@@ -10,23 +12,26 @@ use Rattle.whole.specs.Rules.{wholes}
 use Rattle.plan.specs.declared.Plan.{Plan}
 use Rattle.plan.specs.Accepted.{Accepted}
 use Rattle.bounds.specs.Events.{nodes}
-use Rattle.bounds.specs.Flat.{rowsOf, flat}
-use Rattle.bounds.specs.Fit.{Fit}
+use Rattle.bounds.specs.Elimination.{eliminated}
+use Rattle.bounds.specs.Flat.{rowsOf, setIn, flat}
+use Rattle.bounds.specs.Fit.{Fit, StandingOf}
 use Rattle.rounds.specs.Rounds.{unsettled, roundsFrom, outcome}
 use Rattle.rounds.specs.Next.{Nexts, nextRows}
-use Rattle.rounds.specs.SettleLaws.{verdict-none, verdict-settled, verdict-unsettled, none-on, unsettled-on, rounds-end, own-fit, first-round, Carrying, carried-nexts, joined-none, joined-fits, remains-none, remains-fit, round-later, round-settled, round-settled-on}
+use Rattle.rounds.specs.SettleLaws.{verdict-none, verdict-settled, verdict-unsettled, none-on, unsettled-on, rounds-end, own-fit, own-size, first-round, Carrying, carried-standing, carried-nexts, joined-none, joined-standing, remains-none, remains-fit, round-later, round-settled, round-settled-on}
 use Rattle.rounds.proofs.verdicts.settle_rounds.Statement.{statement}
 use Rattle.rounds.proofs.verdicts.settle_rounds.Tie as tie
 
 abbrev Inv-loop : tie.InvT-loop
-Inv-loop p early late jobs window rounds count start carried₀ m₀ carried m =
+Inv-loop p early late own base joined₀ jobs window rounds count carried₀ m₀ joined carried m =
     (1 ≤ m)
     × (m ≤ p .rounds + 1)
-    × (outcome p ≡ roundsFrom p (rowsOf (nodes (p .jobs)) carried₀) m ((p .rounds + 1) - m) (rowsOf (nodes (p .jobs)) carried))
+    × (outcome p ≡ roundsFrom p (rowsOf (nodes (p .jobs)) own) m ((p .rounds + 1) - m) (rowsOf (nodes (p .jobs)) carried))
     × (Fit p (nodes (p .jobs)) (rowsOf (nodes (p .jobs)) carried))
+    × (length carried ≡ 1369)
+    × (length joined ≡ 1369)
 
 abbrev μ-loop : tie.MeasureT-loop
-μ-loop p early late jobs window rounds count start carried₀ m₀ carried m = (p .rounds + 1) - m
+μ-loop p early late own base joined₀ jobs window rounds count carried₀ m₀ joined carried m = (p .rounds + 1) - m
 
 mul-count : tie.Need-mul-count Inv-loop μ-loop
 mul-count c = let most = c .before .pre .0 .accepted .jobs-most in omega arith
@@ -36,26 +41,28 @@ add-count c = let most = c .before .pre .0 .accepted .jobs-most in omega arith
 
 loop-holds : tie.Need-loop-holds Inv-loop μ-loop
 loop-holds c =
-    let s = c .before .before .before in
+    let s = c .before .before in
     let a = s .args in
     let all : a .p .rounds ≡ a .p .rounds + 1 - 1 = omega arith in
-    let c0 = rowsOf (nodes (a .p .jobs)) (a .own .weights) in (
+    let c0 = rowsOf (nodes (a .p .jobs)) (a .own .now) in (
       omega arith,
       omega arith,
-      first-round (a .p) (a .early .now) (a .late .now) (s .pre .0) (a .own .weights) (s .pre .1 .own-put) ∙ ap (λ n. roundsFrom (a .p) c0 1 n c0) all,
-      own-fit (a .p) (a .early .now) (a .late .now) (s .pre .0) (a .own .weights) (s .pre .1 .own-put),
+      first-round (a .p) (a .early .now) (a .late .now) (s .pre .0) (a .own .now) (s .pre .1 .own-put) ∙ ap (λ n. roundsFrom (a .p) c0 1 n c0) all,
+      own-fit (a .p) (a .early .now) (a .late .now) (s .pre .0) (a .own .now) (s .pre .1 .own-put),
+      own-size (a .p) (a .early .now) (a .late .now) (s .pre .0) (a .own .now) (s .pre .1 .own-put),
+      s .pre .2,
     )
 
 -- ---- the carried set is put on the next window
 
 carrying : (c : tie.After-carried2 Inv-loop μ-loop)
     → let a = c .before .before .before .before .before .before .before .args in
-    let l = c .before .before .before .loop in
-    Carrying (a .p) (a .early .now) (a .late .now) (a .own .weights) (a .base .weights) (l .m) ((a .p .rounds + 1) - l .m) (l .carried)
+    let l = c .before .before .before .before .loop in
+    Carrying (a .p) (a .early .now) (a .late .now) (a .own .now) (a .base .now) (l .m) ((a .p .rounds + 1) - l .m) (l .carried)
 carrying c =
     let s = c .before .before .before .before .before .before .before in
-    let l = c .before .before .before .loop in
-    record { clocked = s .pre .0; based = s .pre .1; some = omega arith; before = l .inv .2; fit = l .inv .3 }
+    let l = c .before .before .before .before .loop in
+    record { clocked = s .pre .0; based = s .pre .1; some = omega arith; before = l .inv .2; fit = l .inv .3; size = l .inv .4 }
 
 window-fits : (p : Plan) → Accepted p → SFits w32 (p .window)
 window-fits p a = let l = a .window-least in let m = a .window-most in omega wholes
@@ -64,77 +71,88 @@ put-next-requires : tie.Need-put-next-requires Inv-loop μ-loop
 put-next-requires c κs =
     let s = c .before .before .before .before .before .before .before in
     let a = s .args in
-    subst (λ w. Nexts (a .early .now) (a .late .now) (a .p .jobs) w (c .before .before .before .loop .carried)) (sym (toZ-ofZ (window-fits (a .p) (s .pre .0 .accepted))))
+    subst (λ w. Nexts (a .early .now) (a .late .now) (a .p .jobs) w (c .before .before .before .before .loop .carried)) (sym (toZ-ofZ (window-fits (a .p) (s .pre .0 .accepted))))
     (carried-nexts (carrying c))
 
 put-is : (c : tie.After-put-next Inv-loop μ-loop)
     → let a = c .before .before .before .before .before .before .before .before .args in
-    let l = c .before .before .before .before .loop in
-    flat (c .put-next .result) (c .put-next .last .0) ≡ nextRows (a .early .now) (a .late .now) (a .p .jobs) (a .p .window) (l .carried) (a .base .weights)
+    let l = c .before .before .before .before .before .loop in
+    flat (c .put-next .result) (c .put-next .last .0) ≡ nextRows (a .early .now) (a .late .now) (a .p .jobs) (a .p .window) (l .carried) (a .base .now)
 put-is c =
     let s = c .before .before .before .before .before .before .before .before in
     let a = s .args in
     c .put-next .ensures
-    ∙ ap (λ w. nextRows (a .early .now) (a .late .now) (a .p .jobs) w (c .before .before .before .before .loop .carried) (a .base .weights))
-    (toZ-ofZ (window-fits (a .p) (s .pre .0 .accepted)))
+    ∙ ap (λ w. nextRows (a .early .now) (a .late .now) (a .p .jobs) w (c .before .before .before .before .before .loop .carried) (a .base .now)) (toZ-ofZ (window-fits (a .p) (s .pre .0 .accepted)))
 
 contradicted-requires : tie.Need-contradicted-requires Inv-loop μ-loop
 contradicted-requires c κs =
-    let s = c .before .before .before .before .before .before .before .before .before in
-    let most = s .pre .0 .accepted .rounds-most in
-    (s .pre .0, c .before .before .before .before .before .loop .inv .3, omega arith)
+    let most = c .before .before .before .before .before .before .before .before .before .before .pre .0 .accepted .rounds-most in
+    (carried-standing (carrying (c .before .before .before)), omega arith)
 
 returns : tie.Need-returns Inv-loop μ-loop
 returns c =
-    let p = c .before .before .before .before .before .before .before .before .before .before .args .p in
-    let n = c .before .before in
-    let none = joined-none (carrying (n .before)) (n .put-next .result) (n .put-next .last .0) (put-is n) (c .before .if1 .taken) in
-    (c .contradicted .ensures ∙ verdict-none p _ none, none-on p _ _ none)
+    let p = c .before .before .before .before .before .before .before .before .before .before .before .args .p in
+    let n = c .before .before .before in
+    let none = joined-none (carrying (n .before)) (n .put-next .result) (n .put-next .last .0) (put-is n) (c .before .before .if1 .taken) in
+    (c .contradicted .ensures ∙ verdict-none p _ none, (none-on p _ _ none, c .before .before .before .before .before .before .before .before .loop .inv .5))
 
 -- ---- and the next window's events are eliminated
 
-eliminated-requires : tie.Need-eliminated-requires Inv-loop μ-loop
-eliminated-requires c κs =
-    let n = c .before in
-    (c .before .before .before .before .before .before .before .before .before .pre .0, omega arith, joined-fits (carrying (n .before)) (n .put-next .result) (n .put-next .last .0) (put-is n) (c .if1 .left))
+-- the joined table stands
+joining : (c : tie.After-put-next Inv-loop μ-loop) → c .put-next .result ≡ false
+    → let a = c .before .before .before .before .before .before .before .before .args in
+    StandingOf (a .p) (a .early .now) (a .late .now) (nodes (a .p .jobs + a .p .jobs)) (c .put-next .last .0)
+joining c f = joined-standing (carrying (c .before)) (c .put-next .result) (c .put-next .last .0) (put-is c) f
+
+drop-places-requires : tie.Need-drop-places-requires Inv-loop μ-loop
+drop-places-requires c κs = record { plan = c .before .before .before .before .before .before .before .before .before .before .args .p; stands = joining (c .before .before) (c .before .if1 .left) }
+
+remains-is : (c : tie.After-drop-places Inv-loop μ-loop)
+    → let p = c .before .before .before .before .before .before .before .before .before .before .before .args .p in
+    setIn (nodes (p .jobs)) (c .drop-places .result) (c .drop-places .last .0)
+    ≡ eliminated p (p .jobs) (p .jobs) (rowsOf (nodes (p .jobs + p .jobs)) (c .before .before .before .put-next .last .0))
+remains-is c = c .drop-places .ensures .0 (c .before .before .before .before .before .before .before .before .before .before .before .args .p) (joining (c .before .before .before) (c .before .before .if1 .left))
 
 contradicted-requires-2 : tie.Need-contradicted-requires-2 Inv-loop μ-loop
 contradicted-requires-2 c κs =
-    let s = c .before .before .before .before .before .before .before .before .before .before .before in
-    let most = s .pre .0 .accepted .rounds-most in
-    (s .pre .0, c .before .before .before .before .before .before .before .loop .inv .3, omega arith)
+    let most = c .before .before .before .before .before .before .before .before .before .before .before .before .before .pre .0 .accepted .rounds-most in
+    (carried-standing (carrying (c .before .before .before .before .before .before)), omega arith)
 
 returns-2 : tie.Need-returns-2 Inv-loop μ-loop
 returns-2 c =
-    let p = c .before .before .before .before .before .before .before .before .before .before .before .before .args .p in
-    let r = c .before .before in
-    let n = r .before .before in
-    let none = remains-none (carrying (n .before)) (n .put-next .result) (n .put-next .last .0) (put-is n) (r .before .if1 .left) (r .eliminated .result) (r .eliminated .ensures)
-    (c .before .if2 .taken) in
-    (c .contradicted2 .ensures ∙ verdict-none p _ none, none-on p _ _ none)
+    let p = c .before .before .before .before .before .before .before .before .before .before .before .before .before .before .args .p in
+    let r = c .before .before .before in
+    let n = c .before .before .before .before .before .before in
+    let none = remains-none (carrying (n .before)) (n .put-next .result) (n .put-next .last .0) (put-is n) (c .before .before .before .before .before .if1 .left) (r .drop-places .result) (r .drop-places .last .0)
+    (remains-is r)
+    (c .before .before .if2 .taken) in
+    (c .contradicted2 .ensures ∙ verdict-none p _ none, (none-on p _ _ none, joining n (c .before .before .before .before .before .if1 .left) .size))
 
 -- ---- 'C(m) = C(m-1)'
 
 same-rows-requires : tie.Need-same-rows-requires Inv-loop μ-loop
-same-rows-requires c κs = let most = c .before .before .before .before .before .before .before .before .before .before .before .before .before .before .before .pre .0 .accepted .jobs-most in omega arith
+same-rows-requires c κs = let most = c .before .before .before .before .before .before .before .before .before .before .before .before .before .before .pre .0 .accepted .jobs-most in omega arith
 
 returns-3 : tie.Need-returns-3 Inv-loop μ-loop
 returns-3 c =
-    let r = c .before .before .before .before .before .before .before in
-    let n = r .before .before in
-    let left = c .before .before .before .before .before .before .if2 .left in
+    let r = c .before .before .before .before .before in
+    let n = c .before .before .before .before .before .before .before .before in
+    let left = c .before .before .before .before .if2 .left in
     let same = sym (c .before .same-rows .ensures) ∙ c .if3 .taken in (
-      verdict-settled (c .before .before .before .before .before .before .before .before .before .before .before .before .before .before .before .before .before .args .p) (c .before .before .before .before .before .before .before .before .before .before .before .before .before .loop .m) _
-          (round-settled (carrying (n .before)) (n .put-next .result) (n .put-next .last .0) (put-is n) (r .before .if1 .left) (r .eliminated .result) (r .eliminated .ensures)
+      verdict-settled (c .before .before .before .before .before .before .before .before .before .before .before .before .before .before .before .before .args .p) (c .before .before .before .before .before .before .before .before .before .before .before .before .before .loop .m) _
+          (round-settled (carrying (n .before)) (n .put-next .result) (n .put-next .last .0) (put-is n) (c .before .before .before .before .before .before .before .if1 .left) (r .drop-places .result) (r .drop-places .last .0) (remains-is r)
           left
           same),
-      round-settled-on (carrying (n .before)) (n .put-next .result) (n .put-next .last .0) (put-is n) (r .before .if1 .left) (r .eliminated .result) (r .eliminated .ensures)
-          left
-          same,
+      (
+        round-settled-on (carrying (n .before)) (n .put-next .result) (n .put-next .last .0) (put-is n) (c .before .before .before .before .before .before .before .if1 .left) (r .drop-places .result) (r .drop-places .last .0) (remains-is r)
+            left
+            same,
+        joining n (c .before .before .before .before .before .before .before .if1 .left) .size,
+      ),
     )
 
 add-m : tie.Need-add-m Inv-loop μ-loop
-add-m c = let most = c .before .before .before .before .before .before .before .before .before .before .before .before .before .before .before .before .before .pre .0 .accepted .rounds-most in omega arith
+add-m c = let most = c .before .before .before .before .before .before .before .before .before .before .before .before .before .before .before .before .pre .0 .accepted .rounds-most in omega arith
 
 loop-less : tie.Need-loop-less Inv-loop μ-loop
 loop-less c = omega arith
@@ -144,32 +162,31 @@ one-less n m = omega arith
 
 loop-again : tie.Need-loop-again Inv-loop μ-loop
 loop-again c =
-    let a = c .before .before .before .before .before .before .before .before .before .before .before .before .before .before .before .before .before .args in
+    let a = c .before .before .before .before .before .before .before .before .before .before .before .before .before .before .before .before .args in
     let l = c .before .before .before .before .before .before .before .before .before .before .before .before .before .loop in
-    let r = c .before .before .before .before .before .before .before in
-    let n = r .before .before in
-    let left = c .before .before .before .before .before .before .if2 .left in (
+    let r = c .before .before .before .before .before in
+    let n = c .before .before .before .before .before .before .before .before in
+    let left = c .before .before .before .before .if2 .left in
+    let joins = joining n (c .before .before .before .before .before .before .before .if1 .left) .size in (
       omega arith,
       omega arith,
-      round-later (carrying (n .before)) (n .put-next .result) (n .put-next .last .0) (put-is n) (r .before .if1 .left) (r .eliminated .result) (r .eliminated .ensures) left
+      round-later (carrying (n .before)) (n .put-next .result) (n .put-next .last .0) (put-is n) (c .before .before .before .before .before .before .before .if1 .left) (r .drop-places .result) (r .drop-places .last .0) (remains-is r) left
           (sym (c .before .same-rows .ensures) ∙ c .if3 .left)
-          ∙ ap
-          (λ rest. roundsFrom (a .p) (rowsOf (nodes (a .p .jobs)) (a .own .weights)) (l .m + 1) rest (rowsOf (nodes (a .p .jobs)) (r .eliminated .result .table .weights)))
+          ∙ ap (λ rest. roundsFrom (a .p) (rowsOf (nodes (a .p .jobs)) (a .own .now)) (l .m + 1) rest (rowsOf (nodes (a .p .jobs)) (r .drop-places .last .0)))
           (one-less (a .p .rounds) (l .m)),
-      remains-fit (carrying (n .before)) (n .put-next .result) (n .put-next .last .0) (put-is n) (r .before .if1 .left) (r .eliminated .result) (r .eliminated .ensures) left,
+      remains-fit (carrying (n .before)) (n .put-next .result) (n .put-next .last .0) (put-is n) (c .before .before .before .before .before .before .before .if1 .left) (r .drop-places .result) (r .drop-places .last .0) (remains-is r) left,
+      r .drop-places .ensures .1 ∙ joins,
+      joins,
     )
-
-empty-requires : tie.Need-empty-requires Inv-loop μ-loop
-empty-requires c κs = tt
 
 returns-4 : tie.Need-returns-4 Inv-loop μ-loop
 returns-4 c =
-    let a = c .before .before .before .before .before .before .args in
-    let l = c .before .before .loop in
+    let a = c .before .before .before .before .args in
+    let l = c .before .loop in
     let none : outcome (a .p) ≡ unsettled
     = l .inv .2
-    ∙ rounds-end (a .p) (rowsOf (nodes (a .p .jobs)) (a .own .weights)) (l .m) ((a .p .rounds + 1) - l .m) (rowsOf (nodes (a .p .jobs)) (l .carried)) (omega arith) in
-    (verdict-unsettled (a .p) none, unsettled-on (a .p) _ none)
+    ∙ rounds-end (a .p) (rowsOf (nodes (a .p .jobs)) (a .own .now)) (l .m) ((a .p .rounds + 1) - l .m) (rowsOf (nodes (a .p .jobs)) (l .carried)) (omega arith) in
+    (verdict-unsettled (a .p) none, (unsettled-on (a .p) _ none, l .inv .5))
 
 pub settle-rounds-spec : {M : Type 1} → statement M
 settle-rounds-spec =
@@ -183,7 +200,7 @@ settle-rounds-spec =
     put-next-requires
     contradicted-requires
     returns
-    eliminated-requires
+    drop-places-requires
     contradicted-requires-2
     returns-2
     same-rows-requires
@@ -191,5 +208,4 @@ settle-rounds-spec =
     add-m
     loop-less
     loop-again
-    empty-requires
     returns-4)
