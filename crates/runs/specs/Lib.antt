@@ -1,9 +1,8 @@
 -- Runs, as document 01 has them. In reading order: the limits of what is handed over as a value, the offer, and the steps with the order
 -- of their refusals; then what the code works with: an end of the offer window by window, what a step reads of its plan and its calendar,
 -- and values inside their limits. These files are definitions alone; the laws stand after them, `OfferLaws` (the offer as an interval),
--- `KeepsLaws` (a run inside its limits stays there) and `MadeLaws` (a settled plan's calendar is inside them) being those that other crates cite.
--- and values inside their limits. These files are definitions alone; the laws stand after them, `OfferLaws` (the offer as an interval) and
--- `KeepsLaws` (a run inside its limits stays there) being those that other crates cite, and `Unique`, that no two answers meet a promise.
+-- `KeepsLaws` (a run inside its limits stays there) and `MadeLaws` (a settled plan's calendar is inside them) being those that other crates cite,
+-- and `Unique`, that no two answers meet a promise.
 pub mod ValueLimits
 pub mod Offers
 pub mod Steps
