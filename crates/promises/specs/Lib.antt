@@ -6,3 +6,4 @@ pub mod Readings
 pub mod NearlyRight
 -- ---- laws
 pub mod Demands
+pub mod Uniqueness
