@@ -217,7 +217,7 @@ module _ (p : Plan) (a : Accepted p) where
       )
       (accepted-boundsJudged (p .jobs) (a .jobs-most) [] (6 + 4 * p .jobs) (boundsOf p) bounds-accepted)
 
-  accepted-fits : PlanFits p
+  pub accepted-fits : PlanFits p
   accepted-fits =
       record {
         placed = record { job-places = a .job-places; bound-places = a .bound-places };

@@ -1,5 +1,6 @@
 -- A plan judged as a value is judged as its text would be (`judgedPlan-is`). One line: `numberLine-judged`, `countLine-judged`, `boundLine-judged`; the groups: `jobLines-judged`, `jobsAfter-judged`, `boundsAfter-judged`.
--- A law is stated of what is made of a reading that ends with its refusal (`Ending`), so that it serves at any place of the plan.
+-- A law is stated of what is made of a reading that ends with its refusal (`Ending`), so that it serves at any place of the plan. What is made of it may be the answer (`judgedPlan-is`) or the plan that was
+-- read (`accepted-again` in `AgainLaws`): `planLines-judged` tells both.
 use mathlib.Core.Path.{_≡_, refl, sym, _∙_, ap}
 use mathlib.Core.Bool.{Bool, true, false, not, cond, _&&_}
 use mathlib.Core.List.{List, [], _∷_, _++_, append-assoc, append-nil}
@@ -38,7 +39,7 @@ use Rattle.plan.specs.Reading.{Lined, Reading, read, refused, Reader, next, _>>
 use Rattle.plan.specs.EventNames.{letterByte, kindByte, nameBytes, eventName}
 use Rattle.plan.specs.EventNameLaws.{eventName-back, eventName-long}
 use Rattle.plan.specs.PlanRead.{countLine, jobLines, jobsAfter, partsOf, boundParts, isJob, isWrongPair, judgedBound, boundOf, linedBound, boundIn, boundsAfter, planLines, nothingAfter}
-use Rattle.plan.specs.PlanWritten.{keyed, jobsText, boundBytes, boundsText, jobsOf, boundsOf, planText, refusalOf, judgedPlan}
+use Rattle.plan.specs.PlanWritten.{keyed, jobsText, boundBytes, boundsText, jobsOf, boundsOf, trimmed, planText, refusalOf, judgedPlan}
 use Rattle.plan.specs.HeadLaws.{planHead-short}
 use Rattle.plan.specs.ReadAt.{planRest}
 use Rattle.plan.specs.PlanLaws.{boundBytes-append, planOf}
@@ -46,14 +47,19 @@ use Rattle.values.specs.PlanJudged.{judgedAnswer, andThen, numberJudged,
 
 -- ---- one answer after another
 
-andThen-assoc : (x y z : PlanAnswer) → andThen (andThen x y) z ≡ andThen x (andThen y z)
-andThen-assoc Accepted y z = refl
-andThen-assoc (Refused r) y z = refl
+-- what comes of an answer: where it accepts, what follows it, and of a refusal what `stop` makes of it
+abbrev pub onward : {C : Type 0} → (Refusal → C) → PlanAnswer → C → C
+onward stop Accepted c = c
+onward stop (Refused r) c = stop r
 
--- what follows an answer matters only where that accepts
-andThen-where : (x : PlanAnswer) {y z : PlanAnswer} → (x ≡ Accepted → y ≡ z) → andThen x y ≡ andThen x z
-andThen-where Accepted f = f refl
-andThen-where (Refused r) f = refl
+-- an answer x and then an answer v: what follows x matters only where x accepts
+onward-more : {C : Type 0} (stop : Refusal → C) (x v : PlanAnswer) (c : C) {w : C} → (x ≡ Accepted → w ≡ onward stop v c) → onward stop x w ≡ onward stop (andThen x v) c
+onward-more stop Accepted v c f = f refl
+onward-more stop (Refused r) v c f = refl
+
+onward-accepted : (x : PlanAnswer) → onward Refused x Accepted ≡ x
+onward-accepted Accepted = refl
+onward-accepted (Refused r) = refl
 
 -- an answer a to what comes first: a refusal is the answer to all, and where it accepts, what follows is
 pub andThen-stop : (x y a : PlanAnswer) {r : Refusal} → a ≡ x → a ≡ Refused r → a ≡ andThen x y
@@ -91,9 +97,9 @@ numberJudged-inside lo hi z n h g =
 
 -- ---- readings
 
--- what is made of a reading, where a refusal stays that refusal
-abbrev pub Ending : {A : Type 0} → (Reading A → PlanAnswer) → Type 0
-Ending {A} k = (r : Refusal) (s : List ℕ) → k (refused r s) ≡ Refused r
+-- what is made of a reading, where a refusal becomes what `stop` makes of it, whatever text is left
+abbrev pub Ending : {A C : Type 0} → (Refusal → C) → (Reading A → C) → Type 0
+Ending {A} {C} stop k = (r : Refusal) (s : List ℕ) → k (refused r s) ≡ stop r
 
 -- ---- a line
 
@@ -150,58 +156,53 @@ module _ (key : List ℕ) (bare : lenTo LF key ≡ length key) (lo hi z : ℤ) (
       by-range true = ap (λ (t : List ℕ). read z t (suc n)) (after-back LF (key ++ decimal z) s (keyed-free key z bare))
       by-range false = refl
 
-  pub numberLine-judged : {B : Type 0} (k : Reading B → PlanAnswer) → Ending k → (f : ℤ → Reader B)
-      → k (next (numberLine key lo hi (keyed key z s) n) f) ≡ andThen (numberJudged lo hi z n) (k (f z s (suc n)))
+  pub numberLine-judged : {B C : Type 0} (stop : Refusal → C) (k : Reading B → C) → Ending stop k → (f : ℤ → Reader B)
+      → k (next (numberLine key lo hi (keyed key z s) n) f) ≡ onward stop (numberJudged lo hi z n) (k (f z s (suc n)))
   unfolding next
-  numberLine-judged {B} k ends f = ap (λ m. k (next m f)) numberLine-back ∙ by-range (within lo hi z)
+  numberLine-judged {B} {C} stop k ends f = ap (λ m. k (next m f)) numberLine-back ∙ by-range (within lo hi z)
     where
-      by-range : (b : Bool) → k (next (cond b (read z s (suc n)) (refused (Range n) (keyed key z s))) f) ≡ andThen (cond b Accepted (Refused (Range n))) (k (f z s (suc n)))
+      by-range : (b : Bool) → k (next (cond b (read z s (suc n)) (refused (Range n) (keyed key z s))) f) ≡ onward stop (cond b Accepted (Refused (Range n))) (k (f z s (suc n)))
       by-range true = refl
       by-range false = ends (Range n) (keyed key z s)
 
 -- a line that is a key and a count
-pub countLine-judged : (key : List ℕ) → lenTo LF key ≡ length key → (lo hi z : ℕ) (s : List ℕ) (n : ℕ) {B : Type 0} (k : Reading B → PlanAnswer) → Ending k → (f : ℕ → Reader B)
-    → k (next (countLine key lo hi (keyed key (pos z) s) n) f) ≡ andThen (numberJudged (pos lo) (pos hi) (pos z) n) (k (f z s (suc n)))
+pub countLine-judged : (key : List ℕ) → lenTo LF key ≡ length key → (lo hi z : ℕ) (s : List ℕ) (n : ℕ) {B C : Type 0} (stop : Refusal → C) (k : Reading B → C) → Ending stop k → (f : ℕ → Reader B)
+    → k (next (countLine key lo hi (keyed key (pos z) s) n) f) ≡ onward stop (numberJudged (pos lo) (pos hi) (pos z) n) (k (f z s (suc n)))
 unfolding next
-countLine-judged key bare lo hi z s n k ends f =
-    numberLine-judged key bare (pos lo) (pos hi) (pos z) s n (λ m. k (next m f)) ends _
+countLine-judged key bare lo hi z s n stop k ends f =
+    numberLine-judged key bare (pos lo) (pos hi) (pos z) s n stop (λ m. k (next m f)) ends _
 
 -- ---- jobs
 
-pub jobLines-judged : (j : Job) (s : List ℕ) (n : ℕ) (k : Reading Job → PlanAnswer) → Ending k
-    → k (jobLines (jobsText (j ∷ []) s) n) ≡ andThen (jobJudged n j) (k (read j s (n + 4)))
+pub jobLines-judged : {C : Type 0} (j : Job) (s : List ℕ) (n : ℕ) (stop : Refusal → C) (k : Reading Job → C) → Ending stop k
+    → k (jobLines (jobsText (j ∷ []) s) n) ≡ onward stop (jobJudged n j) (k (read j s (n + 4)))
 unfolding jobLines jobsText jobJudged
-jobLines-judged j s n k ends =
+jobLines-judged j s n stop k ends =
     let e1 : n + 1 ≡ suc n = omega arith in
     let e2 : n + 2 ≡ suc (suc n) = omega arith in
     let e3 : n + 3 ≡ suc (suc (suc n)) = omega arith in
     let e4 : n + 4 ≡ suc (suc (suc (suc n))) = omega arith in
     rw (e1, e2, e3, e4)
-    (numberLine-judged (bytes "min=") (keys .min .bare) (pos 0) longestRunning (j .min) _ n k ends _
-    ∙ ap (andThen (numberJudged (pos 0) longestRunning (j .min) n))
-    (numberLine-judged (bytes "max=") (keys .max .bare) (j .min) longestRunning (j .max) _ (suc n) k ends _
-    ∙ ap (andThen (numberJudged (j .min) longestRunning (j .max) (suc n)))
-    (numberLine-judged (bytes "release=") (keys .release .bare) (pos 0) latestDeadline (j .release) _ (suc (suc n)) k ends _
-    ∙ ap (andThen (numberJudged (pos 0) latestDeadline (j .release) (suc (suc n))))
-    (numberLine-judged (bytes "deadline=") (keys .deadline .bare) (pos 0) latestDeadline (j .deadline) _ (suc (suc (suc n))) k ends _)))
-    ∙ four (numberJudged (pos 0) longestRunning (j .min) n) (numberJudged (j .min) longestRunning (j .max) (suc n)) (numberJudged (pos 0) latestDeadline (j .release) (suc (suc n))) (numberJudged (pos 0) latestDeadline (j .deadline) (suc (suc (suc n)))) _)
-  where
-    four : (a b c d y : PlanAnswer) → andThen a (andThen b (andThen c (andThen d y))) ≡ andThen (andThen a (andThen b (andThen c d))) y
-    four (Refused r) b c d y = refl
-    four Accepted (Refused r) c d y = refl
-    four Accepted Accepted (Refused r) d y = refl
-    four Accepted Accepted Accepted d y = refl
+    (numberLine-judged (bytes "min=") (keys .min .bare) (pos 0) longestRunning (j .min) _ n stop k ends _
+    ∙ onward-more stop (numberJudged (pos 0) longestRunning (j .min) n) _ _
+    (λ h₁.
+    numberLine-judged (bytes "max=") (keys .max .bare) (j .min) longestRunning (j .max) _ (suc n) stop k ends _
+    ∙ onward-more stop (numberJudged (j .min) longestRunning (j .max) (suc n)) _ _
+    (λ h₂.
+    numberLine-judged (bytes "release=") (keys .release .bare) (pos 0) latestDeadline (j .release) _ (suc (suc n)) stop k ends _
+    ∙ onward-more stop (numberJudged (pos 0) latestDeadline (j .release) (suc (suc n))) _ _
+    (λ h₃. numberLine-judged (bytes "deadline=") (keys .deadline .bare) (pos 0) latestDeadline (j .deadline) _ (suc (suc (suc n))) stop k ends _))))
 
-pub jobsAfter-judged : (done js : List Job) (s : List ℕ) (n : ℕ) (k : Reading (List Job) → PlanAnswer) → Ending k
-    → k (jobsAfter done (length js) (jobsText js s) n) ≡ andThen (jobsJudged n js) (k (read (done ++ js) s (n + 4 * length js)))
+pub jobsAfter-judged : {C : Type 0} (done js : List Job) (s : List ℕ) (n : ℕ) (stop : Refusal → C) (k : Reading (List Job) → C) → Ending stop k
+    → k (jobsAfter done (length js) (jobsText js s) n) ≡ onward stop (jobsJudged n js) (k (read (done ++ js) s (n + 4 * length js)))
 unfolding jobsAfter jobsText jobsJudged next
-jobsAfter-judged done [] s n k ends = let e : n + 4 * 0 ≡ n = omega arith in rw (append-nil done, e)
-jobsAfter-judged done (j ∷ js) s n k ends =
+jobsAfter-judged done [] s n stop k ends = let e : n + 4 * 0 ≡ n = omega arith in rw (append-nil done, e)
+jobsAfter-judged done (j ∷ js) s n stop k ends =
     let e : n + 4 * suc (length js) ≡ n + 4 + 4 * length js = omega arith in
     rw e
-    (jobLines-judged j (jobsText js s) n (λ m. k (next m (λ job. jobsAfter (done ++ (job ∷ [])) (length js)))) ends
-    ∙ ap (andThen (jobJudged n j)) (jobsAfter-judged (done ++ (j ∷ [])) js s (n + 4) k ends ∙ ap (λ (l : List Job). andThen (jobsJudged (n + 4) js) (k (read l s (n + 4 + 4 * length js)))) (append-assoc done (j ∷ []) js))
-    ∙ sym (andThen-assoc (jobJudged n j) (jobsJudged (n + 4) js) _))
+    (jobLines-judged j (jobsText js s) n stop (λ m. k (next m (λ job. jobsAfter (done ++ (job ∷ [])) (length js)))) ends
+    ∙ onward-more stop (jobJudged n j) _ _
+    (λ h. jobsAfter-judged (done ++ (j ∷ [])) js s (n + 4) stop k ends ∙ ap (λ (l : List Job). onward stop (jobsJudged (n + 4) js) (k (read l s (n + 4 + 4 * length js)))) (append-assoc done (j ∷ []) js)))
 
 -- ---- bounds
 
@@ -252,10 +253,10 @@ module _ (jobs : ℕ) (given : List Bound) (d : Bound) where
       (free-append LF (nameBytes (d .b)) _ (nameBytes-free LF refl (omega arith) (d .b))
       (ap suc (free-append LF (decimal (d .c)) [] (decimal-free LF refl (omega arith) (d .c)) refl)))))
 
-  pub boundLine-judged : (s : List ℕ) (n : ℕ) {B : Type 0} (k : Reading B → PlanAnswer) → Ending k → (f : Bound → Reader B)
-      → k (next (line (λ l. linedBound (boundIn jobs given l)) (boundBytes d (LF ∷ s)) n) f) ≡ andThen (boundJudged jobs (λ a b. isWrongPair a b given) n d) (k (f d s (suc n)))
+  pub boundLine-judged : (s : List ℕ) (n : ℕ) {B C : Type 0} (stop : Refusal → C) (k : Reading B → C) → Ending stop k → (f : Bound → Reader B)
+      → k (next (line (λ l. linedBound (boundIn jobs given l)) (boundBytes d (LF ∷ s)) n) f) ≡ onward stop (boundJudged jobs (λ a b. isWrongPair a b given) n d) (k (f d s (suc n)))
   unfolding next lined linedBound boundJudged
-  boundLine-judged s n {B} k ends f =
+  boundLine-judged s n {B} {C} stop k ends f =
       ap (λ t. k (next (line (λ l. linedBound (boundIn jobs given l)) t n) f)) (sym (boundBytes-append d [] (LF ∷ s)))
       ∙ ap (λ m. k (next m f)) (line-back (λ l. linedBound (boundIn jobs given l)) (boundBytes d []) s n boundBytes-free)
       ∙ ap (λ x. k (next (lined (linedBound x) t n) f)) boundIn-back
@@ -265,65 +266,51 @@ module _ (jobs : ℕ) (given : List Bound) (d : Bound) where
       t = boundBytes d [] ++ (LF ∷ s)
 
       by-tests : (x y z : Bool) → k (next (lined (linedBound (cond x (cond y (boundLine.Bad fault.Range) (cond z (boundLine.Bad fault.Pair) (boundLine.Value d))) (boundLine.Bad fault.Form))) t n) f)
-          ≡ andThen (cond x (lineJudged n (cond y (boundLine.Bad fault.Range) (cond z (boundLine.Bad fault.Pair) (boundLine.Value d)))) (Refused (Form n))) (k (f d s (suc n)))
+          ≡ onward stop (cond x (lineJudged n (cond y (boundLine.Bad fault.Range) (cond z (boundLine.Bad fault.Pair) (boundLine.Value d)))) (Refused (Form n))) (k (f d s (suc n)))
       by-tests false y z = ends (Form n) t
       by-tests true true z = ends (Range n) t
       by-tests true false true = ends (Pair n) t
       by-tests true false false = ap (λ (r : List ℕ). k (f d r (suc n))) (after-back LF (boundBytes d []) s boundBytes-free)
 
-pub boundsAfter-judged : (jobs : ℕ) (given ds : List Bound) (n : ℕ) (k : Reading (List Bound) → PlanAnswer) → Ending k
-    → k (boundsAfter jobs given (length ds) (boundsText ds) n) ≡ andThen (boundsJudged jobs given n ds) (k (read (given ++ ds) [] (n + length ds)))
+pub boundsAfter-judged : {C : Type 0} (jobs : ℕ) (given ds : List Bound) (n : ℕ) (stop : Refusal → C) (k : Reading (List Bound) → C) → Ending stop k
+    → k (boundsAfter jobs given (length ds) (boundsText ds) n) ≡ onward stop (boundsJudged jobs given n ds) (k (read (given ++ ds) [] (n + length ds)))
 unfolding boundsAfter boundsText boundsJudged next
-boundsAfter-judged jobs given [] n k ends = let e : n + 0 ≡ n = omega arith in rw (append-nil given, e)
-boundsAfter-judged jobs given (d ∷ ds) n k ends =
+boundsAfter-judged jobs given [] n stop k ends = let e : n + 0 ≡ n = omega arith in rw (append-nil given, e)
+boundsAfter-judged jobs given (d ∷ ds) n stop k ends =
     let e : n + suc (length ds) ≡ n + 1 + length ds = omega arith in
     let e1 : suc n ≡ n + 1 = omega arith in
     rw e
-    (boundLine-judged jobs given d (boundsText ds) n k ends (λ b. boundsAfter jobs (given ++ (b ∷ [])) (length ds))
-    ∙ ap (andThen (boundJudged jobs (λ a b. isWrongPair a b given) n d))
-    (ap (λ (m : ℕ). k (boundsAfter jobs (given ++ (d ∷ [])) (length ds) (boundsText ds) m)) e1
-    ∙ boundsAfter-judged jobs (given ++ (d ∷ [])) ds (n + 1) k ends
-    ∙ ap (λ (l : List Bound). andThen (boundsJudged jobs (given ++ (d ∷ [])) (n + 1) ds) (k (read l [] (n + 1 + length ds)))) (append-assoc given (d ∷ []) ds))
-    ∙ sym (andThen-assoc (boundJudged jobs (λ a b. isWrongPair a b given) n d) (boundsJudged jobs (given ++ (d ∷ [])) (n + 1) ds) _))
+    (boundLine-judged jobs given d (boundsText ds) n stop k ends (λ b. boundsAfter jobs (given ++ (b ∷ [])) (length ds))
+    ∙ onward-more stop (boundJudged jobs (λ a b. isWrongPair a b given) n d) _ _
+    (λ h.
+    ap (λ (m : ℕ). k (boundsAfter jobs (given ++ (d ∷ [])) (length ds) (boundsText ds) m)) e1
+    ∙ boundsAfter-judged jobs (given ++ (d ∷ [])) ds (n + 1) stop k ends
+    ∙ ap (λ (l : List Bound). onward stop (boundsJudged jobs (given ++ (d ∷ [])) (n + 1) ds) (k (read l [] (n + 1 + length ds)))) (append-assoc given (d ∷ []) ds)))
 
 -- ---- the plan
 
--- what is made of a plan that is read alone
-abbrev alone : Reading Plan → PlanAnswer
-alone m = judgedAnswer (refusalOf (nothingAfter m))
-
-alone-ends : Ending alone
-unfolding nothingAfter refusalOf
-alone-ends r s = refl
-
-alone-read : (p : Plan) (n : ℕ) → alone (read p [] n) ≡ Accepted
-unfolding nothingAfter refusalOf
-alone-read p n = refl
-
-andThen-accepted : (x : PlanAnswer) → andThen x Accepted ≡ x
-andThen-accepted Accepted = refl
-andThen-accepted (Refused r) = refl
-
 -- the lines after the first four
-planRest-judged : (window : ℤ) (rounds last : ℕ) (js : List Job) (bounds : ℕ) (ds : List Bound) → (bounds ≤ mostBounds → bounds ≡ length ds)
-    → alone (planRest window rounds last (length js) (jobsText js (keyed (bytes "bounds=") (pos bounds) (boundsText ds))) 5)
-    ≡ andThen (jobsJudged 5 js)
+planRest-judged : {C : Type 0} (window : ℤ) (rounds last : ℕ) (js : List Job) (bounds : ℕ) (ds : List Bound) → (bounds ≤ mostBounds → bounds ≡ length ds) → (stop : Refusal → C) (k : Reading Plan → C) → Ending stop k
+    → k (planRest window rounds last (length js) (jobsText js (keyed (bytes "bounds=") (pos bounds) (boundsText ds))) 5)
+    ≡ onward stop
+    (andThen (jobsJudged 5 js)
     (andThen (numberJudged (pos 0) (pos mostBounds) (pos bounds) (5 + 4 * length js))
-    (boundsJudged (length js) [] (6 + 4 * length js) ds))
+    (boundsJudged (length js) [] (6 + 4 * length js) ds)))
+    (k (read (planOf window rounds last (length js) js bounds ds) [] (6 + 4 * length js + bounds)))
 unfolding next
-planRest-judged window rounds last js bounds ds all =
-    jobsAfter-judged [] js (keyed (bytes "bounds=") (pos bounds) (boundsText ds)) 5 (λ m. alone (next m rest)) alone-ends
-    ∙ ap (andThen (jobsJudged 5 js))
-    (countLine-judged (bytes "bounds=") (keys .bounds .bare) 0 mostBounds bounds (boundsText ds) n alone alone-ends (afterCount js)
-    ∙ andThen-where (numberJudged (pos 0) (pos mostBounds) (pos bounds) n)
+planRest-judged {C} window rounds last js bounds ds all stop k ends =
+    jobsAfter-judged [] js (keyed (bytes "bounds=") (pos bounds) (boundsText ds)) 5 stop (λ m. k (next m rest)) ends
+    ∙ onward-more stop (jobsJudged 5 js) _ _
+    (λ h.
+    countLine-judged (bytes "bounds=") (keys .bounds .bare) 0 mostBounds bounds (boundsText ds) n stop k ends (afterCount js)
+    ∙ onward-more stop (numberJudged (pos 0) (pos mostBounds) (pos bounds) n) _ _
     (λ ok.
     let count : bounds ≡ length ds = all (omega (whole, numberJudged-range (pos 0) (pos mostBounds) (pos bounds) n ok .1)) in
     let e : suc n ≡ 6 + 4 * length js = omega arith in
-    ap (λ (b : ℕ). alone (next (boundsAfter (length js) [] b (boundsText ds) (suc n)) (last-of js bounds))) count
-    ∙ ap (λ (i : ℕ). alone (next (boundsAfter (length js) [] (length ds) (boundsText ds) i) (last-of js bounds))) e
-    ∙ boundsAfter-judged (length js) [] ds (6 + 4 * length js) (λ m. alone (next m (last-of js bounds))) alone-ends
-    ∙ ap (andThen (boundsJudged (length js) [] (6 + 4 * length js) ds)) (alone-read (planOf window rounds last (length js) js bounds ds) (6 + 4 * length js + length ds))
-    ∙ andThen-accepted (boundsJudged (length js) [] (6 + 4 * length js) ds)))
+    ap (λ (b : ℕ). k (next (boundsAfter (length js) [] b (boundsText ds) (suc n)) (last-of js bounds))) count
+    ∙ ap (λ (i : ℕ). k (next (boundsAfter (length js) [] (length ds) (boundsText ds) i) (last-of js bounds))) e
+    ∙ boundsAfter-judged (length js) [] ds (6 + 4 * length js) stop (λ m. k (next m (last-of js bounds))) ends
+    ∙ ap (λ (b : ℕ). onward stop (boundsJudged (length js) [] (6 + 4 * length js) ds) (k (read (planOf window rounds last (length js) js bounds ds) [] (6 + 4 * length js + b)))) (sym count)))
   where
     n : ℕ
     n = 5 + 4 * length js
@@ -352,23 +339,47 @@ jobsOf-count p q h = omega (arith, length-take (p .jobs) (p .job), q .job-places
 pub boundsOf-count : (p : Plan) → Placed p → p .bounds ≤ mostBounds → p .bounds ≡ length (boundsOf p)
 boundsOf-count p q h = omega (arith, length-take (p .bounds) (p .bound), q .bound-places)
 
-planLines-judged : (p : Plan) → Placed p → alone (planLines (planText p) 1) ≡ planJudged p
-unfolding planLines planText planJudged next
-planLines-judged p q =
-    numberLine-judged (bytes "window=") (keys .window .bare) (pos 1) longestWindow (p .window) _ 1 alone alone-ends _
-    ∙ ap (andThen (numberJudged (pos 1) longestWindow (p .window) 1))
-    (countLine-judged (bytes "rounds=") (keys .rounds .bare) 1 mostRounds (p .rounds) _ 2 alone alone-ends _
-    ∙ ap (andThen (numberJudged (pos 1) (pos mostRounds) (pos (p .rounds)) 2))
-    (countLine-judged (bytes "last=") (keys .last .bare) 1 mostWindows (p .last) _ 3 alone alone-ends _
-    ∙ ap (andThen (numberJudged (pos 1) (pos mostWindows) (pos (p .last)) 3))
-    (countLine-judged (bytes "jobs=") (keys .jobs .bare) 1 mostJobs (p .jobs) _ 4 alone alone-ends (λ jobs. planRest (p .window) (p .rounds) (p .last) jobs)
-    ∙ andThen-where (numberJudged (pos 1) (pos mostJobs) (pos (p .jobs)) 4)
+-- the plan's lines: the refusal of the first that is judged bad; or the plan that is read is the same, with zeros in the places beyond its jobs and bounds
+pub planLines-judged : {C : Type 0} (p : Plan) → Placed p → (stop : Refusal → C) (k : Reading Plan → C) → Ending stop k
+    → k (planLines (planText p) 1) ≡ onward stop (planJudged p) (k (read (trimmed p) [] (6 + 4 * p .jobs + p .bounds)))
+unfolding planLines planText planJudged trimmed next
+planLines-judged {C} p q stop k ends =
+    numberLine-judged (bytes "window=") (keys .window .bare) (pos 1) longestWindow (p .window) _ 1 stop k ends _
+    ∙ onward-more stop (numberJudged (pos 1) longestWindow (p .window) 1) _ _
+    (λ h₁.
+    countLine-judged (bytes "rounds=") (keys .rounds .bare) 1 mostRounds (p .rounds) _ 2 stop k ends _
+    ∙ onward-more stop (numberJudged (pos 1) (pos mostRounds) (pos (p .rounds)) 2) _ _
+    (λ h₂.
+    countLine-judged (bytes "last=") (keys .last .bare) 1 mostWindows (p .last) _ 3 stop k ends _
+    ∙ onward-more stop (numberJudged (pos 1) (pos mostWindows) (pos (p .last)) 3) _ _
+    (λ h₃.
+    countLine-judged (bytes "jobs=") (keys .jobs .bare) 1 mostJobs (p .jobs) _ 4 stop k ends (λ jobs. planRest (p .window) (p .rounds) (p .last) jobs)
+    ∙ onward-more stop (numberJudged (pos 1) (pos mostJobs) (pos (p .jobs)) 4) _ _
     (λ ok.
     let count : p .jobs ≡ length (jobsOf p) = jobsOf-count p q (omega (whole, numberJudged-range (pos 1) (pos mostJobs) (pos (p .jobs)) 4 ok .1)) in
-    ap (λ (jobs : ℕ). alone (planRest (p .window) (p .rounds) (p .last) jobs (jobsText (jobsOf p) (keyed (bytes "bounds=") (pos (p .bounds)) (boundsText (boundsOf p)))) 5)) count
-    ∙ planRest-judged (p .window) (p .rounds) (p .last) (jobsOf p) (p .bounds) (boundsOf p) (boundsOf-count p q)
-    ∙ ap (λ (jobs : ℕ). andThen (jobsJudged 5 (jobsOf p)) (andThen (numberJudged (pos 0) (pos mostBounds) (pos (p .bounds)) (5 + 4 * jobs)) (boundsJudged jobs [] (6 + 4 * jobs) (boundsOf p)))) (sym count)))))
+    ap (λ (jobs : ℕ). k (planRest (p .window) (p .rounds) (p .last) jobs (jobsText (jobsOf p) (keyed (bytes "bounds=") (pos (p .bounds)) (boundsText (boundsOf p)))) 5)) count
+    ∙ planRest-judged (p .window) (p .rounds) (p .last) (jobsOf p) (p .bounds) (boundsOf p) (boundsOf-count p q) stop k ends
+    ∙ ap (λ (jobs : ℕ). onward stop (lines jobs) (k (read (planOf (p .window) (p .rounds) (p .last) jobs (jobsOf p) (p .bounds) (boundsOf p)) [] (6 + 4 * jobs + p .bounds)))) (sym count)))))
+  where
+    lines : ℕ → PlanAnswer
+    lines jobs = andThen (jobsJudged 5 (jobsOf p)) (andThen (numberJudged (pos 0) (pos mostBounds) (pos (p .bounds)) (5 + 4 * jobs)) (boundsJudged jobs [] (6 + 4 * jobs) (boundsOf p)))
+
+-- what is made of a plan that is read alone
+abbrev alone : Reading Plan → PlanAnswer
+alone m = judgedAnswer (refusalOf (nothingAfter m))
+
+alone-ends : Ending Refused alone
+unfolding nothingAfter refusalOf
+alone-ends r s = refl
+
+alone-read : (p : Plan) (n : ℕ) → alone (read p [] n) ≡ Accepted
+unfolding nothingAfter refusalOf
+alone-read p n = refl
 
 -- 'A plan handed over as a value is judged as its text would be.'
 pub judgedPlan-is : (p : Plan) → Placed p → length (planText p) ≤ longestText → judgedAnswer (judgedPlan p) ≡ planJudged p
-judgedPlan-is p q short = ap alone (planHead-short (planText p) short) ∙ planLines-judged p q
+judgedPlan-is p q short =
+    ap alone (planHead-short (planText p) short)
+    ∙ planLines-judged p q Refused alone alone-ends
+    ∙ ap (onward Refused (planJudged p)) (alone-read (trimmed p) (6 + 4 * p .jobs + p .bounds))
+    ∙ onward-accepted (planJudged p)

@@ -1,6 +1,6 @@
 -- The laws by which a plan as a value is written: one that is judged bad is refused by its own refusal and leaves every byte (`writtenPlan-refused`), and one that is judged
 -- good is written as its text is (`writtenPlan-accepted`). Here a is the answer to the plan.
-use mathlib.Core.Path.{_≡_, refl, sym, _∙_, ap}
+use mathlib.Core.Path.{_≡_, sym, _∙_, ap}
 use mathlib.Core.List.{List}
 use mathlib.Core.Option.{Option, none, some}
 use Prim.Native.Nat.{ℕ}

@@ -1,0 +1,43 @@
+-- A plan as a value that is accepted, written out and read again, is the same plan, but for the places beyond its jobs and bounds, which hold zeros then (`accepted-again`). Of a plan that came from a text,
+-- whose places hold zeros already, `planAlone-again` of the crate `plan` says it.
+use mathlib.Core.Path.{_≡_, refl, _∙_, ap}
+use mathlib.Core.List.{List, []}
+use Prim.Native.Nat.{ℕ, _+_, _*_}
+use native.Mathlib.Omega.{arith}
+use Rattle.plan.specs.declared.Plan.{Plan}
+use Rattle.plan.specs.declared.PlanAnswer.{PlanAnswer}
+use Rattle.plan.specs.declared.Refusal.{Refusal}
+use Rattle.plan.specs.Reading.{Reading, read, refused}
+use Rattle.plan.specs.PlanRead.{planLines, nothingAfter, planAlone}
+use Rattle.plan.specs.PlanWritten.{trimmed, planText}
+use Rattle.plan.specs.Accepted.{Accepted}
+use Rattle.plan.specs.HeadLaws.{planHead-short}
+use Rattle.values.specs.JudgedLines.{onward, planLines-judged}
+use Rattle.values.specs.JudgedLength.{PlanFits, planText-short}
+use Rattle.values.specs.JudgedLaws.{accepted-planJudged, accepted-fits}
+
+-- a refusal without the text that is left
+abbrev bare : Refusal → Reading Plan
+bare r = refused r []
+
+abbrev bared : Reading Plan → Reading Plan
+bared (read p s n) = read p s n
+bared (refused r s) = bare r
+
+bared-read : (m : Reading Plan) {p : Plan} {s : List ℕ} {n : ℕ} → bared m ≡ read p s n → m ≡ read p s n
+bared-read (read q t i) e = e
+bared-read (refused r t) e = absurd (let z : _≡_ {A = ℕ} 0 1 = cc in omega arith)
+
+-- 'A plan written and read again is the same plan'
+pub accepted-again : (p : Plan) → Accepted p → planAlone (planText p) ≡ read (trimmed p) [] (6 + 4 * p .jobs + p .bounds)
+unfolding nothingAfter
+accepted-again p a =
+    ap nothingAfter
+    (planHead-short (planText p) (planText-short p f)
+    ∙ bared-read (planLines (planText p) 1) (planLines-judged p (f .placed) bare bared (λ r s. refl) ∙ ap (λ (x : PlanAnswer). onward bare x (read (trimmed p) [] n)) (accepted-planJudged p a)))
+  where
+    n : ℕ
+    n = 6 + 4 * p .jobs + p .bounds
+
+    f : PlanFits p
+    f = accepted-fits p a
