@@ -12,8 +12,10 @@ use Rattle.plan.specs.declared.Refusal.the-variants as refusal
 use Rattle.plan.specs.Limits.{longestText}
 use Rattle.plan.specs.Reading.{read}
 use Rattle.plan.specs.PlanRead.{planAlone, planHead}
-use Rattle.plan.specs.PlanWritten.{planText}
+use Rattle.plan.specs.PlanWritten.{planText, trimmed}
 use Rattle.plan.specs.PlanLaws.{planAlone-written, planAlone-again, planAlone-fits, planAlone-unique, planHead-accepted}
+use Rattle.plan.specs.Accepted.{Accepted}
+use Rattle.values.specs.AgainLaws.{accepted-again}
 use Rattle.bounds.specs.Tables.{Rows}
 use Rattle.rounds.specs.declared.Verdict.the-variants.{Settled, NoStrategy}
 use Rattle.rounds.specs.Rounds.{settled, outcome, verdict}
@@ -44,6 +46,10 @@ module _ (s : List ℕ) {p : Plan} {t : List ℕ} {n : ℕ} (accepted : planAlon
 
   pub not-too-long : length s ≤ longestText
   not-too-long = planAlone-fits s accepted
+
+-- and so for a plan that never was a text: the same plan, with zeros in the places past its jobs and bounds
+pub value-read-again : (p : Plan) → Accepted p → planAlone (planText p) ≡ read (trimmed p) [] (6 + 4 * p .jobs + p .bounds)
+value-read-again = accepted-again
 
 pub one-text : (s s′ : List ℕ) {p : Plan} {t t′ : List ℕ} {n n′ : ℕ} → planAlone s ≡ read p t n → planAlone s′ ≡ read p t′ n′ → s ≡ s′
 one-text = planAlone-unique
