@@ -9,6 +9,7 @@ pub mod Put
 pub mod Next
 pub mod Settling
 -- ---- laws
+pub mod TextVerdictLaws
 pub mod SameLaws
 pub mod PutLaws
 pub mod GivenLaws
