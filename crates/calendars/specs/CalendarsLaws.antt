@@ -17,15 +17,14 @@ use Rattle.plan.specs.Limits.{mostJobs}
 use Rattle.plan.specs.PlanRead.{filled}
 use Rattle.plan.specs.ListLaws.{filled-length}
 use Rattle.plan.specs.Accepted.{Accepted}
-use Rattle.bounds.specs.declared.JudgedSet.{JudgedSet}
 use Rattle.bounds.specs.Events.{startNode, finishNode, nodes}
 use Rattle.bounds.specs.Tables.{Rows, Set, contradiction, bounds}
 use Rattle.bounds.specs.Elimination.{withoutFinish, withoutStart, withoutPlace, thenSet, eliminated}
-use Rattle.bounds.specs.Flat.{rowsOf, setOf}
+use Rattle.bounds.specs.Flat.{rowsOf, setIn}
 use Rattle.bounds.specs.Fit.{Fit}
 use Rattle.bounds.specs.BuildLaws.{length-listed}
-use Rattle.bounds.specs.FitLaws.{withoutStart-fit}
-use Rattle.bounds.specs.PlacesLaws.{setOf-left, withoutPlace-past, withoutFinish-next}
+use Rattle.bounds.specs.FitLaws.{withoutStart-fit, withoutFinish-fit}
+use Rattle.bounds.specs.PlacesLaws.{setIn-left, finish-next, withoutPlace-some}
 use Rattle.calendars.specs.declared.Terms.{Terms}
 use Rattle.calendars.specs.declared.Calendar.{Calendar}
 use Rattle.rounds.specs.Rounds.{isContradictory}
@@ -132,12 +131,9 @@ unfolding thenSet
 then-sound contradiction f e = e
 then-sound (bounds t) f e = refl
 
-set-sound : (k : ℕ) (r : JudgedSet) → isContradictory (setOf k r) ≡ false → r .contradiction ≡ false
-set-sound k r e = by (r .contradiction) e
-  where
-    by : (b : Bool) → isContradictory (cond b contradiction (bounds (rowsOf k (r .table .weights)))) ≡ false → b ≡ false
-    by true e = e
-    by false e = refl
+set-sound : (k : ℕ) (found : Bool) (ws : List ℤ) → isContradictory (setIn k found ws) ≡ false → found ≡ false
+set-sound k true ws e = e
+set-sound k false ws e = refl
 
 -- ---- the walk
 
@@ -232,50 +228,49 @@ module _ (p : Plan) (a : Accepted p) where
     place-sound : isContradictory (withoutPlace p k before) ≡ false
     place-sound = then-sound (withoutPlace p k before) (eliminated p (p .jobs) left) turn
 
-    module _ (r : JudgedSet) (finished : setOf (finishNode k) r ≡ withoutFinish p k (rowsOf (suc (finishNode k)) ws)) where
-      finish-is : setOf (finishNode k) r ≡ withoutFinish p k before
+    module _ (found : Bool) (us : List ℤ) (finished : setIn (finishNode k) found us ≡ withoutFinish p k (rowsOf (suc (finishNode k)) ws)) where
+      finish-is : setIn (finishNode k) found us ≡ withoutFinish p k before
       finish-is = finished ∙ ap (λ (n : ℕ). withoutFinish p k (rowsOf n ws)) (sym last-node)
 
-      finish-sound : r .contradiction ≡ false
+      finish-sound : found ≡ false
       unfolding withoutPlace
       finish-sound =
-          set-sound (finishNode k) r (ap isContradictory finish-is ∙ then-sound (withoutFinish p k before) (withoutStart p k) place-sound)
+          set-sound (finishNode k) found us (ap isContradictory finish-is ∙ then-sound (withoutFinish p k before) (withoutStart p k) place-sound)
 
       fit-before : Fit p (suc (finishNode k)) before
       fit-before = subst (λ (n : ℕ). Fit p n before) last-node (w .fit)
 
-      pub Walked-last : Fit p (suc (startNode k)) (rowsOf (suc (startNode k)) (r .table .weights))
-      Walked-last = withoutFinish-next p k before r finish-is finish-sound fit-before
+      pub Walked-last : Fit p (suc (startNode k)) (rowsOf (suc (startNode k)) us)
+      Walked-last =
+          subst (λ (n : ℕ). Fit p n (rowsOf n us)) (finish-next k)
+          (withoutFinish-fit p k before (rowsOf (finishNode k) us) fit-before (sym finish-is ∙ setIn-left (finishNode k) found us finish-sound))
 
-      module _ (q : JudgedSet) (started : setOf (startNode k) q ≡ withoutStart p k (rowsOf (suc (startNode k)) (r .table .weights))) where
-        place-is : setOf (startNode k) q ≡ withoutPlace p k before
-        place-is = started ∙ withoutPlace-past p k before r finish-is finish-sound
+      abbrev u : Rows
+      u = rowsOf (suc (startNode k)) us
 
-        start-sound : q .contradiction ≡ false
-        start-sound = set-sound (startNode k) q (ap isContradictory place-is ∙ place-sound)
+      finish-left : withoutFinish p k before ≡ bounds u
+      finish-left = sym finish-is ∙ setIn-left (finishNode k) found us finish-sound ∙ ap (λ (n : ℕ). bounds (rowsOf n us)) (finish-next k)
 
-        abbrev u : Rows
-        u = rowsOf (suc (startNode k)) (r .table .weights)
+      module _ (again : Bool) (vs : List ℤ) (started : setIn (startNode k) again vs ≡ withoutStart p k (rowsOf (suc (startNode k)) us)) where
+        place-is : setIn (startNode k) again vs ≡ withoutPlace p k before
+        place-is = started ∙ sym (withoutPlace-some p k before u finish-left)
+
+        start-sound : again ≡ false
+        start-sound = set-sound (startNode k) again vs (ap isContradictory place-is ∙ place-sound)
 
         abbrev v : Rows
-        v = rowsOf (nodes k) (q .table .weights)
-
-        start-last : finishNode k ≡ suc (startNode k)
-        start-last = omega arith
-
-        finish-left : withoutFinish p k before ≡ bounds u
-        finish-left = sym finish-is ∙ setOf-left (finishNode k) r finish-sound ∙ ap (λ (n : ℕ). bounds (rowsOf n (r .table .weights))) start-last
+        v = rowsOf (nodes k) vs
 
         start-left : withoutStart p k u ≡ bounds v
-        start-left = sym started ∙ setOf-left (startNode k) q start-sound
+        start-left = sym started ∙ setIn-left (startNode k) again vs start-sound
 
         next-sound : isContradictory (eliminated p (p .jobs) left v) ≡ false
         unfolding thenSet
         next-sound =
-            ap isContradictory (sym (ap (λ (s : Set). thenSet s (eliminated p (p .jobs) left)) (sym place-is ∙ setOf-left (startNode k) q start-sound))) ∙ turn
+            ap isContradictory (sym (ap (λ (s : Set). thenSet s (eliminated p (p .jobs) left)) (sym place-is ∙ setIn-left (startNode k) again vs start-sound))) ∙ turn
 
         pub Walked-more : (x : Terms) (l m : List ℤ) → x ≡ termsOf p left u → l ≡ sets least (rowAt left) (leastCs p left u) → m ≡ sets most (rowAt left) (mostCs p left u)
-            → Walked p t left (q .table .weights) (set terms left x) l m
+            → Walked p t left vs (set terms left x) l m
         Walked-more x l m x-is l-is m-is =
             let places = w .places in
             let job : left < p .jobs = omega arith in

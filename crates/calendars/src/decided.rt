@@ -2,6 +2,7 @@
 use crate::Decision;
 use crate::walk::calendar_of;
 use crate::walk::empty_calendar;
+use bounds::Table;
 use plan::Plan;
 use rounds::Verdict;
 use rounds::settle;
@@ -19,12 +20,11 @@ pub fn decide(p: Plan) -> Decision
     let times = bounds::times_of(p);
     let early = times.early;
     let late = times.late;
-    let settling = settle(p, &early, &late);
-    let verdict = settling.verdict;
-    let joined = settling.joined;
+    let mut joined = [Table::NO_BOUND; Table::SIZE];
+    let verdict = settle(p, &early, &late, &mut joined);
     match verdict {
         Verdict::Settled(_) => {
-            let calendar = calendar_of(p, joined, &early, &late);
+            let calendar = calendar_of(p, &joined, &early, &late);
             Decision { verdict, calendar }
         }
         Verdict::NoStrategy(_) => {

@@ -5,6 +5,8 @@ use crate::MOST_TERMS;
 use crate::Terms;
 use crate::recorded::put_terms_of;
 use bounds::Table;
+use bounds::drop_finish;
+use bounds::drop_start;
 use clock::WindowTime;
 use plan::MOST_JOBS;
 use plan::Plan;
@@ -15,7 +17,7 @@ ghost use Rattle.plan.specs.declared.Plan.{Plan};
 ghost use Rattle.bounds.specs.Events.{nodes};
 ghost use Rattle.bounds.specs.Elimination.{eliminated};
 ghost use Rattle.bounds.specs.Flat.{rowsOf};
-ghost use Rattle.bounds.specs.Fit.{Fit, Clocked};
+ghost use Rattle.bounds.specs.Fit.{StandingOf};
 ghost use Rattle.rounds.specs.Rounds.{isContradictory};
 ghost use Rattle.calendars.specs.Calendars.{beforeStarts, calendarOf, noCalendar};
 
@@ -40,30 +42,27 @@ pub fn empty_calendar() -> Calendar
 // one and the bounds between, and its elimination gives no contradiction.
 pub fn calendar_of<'a>(
     p: Plan,
-    joined: Table,
+    joined: &'a [i32; Table::SIZE],
     early: &'a [i32; Table::SIDE],
     late: &'a [i32; Table::SIDE],
 ) -> Calendar
-    requires { ⌜ (Clocked p (now early) (now late)) × (Fit p (nodes (p .jobs + p .jobs)) (rowsOf (nodes (p .jobs + p .jobs)) (joined .weights))) × (isContradictory (eliminated p (p .jobs) (p .jobs) (rowsOf (nodes (p .jobs + p .jobs)) (joined .weights))) ≡ false) ⌝ }
-    ensures { λ r. ⌜ r ≡ calendarOf p (beforeStarts p (p .jobs) (rowsOf (nodes (p .jobs + p .jobs)) (joined .weights))) ⌝ }
+    requires { ⌜ (StandingOf p (now early) (now late) (nodes (p .jobs + p .jobs)) (now joined)) × (isContradictory (eliminated p (p .jobs) (p .jobs) (rowsOf (nodes (p .jobs + p .jobs)) (now joined))) ≡ false) ⌝ }
+    ensures { λ r. ⌜ r ≡ calendarOf p (beforeStarts p (p .jobs) (rowsOf (nodes (p .jobs + p .jobs)) (now (joined .entry)))) ⌝ }
 {
     let jobs = p.jobs;
     let none = empty_calendar();
     let mut terms = none.terms;
     let mut least = none.at_least;
     let mut most = none.at_most;
-    let mut table = joined;
+    let mut weights = *joined;
     let mut left = jobs;
     while 0 < left {
         left -= 1;
         let k = jobs + left;
-        let finished = table.without_finish(p, early, late, k);
-        let remains = finished.table;
-        let weights = remains.weights;
+        drop_finish(&mut weights, early, late, k);
         let start = put_terms_of(&mut least, &mut most, &weights, p, left);
         terms[left] = start;
-        let started = remains.without_start(p, early, late, k);
-        table = started.table;
+        drop_start(&mut weights, early, late, k);
     }
     Calendar {
         terms: terms,

@@ -1,5 +1,4 @@
 // The rounds of a plan, to its verdict.
-use super::Settling;
 use super::Verdict;
 use super::joined::put_next;
 use super::own::put_between;
@@ -91,34 +90,26 @@ fn settle_rounds<'a>(
     Verdict::Unsettled(rounds)
 }
 
-// The verdict on a plan, and where it is settled the joined table of its last round, of which the calendar is made.
-pub fn settle<'a>(p: Plan, early: &'a [i32; Table::SIDE], late: &'a [i32; Table::SIDE]) -> Settling
-    requires { ⌜ Clocked p (now early) (now late) ⌝ }
-    ensures { λ r. ⌜ r .verdict ≡ verdict p ⌝ }
-    ensures { λ r. ⌜ SettledOn p (rowsOf (nodes (p .jobs + p .jobs)) (r .joined .weights)) ⌝ }
+// The verdict on a plan; where it is settled, `joined` holds the joined table of the round that settled it, before its elimination, of which the calendar is
+// made.
+pub fn settle<'a>(
+    p: Plan,
+    early: &'a [i32; Table::SIDE],
+    late: &'a [i32; Table::SIDE],
+    joined: &mut [i32; Table::SIZE],
+) -> Verdict
+    requires { ⌜ (Clocked p (now early) (now late)) × (length (now joined) ≡ 1369) ⌝ }
+    ensures { λ r. ⌜ r ≡ verdict p ⌝ }
+    ensures { λ r. ⌜ SettledOn p (rowsOf (nodes (p .jobs + p .jobs)) (now (joined .exit))) ⌝ }
+    ensures { λ r. ⌜ length (now (joined .exit)) ≡ 1369 ⌝ }
 {
-    let mut joined = [Table::NO_BOUND; Table::SIZE];
-    let mut weights = joined;
+    let mut weights = [Table::NO_BOUND; Table::SIZE];
     if put_own(&mut weights, early, late, p) {
-        let none = Table { weights: joined };
-        return Settling {
-            verdict: Verdict::NoStrategy(1),
-            joined: none,
-        };
+        return Verdict::NoStrategy(1);
     }
     let own = weights;
     if put_between(&mut weights, early, late, p) {
-        let refused = contradicted(p, early, late, &own, 1);
-        let none = Table { weights: joined };
-        return Settling {
-            verdict: refused,
-            joined: none,
-        };
+        return contradicted(p, early, late, &own, 1);
     }
-    let settled = settle_rounds(p, early, late, &own, &weights, &mut joined);
-    let table = Table { weights: joined };
-    Settling {
-        verdict: settled,
-        joined: table,
-    }
+    settle_rounds(p, early, late, &own, &weights, joined)
 }

@@ -2,8 +2,7 @@
 use mathlib.Core.Path.{_≡_, sym, _∙_, ap}
 use mathlib.Core.Bool.{false}
 use native.Mathlib.Omega.{arith}
-use lib.ListN.{length-replicate}
-use Rattle.bounds.specs.Flat.{flat, putBounds, noBound, noBounds}
+use Rattle.bounds.specs.Flat.{flat, putBounds, noBounds}
 use Rattle.rounds.specs.Given.{ownBounds}
 use Rattle.rounds.specs.JoinedLaws.{own-none}
 use Rattle.rounds.specs.SettleLaws.{verdict-none, none-on, first-none, own-standing, between-none}
@@ -11,18 +10,18 @@ use Rattle.rounds.proofs.verdicts.settle.Statement.{statement}
 use Rattle.rounds.proofs.verdicts.settle.Tie as tie
 
 put-own-requires : tie.Need-put-own-requires
-put-own-requires c κs = c .before .pre
+put-own-requires c κs = c .before .pre .0
 
 returns : tie.Need-returns
 returns c =
     let s = c .before .before .before in
     let a = s .args in
     let o = c .before .put-own in
-    let none = first-none (a .p) (own-none (a .p) (a .early .now) (a .late .now) (s .pre) (o .result) (o .last .0) (o .ensures) (c .if1 .taken)) in
-    (verdict-none (a .p) 1 none, none-on (a .p) 1 _ none)
+    let none = first-none (a .p) (own-none (a .p) (a .early .now) (a .late .now) (s .pre .0) (o .result) (o .last .0) (o .ensures) (c .if1 .taken)) in
+    (verdict-none (a .p) 1 none, (none-on (a .p) 1 _ none, s .pre .1))
 
 put-between-requires : tie.Need-put-between-requires
-put-between-requires c κs = c .before .before .before .before .pre
+put-between-requires c κs = c .before .before .before .before .pre .0
 
 -- where `put_own` finds no contradiction, the array holds C(0)
 own-put : (c : tie.After-put-own) → c .put-own .result ≡ false
@@ -34,7 +33,7 @@ contradicted-requires c κs =
     let s = c .before .before .before .before .before .before .before in
     let a = s .args in
     let o = c .before .before .before .before .before in
-    (own-standing (a .p) (a .early .now) (a .late .now) (s .pre) (o .put-own .last .0) (own-put o (c .before .before .before .before .if1 .left)), omega arith)
+    (own-standing (a .p) (a .early .now) (a .late .now) (s .pre .0) (o .put-own .last .0) (own-put o (c .before .before .before .before .if1 .left)), omega arith)
 
 returns-2 : tie.Need-returns-2
 returns-2 c =
@@ -42,24 +41,25 @@ returns-2 c =
     let a = s .args in
     let o = c .before .before .before .before .before .before in
     let r = c .before .before .before .put-between in
-    let none = between-none (a .p) (a .early .now) (a .late .now) (s .pre) (o .put-own .last .0) (own-put o (c .before .before .before .before .before .if1 .left)) (r .result) (r .last .0)
+    let none = between-none (a .p) (a .early .now) (a .late .now) (s .pre .0) (o .put-own .last .0) (own-put o (c .before .before .before .before .before .if1 .left)) (r .result) (r .last .0)
     (r .ensures)
     (c .before .before .if2 .taken) in
-    (c .contradicted .ensures ∙ verdict-none (a .p) _ none, none-on (a .p) _ _ none)
+    (c .contradicted .ensures ∙ verdict-none (a .p) _ none, (none-on (a .p) _ _ none, s .pre .1))
 
 settle-rounds-requires : tie.Need-settle-rounds-requires
 settle-rounds-requires c κs =
+    let s = c .before .before .before .before .before .before .before .before .before in
     let r = c .before .before .before .before .put-between in (
-      c .before .before .before .before .before .before .before .before .before .pre,
+      s .pre .0,
       record {
         own-put = own-put (c .before .before .before .before .before .before .before) (c .before .before .before .before .before .before .if1 .left);
         base-put = ap (λ f. flat f (r .last .0)) (sym (c .before .before .before .if2 .left)) ∙ r .ensures;
       },
-      length-replicate 1369 noBound,
+      s .pre .1,
     )
 
 returns-3 : tie.Need-returns-3
-returns-3 c = (c .settle-rounds .ensures .0, c .settle-rounds .ensures .1 .0)
+returns-3 c = c .settle-rounds .ensures
 
 pub settle-spec : {M : Type 1} → statement M
 settle-spec =
