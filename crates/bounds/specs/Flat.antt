@@ -12,7 +12,6 @@ use mir.Val.{SFits}
 use Rattle.whole.specs.Split.{eqZ}
 use Rattle.bounds.specs.declared.Judgement.{Judgement}
 use Rattle.bounds.specs.declared.Judgement.the-variants.{Contradiction, LeftOut, Kept}
-use Rattle.bounds.specs.declared.JudgedSet.{JudgedSet}
 use Rattle.bounds.specs.Events.{nodeOf}
 use Rattle.bounds.specs.Tables.{Cell, off, upto, Rows, build, Between, Set, contradiction, bounds}
 use Rattle.bounds.specs.Spans.{judgedAt, Timed}
@@ -41,10 +40,6 @@ cellAt ws y z = cellOf (weightAt ws y z)
 -- the rows of the first k nodes
 abbrev pub rowsOf : ℕ → List ℤ → Rows
 rowsOf k ws = build k (cellAt ws)
-
--- the set that an answer of the code means, on k nodes
-abbrev pub setOf : ℕ → JudgedSet → Set
-setOf k r = cond (r .contradiction) contradiction (bounds (rowsOf k (r .table .weights)))
 
 -- the set that an array holds on k nodes, where no contradiction was found
 abbrev pub setIn : ℕ → Bool → List ℤ → Set

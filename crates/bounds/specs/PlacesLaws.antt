@@ -7,21 +7,14 @@ use mathlib.Core.List.{List}
 use native.Mathlib.Omega.{arith}
 use lib.IntN.{ℤ}
 use Rattle.plan.specs.declared.Plan.{Plan}
-use Rattle.bounds.specs.declared.JudgedSet.{JudgedSet}
 use Rattle.bounds.specs.Events.{startNode, finishNode, nodes}
 use Rattle.bounds.specs.Tables.{Rows, Set, contradiction, bounds}
 use Rattle.bounds.specs.Elimination.{withoutStart, withoutFinish, thenSet, withoutPlace, eliminated}
-use Rattle.bounds.specs.Flat.{rowsOf, setOf, setIn}
+use Rattle.bounds.specs.Flat.{rowsOf, setIn}
 use Rattle.bounds.specs.Fit.{Fit}
 use Rattle.bounds.specs.FitLaws.{withoutStart-fit, withoutFinish-fit}
 
 -- ---- answers
-
-pub setOf-found : (k : ℕ) (r : JudgedSet) → r .contradiction ≡ true → setOf k r ≡ contradiction
-setOf-found k r e = ap (λ b. cond b contradiction (bounds (rowsOf k (r .table .weights)))) e
-
-pub setOf-left : (k : ℕ) (r : JudgedSet) → r .contradiction ≡ false → setOf k r ≡ bounds (rowsOf k (r .table .weights))
-setOf-left k r e = ap (λ b. cond b contradiction (bounds (rowsOf k (r .table .weights)))) e
 
 pub setIn-found : (k : ℕ) (found : Bool) (ws : List ℤ) → found ≡ true → setIn k found ws ≡ contradiction
 setIn-found k found ws e = ap (λ b. setIn k b ws) e
@@ -40,25 +33,6 @@ place-next k = omega arith
 -- ---- one place
 
 module _ (p : Plan) (k : ℕ) (t : Rows) where
-  pub withoutPlace-stop : (r : JudgedSet) → setOf (finishNode k) r ≡ withoutFinish p k t → r .contradiction ≡ true
-      → setOf (nodes k) r ≡ withoutPlace p k t
-  unfolding withoutPlace thenSet
-  withoutPlace-stop r e c =
-      setOf-found (nodes k) r c ∙ ap (λ s. thenSet s (withoutStart p k)) (sym (setOf-found (finishNode k) r c) ∙ e)
-
-  pub withoutPlace-past : (r : JudgedSet) → setOf (finishNode k) r ≡ withoutFinish p k t → r .contradiction ≡ false
-      → withoutStart p k (rowsOf (suc (startNode k)) (r .table .weights)) ≡ withoutPlace p k t
-  unfolding withoutPlace thenSet
-  withoutPlace-past r e c =
-      ap (λ n. withoutStart p k (rowsOf n (r .table .weights))) (sym (finish-next k))
-      ∙ ap (λ s. thenSet s (withoutStart p k)) (sym (setOf-left (finishNode k) r c) ∙ e)
-
-  pub withoutFinish-next : (r : JudgedSet) → setOf (finishNode k) r ≡ withoutFinish p k t → r .contradiction ≡ false → Fit p (suc (finishNode k)) t
-      → Fit p (suc (startNode k)) (rowsOf (suc (startNode k)) (r .table .weights))
-  withoutFinish-next r e c fit =
-      subst (λ n. Fit p n (rowsOf n (r .table .weights))) (finish-next k)
-      (withoutFinish-fit p k t (rowsOf (finishNode k) (r .table .weights)) fit (sym e ∙ setOf-left (finishNode k) r c))
-
   pub withoutPlace-none : withoutFinish p k t ≡ contradiction → withoutPlace p k t ≡ contradiction
   unfolding withoutPlace thenSet
   withoutPlace-none e = ap (λ s. thenSet s (withoutStart p k)) e
@@ -83,16 +57,6 @@ module _ (p : Plan) (low count : ℕ) (t : Rows) (some : 0 < count) where
   turn : eliminated p low count t ≡ thenSet (withoutPlace p (low + (count - 1)) t) (eliminated p low (count - 1))
   unfolding eliminated
   turn = let more : count ≡ suc (count - 1) = omega arith in ap (λ n. eliminated p low n t) more
-
-  pub eliminated-stop : (r : JudgedSet) (k : ℕ) → setOf k r ≡ withoutPlace p (low + (count - 1)) t → r .contradiction ≡ true
-      → eliminated p low count t ≡ contradiction
-  unfolding thenSet
-  eliminated-stop r k e c = turn ∙ ap (λ s. thenSet s (eliminated p low (count - 1))) (sym e ∙ setOf-found k r c)
-
-  pub eliminated-past : (r : JudgedSet) (k : ℕ) → setOf k r ≡ withoutPlace p (low + (count - 1)) t → r .contradiction ≡ false
-      → eliminated p low count t ≡ eliminated p low (count - 1) (rowsOf k (r .table .weights))
-  unfolding thenSet
-  eliminated-past r k e c = turn ∙ ap (λ s. thenSet s (eliminated p low (count - 1))) (sym e ∙ setOf-left k r c)
 
   pub eliminated-none : withoutPlace p (low + (count - 1)) t ≡ contradiction → eliminated p low count t ≡ contradiction
   unfolding thenSet

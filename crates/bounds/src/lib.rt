@@ -48,9 +48,3 @@ impl Table {
     // The mark for no bound on a pair.
     pub const NO_BOUND: i32 = 2147483647;
 }
-
-// A set of bounds as its judgement leaves it: a contradiction, or the table of the bounds that are kept.
-pub struct JudgedSet {
-    pub contradiction: bool,
-    pub table: Table,
-}
