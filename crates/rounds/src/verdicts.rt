@@ -103,7 +103,8 @@ pub fn settle<'a>(
     ensures { λ r. ⌜ SettledOn p (rowsOf (nodes (p .jobs + p .jobs)) (now (joined .exit))) ⌝ }
     ensures { λ r. ⌜ length (now (joined .exit)) ≡ 1369 ⌝ }
 {
-    let mut weights = [Table::NO_BOUND; Table::SIZE];
+    let empty = Table::empty();
+    let mut weights = empty.weights;
     if put_own(&mut weights, early, late, p) {
         return Verdict::NoStrategy(1);
     }

@@ -3,21 +3,21 @@
 mod ends;
 mod limits;
 mod offers;
+mod on_values;
 mod steps;
-mod values;
 
 use calendars::Terms;
 use clock::RunTime;
 pub use limits::jobs_done;
+pub use on_values::ask;
+pub use on_values::finish_at;
+pub use on_values::start_at;
+pub use on_values::start_auto;
+pub use on_values::take_step;
 use plan::MOST_JOBS;
 use plan::Refusal;
 pub use steps::new_run;
 pub use steps::step_due;
-pub use values::ask;
-pub use values::finish_at;
-pub use values::start_at;
-pub use values::start_auto;
-pub use values::take_step;
 
 // The places of a calendar's c on one side: a row of calendars::MOST_EVENTS for each job.
 const MOST_TERMS: usize = 324;

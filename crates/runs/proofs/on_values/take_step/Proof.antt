@@ -2,8 +2,8 @@
 use mathlib.Core.Path.{_∙_}
 use Rattle.runs.specs.StepLaws.{step-refused, step-accepted}
 use borrow.Author.Needs.{needs}
-use Rattle.runs.proofs.values.take_step.Statement.{statement}
-use Rattle.runs.proofs.values.take_step.Tie as tie
+use Rattle.runs.proofs.on_values.take_step.Statement.{statement}
+use Rattle.runs.proofs.on_values.take_step.Tie as tie
 
 judge-plan-requires : tie.Need-judge-plan-requires
 judge-plan-requires c κs = search needs
