@@ -14,7 +14,9 @@ use Rattle.whole.specs.Rules.{wholes}
 use Rattle.plan.specs.declared.Plan.{Plan}
 use Rattle.plan.specs.Accepted.{Accepted}
 use Rattle.bounds.specs.declared.Event.{Event}
-use Rattle.bounds.specs.Events.{earliest, latest, eventOf, nodes}
+use Rattle.bounds.specs.declared.Event.the-variants.{Origin, Start, Finish}
+use Rattle.bounds.specs.Events.{earliest, latest, eventOf, startNode, finishNode, nodes}
+use Rattle.bounds.specs.BuildLaws.{eventOf-start, eventOf-finish}
 use Rattle.bounds.specs.Spans.{timeAt, InRange, Timed}
 use Rattle.bounds.specs.Fit.{Clocked}
 use Rattle.bounds.specs.FitLaws.{earliest-in, latest-in}
@@ -26,15 +28,7 @@ pub record Filled (t : Event → ℤ) (n : ℕ) (ts : List ℤ) : Type 0 where
   pub done : (y : ℕ) → y < n → timeAt ts y ≡ t (eventOf y)
   pub rest : (y : ℕ) → n ≤ y → y < 37 → timeAt ts y ≡ pos 0
 
-pub filled-none : (t : Event → ℤ) → Filled t 0 (replicate 37 (pos 0))
-filled-none t =
-    record {
-      len = length-replicate 37 (pos 0);
-      done = λ y h. absurd (omega arith);
-      rest = λ y h l. getD-replicate 37 y (pos 0) (pos 0) l;
-    }
-
-pub filled-more : (t : Event → ℤ) (n : ℕ) (ts : List ℤ) (a : ℤ) → n < 37 → a ≡ t (eventOf n) → Filled t n ts → Filled t (n + 1) (set ts n a)
+filled-more : (t : Event → ℤ) (n : ℕ) (ts : List ℤ) (a : ℤ) → n < 37 → a ≡ t (eventOf n) → Filled t n ts → Filled t (n + 1) (set ts n a)
 filled-more t n ts a h e f =
     record {
       len = length-set ts n a ∙ f .len;
@@ -44,6 +38,29 @@ filled-more t n ts a h e f =
           (less-or-same y n l);
       rest = λ y l m. getD-set-other ts n y a (pos 0) (λ g. omega arith) ∙ f .rest y (omega arith) m;
     }
+
+-- the origin has 0 already
+pub filled-origin : (t : Event → ℤ) → t Origin ≡ pos 0 → Filled t (nodes 0) (replicate 37 (pos 0))
+unfolding eventOf
+filled-origin t e =
+    record {
+      len = length-replicate 37 (pos 0);
+      done = λ y h.
+          let first : y ≡ 0 = omega arith in
+          subst (λ y. timeAt (replicate 37 (pos 0)) y ≡ t (eventOf y)) (sym first) (getD-replicate 37 0 (pos 0) (pos 0) (omega arith) ∙ sym e);
+      rest = λ y h l. getD-replicate 37 y (pos 0) (pos 0) l;
+    }
+
+-- and a place has its start and its finish
+pub filled-place : (t : Event → ℤ) (k : ℕ) (ts : List ℤ) (a b : ℤ) → finishNode k < 37 → a ≡ t (Start k) → b ≡ t (Finish k) → Filled t (nodes k) ts
+    → Filled t (nodes (k + 1)) (set (set ts (startNode k) a) (finishNode k) b)
+filled-place t k ts a b h d e f =
+    let next : startNode k + 1 ≡ finishNode k = omega arith in
+    let last : finishNode k + 1 ≡ nodes (k + 1) = omega arith in
+    subst (λ n. Filled t n (set (set ts (startNode k) a) (finishNode k) b)) last
+    (filled-more t (finishNode k) (set ts (startNode k) a) b h (e ∙ ap t (sym (eventOf-finish k)))
+    (subst (λ n. Filled t n (set ts (startNode k) a)) next
+    (filled-more t (startNode k) ts a (omega arith) (d ∙ ap t (sym (eventOf-start k))) f)))
 
 -- ---- both arrays
 

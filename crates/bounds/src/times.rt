@@ -1,13 +1,12 @@
 // 'Earliest and latest on the window's own clock', and for the next window with `window` added.
-use super::Event;
 use super::Spans;
 use super::Table;
 use plan::Job;
 use plan::Plan;
 ghost use mathlib.Core.Path.{_≡_};
-ghost use Prim.Native.Nat.{ℕ, _+_, _<_};
+ghost use Prim.Native.Nat.{_+_, _<_};
 ghost use Rattle.plan.specs.Accepted.{Accepted};
-ghost use Rattle.bounds.specs.Events.{jobAt, shift, earliest, latest, nodeOf, nodes};
+ghost use Rattle.bounds.specs.Events.{jobAt, shift};
 ghost use Rattle.bounds.specs.Fit.{Clocked};
 
 // The job at a place.
@@ -32,46 +31,6 @@ pub fn shift_at(p: Plan, k: usize) -> i32
     p.window
 }
 
-// The earliest of an event of two windows.
-pub fn earliest_of(p: Plan, e: Event) -> i32
-    requires { ⌜ (Accepted p) × (nodeOf e < nodes (p .jobs + p .jobs)) ⌝ }
-    ensures { λ r. ⌜ r ≡ earliest p e ⌝ }
-{
-    match e {
-        Event::Origin => 0,
-        Event::Start(k) => {
-            let job = job_at(p, k);
-            let later = shift_at(p, k);
-            job.release + later
-        }
-        Event::Finish(k) => {
-            let job = job_at(p, k);
-            let later = shift_at(p, k);
-            job.release + job.min + later
-        }
-    }
-}
-
-// The latest of an event of two windows.
-pub fn latest_of(p: Plan, e: Event) -> i32
-    requires { ⌜ (Accepted p) × (nodeOf e < nodes (p .jobs + p .jobs)) ⌝ }
-    ensures { λ r. ⌜ r ≡ latest p e ⌝ }
-{
-    match e {
-        Event::Origin => 0,
-        Event::Start(k) => {
-            let job = job_at(p, k);
-            let later = shift_at(p, k);
-            job.deadline - job.max + later
-        }
-        Event::Finish(k) => {
-            let job = job_at(p, k);
-            let later = shift_at(p, k);
-            job.deadline + later
-        }
-    }
-}
-
 // The times of all events of two windows.
 pub fn times_of(p: Plan) -> Spans
     requires { ⌜ Accepted p ⌝ }
@@ -79,12 +38,22 @@ pub fn times_of(p: Plan) -> Spans
 {
     let mut early = [0; Table::SIDE];
     let mut late = [0; Table::SIDE];
-    let count = 1 + 2 * (p.jobs + p.jobs);
-    let mut y = 0;
-    while y < count {
-        early[y] = earliest_of(p, Event::of(y));
-        late[y] = latest_of(p, Event::of(y));
-        y += 1;
+    let places = p.jobs + p.jobs;
+    let mut k = 0;
+    while k < places {
+        let job = job_at(p, k);
+        let later = shift_at(p, k);
+        let first_start = job.release + later;
+        let first_finish = job.release + job.min + later;
+        let last_start = job.deadline - job.max + later;
+        let last_finish = job.deadline + later;
+        let s = 1 + 2 * k;
+        let f = 2 + 2 * k;
+        early[s] = first_start;
+        early[f] = first_finish;
+        late[s] = last_start;
+        late[f] = last_finish;
+        k += 1;
     }
     Spans {
         early: early,

@@ -1,115 +1,168 @@
--- `bounds::times::times_of` meets its contract. The loop's invariant: both arrays are filled with the times of the nodes below y.
+-- `bounds::times::times_of` meets its contract. The loop's invariant: both arrays are filled with the times of the places below k. The sums of a place lie in
+-- range (`job-in`).
 use Prim.Native.Nat.{ℕ, _+_, _*_, _-_, _≤_, _<_}
-use mathlib.Core.Path.{_≡_, sym, _∙_, ap, subst}
+use mathlib.Core.Path.{_≡_, refl, sym, _∙_, ap₂, subst, subst₂}
 use native.Mathlib.Omega.{arith}
-use lib.IntN.{ℤ}
-use lib.ListN.{set}
-use mir.Syntax.{w32}
-use mir.Facts.{toZ-ofZ}
-use Rattle.whole.specs.SplitLaws.{told-fits}
-use Rattle.bounds.specs.Events.{nodeOf, nodes, eventOf, earliest, latest}
-use Rattle.bounds.specs.EventsLaws.{nodeOf-eventOf}
-use Rattle.bounds.specs.FillLaws.{Filled, filled-none, filled-more, filled-clocked}
+use lib.IntN.{ℤ, pos, _+ℤ_, _-ℤ_}
+use Rattle.plan.specs.declared.Plan.{Plan}
+use Rattle.bounds.specs.declared.Event.the-variants.{Origin, Start, Finish}
+use Rattle.bounds.specs.Events.{nodes, earliest, latest}
+use Rattle.bounds.specs.EventTimesLaws.{JobIn, job-in}
+use Rattle.bounds.specs.FillLaws.{Filled, filled-origin, filled-place, filled-clocked}
+use Rattle.bounds.proofs.Gaps.{gap-fits, gap-back, total-fits, total-back, chain-fits, chain-back}
 use Rattle.bounds.proofs.times.times_of.Statement.{statement}
 use Rattle.bounds.proofs.times.times_of.Tie as tie
 
 abbrev Inv-loop : tie.InvT-loop
-Inv-loop p early₀ late₀ count y₀ early late y = (y ≤ count) × (count ≡ nodes (p .jobs + p .jobs)) × (Filled (earliest p) y early) × (Filled (latest p) y late)
+Inv-loop p early₀ late₀ places k₀ early late k = (k ≤ p .jobs + p .jobs) × (Filled (earliest p) (nodes k) early) × (Filled (latest p) (nodes k) late)
 
 abbrev μ-loop : tie.MeasureT-loop
-μ-loop p early₀ late₀ count y₀ early late y = count - y
+μ-loop p early₀ late₀ places k₀ early late k = p .jobs + p .jobs - k
 
-add-count : tie.Need-add-count Inv-loop μ-loop
-add-count c = let most = c .before .pre .jobs-most in omega arith
+add-places : tie.Need-add-places Inv-loop μ-loop
+add-places c = let most = c .before .pre .jobs-most in omega arith
 
-mul-count : tie.Need-mul-count Inv-loop μ-loop
-mul-count c = let most = c .before .pre .jobs-most in omega arith
+origin-first : (p : Plan) → earliest p Origin ≡ pos 0
+unfolding earliest
+origin-first p = refl
 
-add-count-2 : tie.Need-add-count-2 Inv-loop μ-loop
-add-count-2 c = let most = c .before .pre .jobs-most in omega arith
+origin-last : (p : Plan) → latest p Origin ≡ pos 0
+unfolding latest
+origin-last p = refl
 
 loop-holds : tie.Need-loop-holds Inv-loop μ-loop
-loop-holds c = (omega arith, omega arith, filled-none (earliest (c .before .args .p)), filled-none (latest (c .before .args .p)))
+loop-holds c =
+    let p = c .before .args .p in
+    (omega arith, filled-origin (earliest p) (origin-first p), filled-origin (latest p) (origin-last p))
 
-of-requires : tie.Need-of-requires Inv-loop μ-loop
-of-requires c κs = tt
+job-at-requires : tie.Need-job-at-requires Inv-loop μ-loop
+job-at-requires c κs = (c .before .before .before .pre, omega arith)
 
-earliest-of-requires : tie.Need-earliest-of-requires Inv-loop μ-loop
-earliest-of-requires c κs =
-    let s = c .before .before .before .before in
-    let l = c .before .before .loop in
-    let size = l .inv .1 in
-    let node = ap nodeOf (c .of .ensures) ∙ nodeOf-eventOf (l .y) in
-    (s .pre, omega arith)
+shift-at-requires : tie.Need-shift-at-requires Inv-loop μ-loop
+shift-at-requires c κs = tt
+
+-- the numbers of the place
+place-in : (c : tie.After-shift-at Inv-loop μ-loop) → JobIn (c .before .job-at .result) (c .shift-at .result)
+place-in c =
+    let s = c .before .before .before .before .before in
+    subst₂ JobIn (sym (c .before .job-at .ensures)) (sym (c .shift-at .ensures)) (job-in (s .args .p) (s .pre) (c .before .before .before .loop .k) (omega arith))
+
+room : (c : tie.After-shift-at Inv-loop μ-loop) → c .before .before .before .loop .k < 18
+room c = let most = c .before .before .before .before .before .pre .jobs-most in omega arith
+
+add-first-start : tie.Need-add-first-start Inv-loop μ-loop
+add-first-start c =
+    let r = c .before .before in
+    let j = r .before .job-at .result in
+    let h = r .shift-at .result in
+    let i = place-in r in
+    total-fits (j .release) h (i .release) (i .later)
+
+add-first-finish : tie.Need-add-first-finish Inv-loop μ-loop
+add-first-finish c =
+    let r = c .before .before .before .before in
+    let j = r .before .job-at .result in
+    let h = r .shift-at .result in
+    let i = place-in r in
+    total-fits (j .release) (j .min) (i .release) (i .min)
+
+add-first-finish-2 : tie.Need-add-first-finish-2 Inv-loop μ-loop
+add-first-finish-2 c =
+    let r = c .before .before .before .before in
+    let j = r .before .job-at .result in
+    let h = r .shift-at .result in
+    let i = place-in r in
+    chain-fits _ (j .release +ℤ j .min) h (total-back (j .release) (j .min) (i .release) (i .min)) (i .first-finish) (i .later)
+
+sub-last-start : tie.Need-sub-last-start Inv-loop μ-loop
+sub-last-start c =
+    let r = c .before .before .before .before .before .before in
+    let j = r .before .job-at .result in
+    let h = r .shift-at .result in
+    let i = place-in r in
+    gap-fits (j .deadline) (j .max) (i .deadline) (i .max)
+
+add-last-start : tie.Need-add-last-start Inv-loop μ-loop
+add-last-start c =
+    let r = c .before .before .before .before .before .before in
+    let j = r .before .job-at .result in
+    let h = r .shift-at .result in
+    let i = place-in r in
+    chain-fits _ (j .deadline -ℤ j .max) h (gap-back (j .deadline) (j .max) (i .deadline) (i .max)) (i .last-start) (i .later)
+
+add-last-finish : tie.Need-add-last-finish Inv-loop μ-loop
+add-last-finish c =
+    let r = c .before .before .before .before .before .before .before .before in
+    let j = r .before .job-at .result in
+    let h = r .shift-at .result in
+    let i = place-in r in
+    total-fits (j .deadline) h (i .deadline) (i .later)
+
+mul-s : tie.Need-mul-s Inv-loop μ-loop
+mul-s c = let low = room (c .before .before .before .before .before .before .before .before) in omega arith
+
+add-s : tie.Need-add-s Inv-loop μ-loop
+add-s c = let low = room (c .before .before .before .before .before .before .before .before) in omega arith
+
+mul-f : tie.Need-mul-f Inv-loop μ-loop
+mul-f c = let low = room (c .before .before .before .before .before .before .before .before) in omega arith
+
+add-f : tie.Need-add-f Inv-loop μ-loop
+add-f c = let low = room (c .before .before .before .before .before .before .before .before) in omega arith
 
 mul-early : tie.Need-mul-early Inv-loop μ-loop
-mul-early c =
-    let l = c .before .before .before .loop in
-    let size = l .inv .1 in
-    let most = c .before .before .before .before .before .pre .jobs-most in
-    omega arith
+mul-early c = let low = room (c .before .before .before .before .before .before .before .before) in omega arith
 
 array-set-from-early : tie.Need-array-set-from-early Inv-loop μ-loop
-array-set-from-early c =
-    let l = c .before .before .before .loop in
-    let size = l .inv .1 in
-    let most = c .before .before .before .before .before .pre .jobs-most in
-    omega arith
+array-set-from-early c = let low = room (c .before .before .before .before .before .before .before .before) in omega arith
 
-of-requires-2 : tie.Need-of-requires-2 Inv-loop μ-loop
-of-requires-2 c κs = tt
+mul-early-2 : tie.Need-mul-early-2 Inv-loop μ-loop
+mul-early-2 c = let low = room (c .before .before .before .before .before .before .before .before) in omega arith
 
-latest-of-requires : tie.Need-latest-of-requires Inv-loop μ-loop
-latest-of-requires c κs =
-    let s = c .before .before .before .before .before .before in
-    let l = c .before .before .before .before .loop in
-    let size = l .inv .1 in
-    let node = ap nodeOf (c .of2 .ensures) ∙ nodeOf-eventOf (l .y) in
-    (s .pre, omega arith)
+array-set-from-early-2 : tie.Need-array-set-from-early-2 Inv-loop μ-loop
+array-set-from-early-2 c = let low = room (c .before .before .before .before .before .before .before .before) in omega arith
 
 mul-late : tie.Need-mul-late Inv-loop μ-loop
-mul-late c =
-    let l = c .before .before .before .before .before .loop in
-    let size = l .inv .1 in
-    let most = c .before .before .before .before .before .before .before .pre .jobs-most in
-    omega arith
+mul-late c = let low = room (c .before .before .before .before .before .before .before .before) in omega arith
 
 array-set-from-late : tie.Need-array-set-from-late Inv-loop μ-loop
-array-set-from-late c =
-    let l = c .before .before .before .before .before .loop in
-    let size = l .inv .1 in
-    let most = c .before .before .before .before .before .before .before .pre .jobs-most in
-    omega arith
+array-set-from-late c = let low = room (c .before .before .before .before .before .before .before .before) in omega arith
 
-add-y : tie.Need-add-y Inv-loop μ-loop
-add-y c =
-    let l = c .before .before .before .before .before .loop in
-    let size = l .inv .1 in
-    let most = c .before .before .before .before .before .before .before .pre .jobs-most in
-    omega arith
+mul-late-2 : tie.Need-mul-late-2 Inv-loop μ-loop
+mul-late-2 c = let low = room (c .before .before .before .before .before .before .before .before) in omega arith
+
+array-set-from-late-2 : tie.Need-array-set-from-late-2 Inv-loop μ-loop
+array-set-from-late-2 c = let low = room (c .before .before .before .before .before .before .before .before) in omega arith
+
+add-k : tie.Need-add-k Inv-loop μ-loop
+add-k c = let low = room (c .before .before .before .before .before .before .before .before) in omega arith
 
 loop-less : tie.Need-loop-less Inv-loop μ-loop
-loop-less c =
-    let l = c .before .before .before .before .before .loop in
-    let size = l .inv .1 in
-    let most = c .before .before .before .before .before .before .before .pre .jobs-most in
-    omega arith
+loop-less c = let low = room (c .before .before .before .before .before .before .before .before) in omega arith
 
 loop-again : tie.Need-loop-again Inv-loop μ-loop
+unfolding earliest latest
 loop-again c =
-    let s = c .before .before .before .before .before .before .before in
-    let l = c .before .before .before .before .before .loop in
-    let p = s .args .p in
-    let most = s .pre .jobs-most in
-    let size = l .inv .1 in
-    let e = c .before .before .earliest-of in
-    let t = c .latest-of in (
+    let r = c .before .before .before .before .before .before .before .before in
+    let l = c .before .before .before .before .before .before .before .before .before .before .before .loop in
+    let p = c .before .before .before .before .before .before .before .before .before .before .before .before .before .args .p in
+    let j = r .before .job-at .result in
+    let h = r .shift-at .result in
+    let i = place-in r in
+    let low = room r in
+    let job = r .before .job-at .ensures in
+    let later = r .shift-at .ensures in (
       omega arith,
-      size,
-      subst (λ a. Filled (earliest p) (l .y + 1) (set (l .early) (l .y) a)) (sym (toZ-ofZ (told-fits w32 (e .result) (e .ok))))
-          (filled-more (earliest p) (l .y) (l .early) (e .result) (omega arith) (e .ensures ∙ ap (earliest p) (c .before .before .before .of .ensures)) (l .inv .2)),
-      subst (λ a. Filled (latest p) (l .y + 1) (set (l .late) (l .y) a)) (sym (toZ-ofZ (told-fits w32 (t .result) (t .ok))))
-          (filled-more (latest p) (l .y) (l .late) (t .result) (omega arith) (t .ensures ∙ ap (latest p) (c .before .of2 .ensures)) (l .inv .3)),
+      filled-place (earliest p) (l .k) (l .early) _ _ (omega arith)
+          (total-back (j .release) h (i .release) (i .later) ∙ ap₂ (λ j h. j .release +ℤ h) job later)
+          (chain-back _ (j .release +ℤ j .min) h (total-back (j .release) (j .min) (i .release) (i .min)) (i .first-finish) (i .later)
+          ∙ ap₂ (λ j h. (j .release +ℤ j .min) +ℤ h) job later)
+          (l .inv .1),
+      filled-place (latest p) (l .k) (l .late) _ _ (omega arith)
+          (chain-back _ (j .deadline -ℤ j .max) h (gap-back (j .deadline) (j .max) (i .deadline) (i .max)) (i .last-start) (i .later)
+          ∙ ap₂ (λ j h. (j .deadline -ℤ j .max) +ℤ h) job later)
+          (total-back (j .deadline) h (i .deadline) (i .later) ∙ ap₂ (λ j h. j .deadline +ℤ h) job later)
+          (l .inv .2),
     )
 
 returns : tie.Need-returns Inv-loop μ-loop
@@ -117,8 +170,8 @@ returns c =
     let s = c .before .before .before in
     let l = c .before .loop in
     let p = s .args .p in
-    let all : l .y ≡ nodes (p .jobs + p .jobs) = let size = l .inv .1 in let most = l .inv .0 in omega arith in
-    filled-clocked p (s .pre) (l .early) (l .late) (subst (λ n. Filled (earliest p) n (l .early)) all (l .inv .2)) (subst (λ n. Filled (latest p) n (l .late)) all (l .inv .3))
+    let all : nodes (l .k) ≡ nodes (p .jobs + p .jobs) = let most = l .inv .0 in omega arith in
+    filled-clocked p (s .pre) (l .early) (l .late) (subst (λ n. Filled (earliest p) n (l .early)) all (l .inv .1)) (subst (λ n. Filled (latest p) n (l .late)) all (l .inv .2))
 
 pub times-of-spec : {M : Type 1} → statement M
 times-of-spec =
@@ -126,19 +179,29 @@ times-of-spec =
     (tie.spec
     Inv-loop
     μ-loop
-    add-count
-    mul-count
-    add-count-2
+    add-places
     loop-holds
-    of-requires
-    earliest-of-requires
+    job-at-requires
+    shift-at-requires
+    add-first-start
+    add-first-finish
+    add-first-finish-2
+    sub-last-start
+    add-last-start
+    add-last-finish
+    mul-s
+    add-s
+    mul-f
+    add-f
     mul-early
     array-set-from-early
-    of-requires-2
-    latest-of-requires
+    mul-early-2
+    array-set-from-early-2
     mul-late
     array-set-from-late
-    add-y
+    mul-late-2
+    array-set-from-late-2
+    add-k
     loop-less
     loop-again
     returns)
