@@ -9,7 +9,8 @@ use plan::Plan;
 ghost use mathlib.Core.Path.{_≡_};
 ghost use mathlib.Core.Bool.{_||_};
 ghost use mathlib.Core.List.{[], _∷_};
-ghost use Prim.Native.Nat.{_≤_};
+ghost use Prim.Native.Nat.{_≤_, _<_};
+ghost use Rattle.plan.specs.declared.Plan.{Plan};
 ghost use Rattle.plan.specs.EventNames.{isNext};
 ghost use Rattle.plan.specs.PlanWritten.{boundsOf};
 ghost use Rattle.plan.specs.Accepted.{BoundAccepted};
@@ -19,25 +20,27 @@ ghost use Rattle.bounds.specs.Fit.{Clocked};
 ghost use Rattle.rounds.specs.Given.{placeOf, named, meant, givenBounds};
 
 // The place of job i of this window or of the next.
-fn place_of(p: Plan, letter: Letter, i: usize) -> usize
-    requires { ⌜ (1 ≤ i) × (i ≤ 9) × (p .jobs ≤ 9) ⌝ }
-    ensures { λ r. ⌜ r ≡ placeOf p letter i ⌝ }
+fn place_of(jobs: usize, letter: Letter, i: usize) -> usize
+    requires { ⌜ (1 ≤ i) × (i ≤ 9) × (jobs ≤ 9) ⌝ }
+    ensures { λ r. ⌜ ((p : Plan) → jobs ≡ p .jobs → r ≡ placeOf p letter i) ⌝ }
+    ensures { λ r. ⌜ r < 18 ⌝ }
 {
     match letter {
         Letter::This => i - 1,
-        Letter::Next => p.jobs + (i - 1),
+        Letter::Next => jobs + (i - 1),
     }
 }
 
-// The node of the event that a name means.
-pub fn node_of(p: Plan, e: EventName) -> usize
-    requires { ⌜ (1 ≤ e .job) × (e .job ≤ 9) × (p .jobs ≤ 9) ⌝ }
-    ensures { λ r. ⌜ r ≡ nodeOf (named p e) ⌝ }
+// The node of the event that a name means, with so many jobs.
+fn node_of(jobs: usize, e: EventName) -> usize
+    requires { ⌜ (1 ≤ e .job) × (e .job ≤ 9) × (jobs ≤ 9) ⌝ }
+    ensures { λ r. ⌜ ((p : Plan) → jobs ≡ p .jobs → r ≡ nodeOf (named p e)) ⌝ }
+    ensures { λ r. ⌜ r < 37 ⌝ }
 {
     let letter = e.letter;
     let kind = e.kind;
     let i = e.job as usize;
-    let k = place_of(p, letter, i);
+    let k = place_of(jobs, letter, i);
     match kind {
         Kind::Start => 1 + 2 * k,
         Kind::Finish => 2 + 2 * k,
@@ -49,17 +52,17 @@ fn put_bound<'a>(
     weights: &mut [i32; Table::SIZE],
     early: &'a [i32; Table::SIDE],
     late: &'a [i32; Table::SIDE],
-    p: Plan,
+    jobs: usize,
     d: Bound,
 ) -> bool
-    requires { ⌜ (AllTimed (now early) (now late)) × (p .jobs ≤ 9) × (BoundAccepted (p .jobs) d) ⌝ }
-    ensures { λ r. ⌜ flat r (now (weights .exit)) ≡ putBounds (now (early .entry)) (now (late .entry)) (meant p d ∷ []) (now (weights .entry)) ⌝ }
+    requires { ⌜ (AllTimed (now early) (now late)) × (jobs ≤ 9) × (BoundAccepted jobs d) ⌝ }
+    ensures { λ r. ⌜ ((p : Plan) → jobs ≡ p .jobs → flat r (now (weights .exit)) ≡ putBounds (now (early .entry)) (now (late .entry)) (meant p d ∷ []) (now (weights .entry))) ⌝ }
 {
     let a = d.a;
     let b = d.b;
     let c = d.c;
-    let y = node_of(p, b);
-    let z = node_of(p, a);
+    let y = node_of(jobs, b);
+    let z = node_of(jobs, a);
     put(weights, early, late, y, z, c, 0)
 }
 
@@ -81,12 +84,12 @@ fn put_due<'a>(
     weights: &mut [i32; Table::SIZE],
     early: &'a [i32; Table::SIDE],
     late: &'a [i32; Table::SIDE],
-    p: Plan,
+    jobs: usize,
     d: Bound,
     between: bool,
 ) -> bool
-    requires { ⌜ (AllTimed (now early) (now late)) × (p .jobs ≤ 9) × (BoundAccepted (p .jobs) d) ⌝ }
-    ensures { λ r. ⌜ flat r (now (weights .exit)) ≡ putBounds (now (early .entry)) (now (late .entry)) (givenBounds p between (d ∷ [])) (now (weights .entry)) ⌝ }
+    requires { ⌜ (AllTimed (now early) (now late)) × (jobs ≤ 9) × (BoundAccepted jobs d) ⌝ }
+    ensures { λ r. ⌜ ((p : Plan) → jobs ≡ p .jobs → flat r (now (weights .exit)) ≡ putBounds (now (early .entry)) (now (late .entry)) (givenBounds p between (d ∷ [])) (now (weights .entry))) ⌝ }
 {
     let a = d.a;
     let b = d.b;
@@ -95,7 +98,7 @@ fn put_due<'a>(
     if one_next(first, second) != between {
         return false;
     }
-    put_bound(weights, early, late, p, d)
+    put_bound(weights, early, late, jobs, d)
 }
 
 // 'all given bounds with an n event', or 'all given bounds with two t events'.
@@ -109,11 +112,12 @@ pub fn put_given<'a>(
     requires { ⌜ Clocked p (now early) (now late) ⌝ }
     ensures { λ r. ⌜ flat r (now (weights .exit)) ≡ putBounds (now (early .entry)) (now (late .entry)) (givenBounds p between (boundsOf p)) (now (weights .entry)) ⌝ }
 {
+    let jobs = p.jobs;
     let count = p.bounds;
     let mut i = 0;
     while i < count {
         let d = p.bound[i];
-        if put_due(weights, early, late, p, d, between) {
+        if put_due(weights, early, late, jobs, d, between) {
             return true;
         }
         i += 1;

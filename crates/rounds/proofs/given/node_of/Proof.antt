@@ -1,6 +1,6 @@
 -- `rounds::given::node_of` meets its contract: each arm knows the kind.
 use native.Mathlib.Omega.{arith}
-use Rattle.rounds.specs.GivenLaws.{placeOf-small, named-start, named-finish}
+use Rattle.rounds.specs.GivenLaws.{named-start, named-finish}
 use borrow.Author.Needs.{needs}
 use Rattle.rounds.proofs.given.node_of.Statement.{statement}
 use Rattle.rounds.proofs.given.node_of.Tie as tie
@@ -16,40 +16,40 @@ enum-told c = search needs
 
 mul-result : tie.Need-mul-result
 mul-result c =
-    let s = c .before .before .before .before in
-    let place = c .before .before .place-of .ensures in
-    omega (arith, placeOf-small (s .args .p) (s .args .e .letter) (s .args .e .job) (s .pre .0) (s .pre .1) (s .pre .2))
+    let small = c .before .before .place-of .ensures .1 in
+    omega arith
 
 add-result : tie.Need-add-result
 add-result c =
-    let s = c .before .before .before .before in
-    let place = c .before .before .place-of .ensures in
-    omega (arith, placeOf-small (s .args .p) (s .args .e .letter) (s .args .e .job) (s .pre .0) (s .pre .1) (s .pre .2))
+    let small = c .before .before .place-of .ensures .1 in
+    omega arith
 
 enum-told-2 : tie.Need-enum-told-2
 enum-told-2 c = search needs
 
 mul-result-2 : tie.Need-mul-result-2
 mul-result-2 c =
-    let s = c .before .before .before .before in
-    let place = c .before .before .place-of .ensures in
-    omega (arith, placeOf-small (s .args .p) (s .args .e .letter) (s .args .e .job) (s .pre .0) (s .pre .1) (s .pre .2))
+    let small = c .before .before .place-of .ensures .1 in
+    omega arith
 
 add-result-2 : tie.Need-add-result-2
 add-result-2 c =
-    let s = c .before .before .before .before in
-    let place = c .before .before .place-of .ensures in
-    omega (arith, placeOf-small (s .args .p) (s .args .e .letter) (s .args .e .job) (s .pre .0) (s .pre .1) (s .pre .2))
+    let small = c .before .before .place-of .ensures .1 in
+    omega arith
 
 returns : tie.Need-returns
 returns c =
     let a = c .before .before .before .before .args in
-    named-start (a .p) (a .e) (c .before .before .place-of .result) (c .enum-told .given .1) (c .before .before .place-of .ensures)
+    let k = c .before .before .place-of in
+    let small = k .ensures .1 in
+    (λ p same. named-start p (a .e) (k .result) (c .enum-told .given .1) (k .ensures .0 p same), omega arith)
 
 returns-2 : tie.Need-returns-2
 returns-2 c =
     let a = c .before .before .before .before .args in
-    named-finish (a .p) (a .e) (c .before .before .place-of .result) (c .enum-told2 .given .1) (c .before .before .place-of .ensures)
+    let k = c .before .before .place-of in
+    let small = k .ensures .1 in
+    (λ p same. named-finish p (a .e) (k .result) (c .enum-told2 .given .1) (k .ensures .0 p same), omega arith)
 
 pub node-of-spec : {M : Type 1} → statement M
 node-of-spec =

@@ -1,5 +1,7 @@
 -- `rounds::given::place_of` meets its contract: each arm knows the letter.
-use mathlib.Core.Path.{sym, ap}
+use Prim.Native.Nat.{_+_, _-_}
+use mathlib.Core.Path.{sym, ap, _∙_}
+use native.Mathlib.Omega.{arith}
 use Rattle.rounds.specs.Given.{placeOf}
 use borrow.Author.Needs.{needs}
 use Rattle.rounds.proofs.given.place_of.Statement.{statement}
@@ -21,10 +23,19 @@ add-result : tie.Need-add-result
 add-result c = search needs
 
 returns : tie.Need-returns
-returns c = let a = c .before .before .args in sym (ap (λ l. placeOf (a .p) l (a .i)) (c .enum-told .given .1))
+returns c =
+    let s = c .before .before in
+    let a = s .args in
+    let low = s .pre .1 in
+    (λ p e. sym (ap (λ l. placeOf p l (a .i)) (c .enum-told .given .1)), omega arith)
 
 returns-2 : tie.Need-returns-2
-returns-2 c = let a = c .before .before .before .args in sym (ap (λ l. placeOf (a .p) l (a .i)) (c .before .enum-told2 .given .1))
+returns-2 c =
+    let s = c .before .before in
+    let a = s .args in
+    let low = s .pre .1 in
+    let few = s .pre .2 in
+    (λ p e. ap (λ n. n + (a .i - 1)) e ∙ sym (ap (λ l. placeOf p l (a .i)) (c .enum-told2 .given .1)), omega arith)
 
 pub place-of-spec : {M : Type 1} → statement M
 place-of-spec =

@@ -10,7 +10,6 @@ use Rattle.whole.specs.Rules.{wholes}
 use Rattle.plan.specs.declared.Bound.{Bound}
 use Rattle.plan.specs.Accepted.{BoundAccepted}
 use Rattle.bounds.specs.Flat.{putAt}
-use Rattle.rounds.specs.NamedLaws.{named-both}
 use Rattle.rounds.specs.PutGivenLaws.{meant-is}
 use borrow.Author.Needs.{needs}
 use Rattle.rounds.proofs.given.put_bound.Statement.{statement}
@@ -31,16 +30,11 @@ node-of-requires-2 c κs = search needs
 put-requires : tie.Need-put-requires
 put-requires c κs =
     let s = c .before .before .before .before .before .before in
-    let p = s .args .p in
-    let d = s .args .d in
     let ok = s .pre .2 in
-    let few = s .pre .1 in
-    let from = named-both p (d .b) (ok .b-least) (ok .b-most) in
-    let to = named-both p (d .a) (ok .a-least) (ok .a-most) in
-    let y = c .before .before .node-of .ensures in
-    let z = c .before .node-of2 .ensures in (
-      s .pre .0 _ (omega arith),
-      s .pre .0 _ (omega arith),
+    let y = c .before .before .node-of .ensures .1 in
+    let z = c .before .node-of2 .ensures .1 in (
+      s .pre .0 _ y,
+      s .pre .0 _ z,
       λ e. subst (λ v. SFits w32 (v +ℤ pos 0)) (sym (toZ-ofZ (c-fits ok))) (c-sum-fits ok),
     )
 
@@ -50,9 +44,10 @@ returns c =
     let a = s .args in
     let y = c .before .before .before .node-of in
     let z = c .before .before .node-of2 in
+    λ p same.
     c .put .ensures
     ∙ ap (λ v. putAt (a .early .now) (a .late .now) (y .result) (z .result) v (pos 0) (a .weights .now)) (toZ-ofZ (c-fits (s .pre .2)))
-    ∙ meant-is (a .p) (a .early .now) (a .late .now) (a .d) (y .result) (z .result) (a .weights .now) (y .ensures) (z .ensures)
+    ∙ meant-is p (a .early .now) (a .late .now) (a .d) (y .result) (z .result) (a .weights .now) (y .ensures .0 p same) (z .ensures .0 p same)
 
 pub put-bound-spec : {M : Type 1} → statement M
 put-bound-spec = tie.close (tie.spec node-of-requires node-of-requires-2 put-requires returns)

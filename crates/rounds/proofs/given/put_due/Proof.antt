@@ -14,9 +14,10 @@ one-next-requires c κs = search needs
 returns : tie.Need-returns
 returns c =
     let a = c .before .before .before .before .args in
+    λ p same.
     sym
     (ap (λ bs. putBounds (a .early .now) (a .late .now) bs (a .weights .now))
-    (given-other (a .p) (a .d) (a .between) (c .before .one-next .result) (sym (c .before .one-next .ensures)) (not-true _ (c .if1 .taken)))
+    (given-other p (a .d) (a .between) (c .before .one-next .result) (sym (c .before .one-next .ensures)) (not-true _ (c .if1 .taken)))
     ∙ putBounds-none (a .early .now) (a .late .now) (a .weights .now))
 
 put-bound-requires : tie.Need-put-bound-requires
@@ -26,9 +27,10 @@ returns-2 : tie.Need-returns-2
 returns-2 c =
     let a = c .before .before .before .before .before .before .args in
     let r = c .before .before .before .one-next in
-    c .put-bound .ensures
+    λ p same.
+    c .put-bound .ensures p same
     ∙ ap (λ bs. putBounds (a .early .now) (a .late .now) bs (a .weights .now))
-    (sym (given-due (a .p) (a .d) (a .between) (r .result) (sym (r .ensures)) (not-false _ (c .before .before .if1 .left))))
+    (sym (given-due p (a .d) (a .between) (r .result) (sym (r .ensures)) (not-false _ (c .before .before .if1 .left))))
 
 pub put-due-spec : {M : Type 1} → statement M
 put-due-spec = tie.close (tie.spec one-next-requires returns put-bound-requires returns-2)

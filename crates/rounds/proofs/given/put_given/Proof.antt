@@ -14,11 +14,11 @@ use Rattle.rounds.proofs.given.put_given.Statement.{statement}
 use Rattle.rounds.proofs.given.put_given.Tie as tie
 
 abbrev Inv-loop : tie.InvT-loop
-Inv-loop weights₀ early late between p count i₀ weights i =
+Inv-loop weights₀ early late between p jobs count i₀ weights i =
     putBounds early late (givenBounds p between (boundsOf p)) weights₀ ≡ putBounds early late (givenBounds p between (drop i (boundsOf p))) weights
 
 abbrev μ-loop : tie.MeasureT-loop
-μ-loop weights₀ early late between p count i₀ weights i = count - i
+μ-loop weights₀ early late between p jobs count i₀ weights i = count - i
 
 loop-holds : tie.Need-loop-holds Inv-loop μ-loop
 loop-holds c = refl
@@ -50,7 +50,7 @@ returns c =
     (l .weights)
     (r .result)
     (r .last .0)
-    (r .ensures)
+    (r .ensures (a .t4) refl)
     (c .if1 .taken)
     ∙ sym
     (l .inv
@@ -78,7 +78,7 @@ loop-again c =
     (l .weights)
     (r .result)
     (r .last .0)
-    (r .ensures)
+    (r .ensures (a .t4) refl)
     (c .if1 .left))
 
 returns-2 : tie.Need-returns-2 Inv-loop μ-loop
