@@ -48,8 +48,8 @@ pub enum Phase {
 // A run: its phase, and the times seen of the previous and of the present window. Without a previous window its places are no part of the
 // run, and neither are those of jobs that the present window has not finished.
 pub struct Run {
-    pub phase: Phase,
     pub has_previous: bool,
+    pub phase: Phase,
     pub previous: [Probe; MOST_JOBS],
     pub present: [Probe; MOST_JOBS],
 }
