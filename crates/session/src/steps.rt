@@ -60,11 +60,11 @@ pub fn put_answers(
                 };
                 let got = runs::step_due(d, &least, &most, run, st);
                 let answer = got.answer;
+                run = got.run;
                 end = put_answer(out, end, answer);
                 if ends_session(answer) {
                     return end;
                 }
-                run = got.run;
                 place = next;
                 number += 1;
             }

@@ -118,24 +118,24 @@ module _ (c : tie.After-step-due Inv-loop μ-loop) where
 
 put-answer-requires : tie.Need-put-answer-requires Inv-loop μ-loop
 put-answer-requires c κs = (
-  omega (arith, c .before .before .before .before .before .before .before .before .before .before .before .before .before .loop .inv .near, c .before .before .before .before .before .before .before .before .before .before .before .before .before .loop .inv .placed, c .before .before .before .before .before .before .before .before .before .before .before .before .before .before .before .before .before .before .pre),
-  answer-job (c .before),
+  omega (arith, c .before .before .before .before .before .before .before .before .before .before .before .before .before .before .loop .inv .near, c .before .before .before .before .before .before .before .before .before .before .before .before .before .before .loop .inv .placed, c .before .before .before .before .before .before .before .before .before .before .before .before .before .before .before .before .before .before .before .pre),
+  answer-job (c .before .before),
 )
 
 ends-session-requires : tie.Need-ends-session-requires Inv-loop μ-loop
 ends-session-requires c κs = search needs
 
 same-length-2 : tie.Need-same-length-2 Inv-loop μ-loop
-same-length-2 c = c .before .before .before .before .put-answer .kept .0 ∙ c .before .before .before .before .before .before .before .before .before .before .before .before .before .before .before .before .before .before .loop .inv .same
+same-length-2 c = c .before .before .before .before .put-answer .kept .0 ∙ c .before .before .before .before .before .before .before .before .before .before .before .before .before .before .before .before .before .before .before .loop .inv .same
 
 returns-2 : tie.Need-returns-2 Inv-loop μ-loop
 returns-2 c =
-    let s = c .before .before .before .before .before .before in
+    let s = c .before .before .before .before .before .before .before in
     let l = s .before .before .before .before .before .before .before .before .before .before .before .before in
-    let a = c .before .before .before .before .before .before .before .before .before .before .before .before .before .before .before .before .before .before .before .before .before .before .before .args in
+    let a = c .before .before .before .before .before .before .before .before .before .before .before .before .before .before .before .before .before .before .before .before .before .before .before .before .args in
     let d =
     going-last (a .t4) (a .t5) (now (a .text)) (now (a .out)) (a .from) (a .line) (a .at) (a .run) (l .loop .out) (l .loop .run) (l .loop .place) (l .loop .number) (l .loop .end) (l .loop .inv)
-    (c .before .before .before .before .before .before .before .before .before .before .before .before .before .before .before .before .before .loop-test .taken) _ _ (c .before .before .before .before .put-answer .ensures .1) _ (s .before .before .before .before .before .before .before .before .read2 .given .0 .1 .0) (s .step-due .result) (step-read s) (stepped-there s) (c .before .before .before .before .put-answer .ensures .0) (sym (c .before .ends-session .ensures) ∙ c .if1 .taken) in
+    (c .before .before .before .before .before .before .before .before .before .before .before .before .before .before .before .before .before .before .loop-test .taken) _ _ (c .before .before .before .before .put-answer .ensures .1) _ (s .before .before .before .before .before .before .before .before .read2 .given .0 .1 .0) (s .step-due .result) (step-read s) (stepped-there s) (c .before .before .before .before .put-answer .ensures .0) (sym (c .before .ends-session .ensures) ∙ c .if1 .taken) in
     (d .stored, d .short)
 
 add-number : tie.Need-add-number Inv-loop μ-loop
@@ -150,7 +150,7 @@ loop-again c =
     let l = s .before .before .before .before .before .before .before .before .before .before .before .before in
     let a = c .before .before .before .before .before .before .before .before .before .before .before .before .before .before .before .before .before .before .before .before .before .before .before .before .args in
     going-more (a .t4) (a .t5) (now (a .text)) (now (a .out)) (a .from) (a .line) (a .at) (a .run) (l .loop .out) (l .loop .run) (l .loop .place) (l .loop .number) (l .loop .end) (l .loop .inv)
-    (c .before .before .before .before .before .before .before .before .before .before .before .before .before .before .before .before .before .before .loop-test .taken) _ _ (c .before .before .before .before .before .put-answer .ensures .1) _ (s .before .before .before .before .before .before .before .before .read2 .given .0 .1 .0) (s .step-due .result) (step-read s) (stepped-there s) (c .before .before .before .before .before .put-answer .ensures .0) (sym (c .before .before .ends-session .ensures) ∙ c .before .if1 .left)
+    (c .before .before .before .before .before .before .before .before .before .before .before .before .before .before .before .before .before .before .loop-test .taken) _ _ (c .before .before .before .before .put-answer .ensures .1) _ (s .before .before .before .before .before .before .before .before .read2 .given .0 .1 .0) (s .step-due .result) (step-read s) (stepped-there s) (c .before .before .before .before .put-answer .ensures .0) (sym (c .before .ends-session .ensures) ∙ c .if1 .left)
     (c .before .before .before .before .before .before .before .before .before .before .before .before .before .before .before .read2 .given .1) (c .before .before .before .before .before .before .before .before .before .before .before .before .before .before .before .before .before .read-step-at .ensures .1)
 
 same-length-3 : tie.Need-same-length-3 Inv-loop μ-loop
