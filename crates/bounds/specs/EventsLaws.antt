@@ -33,14 +33,6 @@ eventOf-even (suc m) d e = simp (suc-less m, ne-eqb (m % 2) 0 (λ h. e (ap (λ x
 
 -- ---- an event's node
 
-pub nodeOf-start : (k : ℕ) → nodeOf (Start k) ≡ startNode k
-unfolding nodeOf
-nodeOf-start k = refl
-
-pub nodeOf-finish : (k : ℕ) → nodeOf (Finish k) ≡ finishNode k
-unfolding nodeOf
-nodeOf-finish k = refl
-
 pub nodeOf-eventOf : (y : ℕ) → nodeOf (eventOf y) ≡ y
 unfolding eventOf nodeOf
 nodeOf-eventOf =
