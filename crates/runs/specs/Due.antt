@@ -48,8 +48,8 @@ pub record OfferInside (d : Due) (cs ds : List ℤ) (r : Run) (j i : ℕ) : Type
   pub jobs-most : d .jobs ≤ mostJobs
   pub job-least : 1 ≤ i
   pub job-most : i ≤ d .jobs
-  pub lower : EndFits (d .jobs) (i - 1) r (d .terms .below .0) cs
-  pub upper : EndFits (d .jobs) (i - 1) r (d .terms .above .0) ds
+  pub lower : EndFits (d .jobs) (i - 1) (r .«has_previous») (r .previous) (r .present) (d .terms .below .0) cs
+  pub upper : EndFits (d .jobs) (i - 1) (r .«has_previous») (r .previous) (r .present) (d .terms .above .0) ds
 
 -- of the finish of job i in window j, which runs since t
 pub record FinishInside (d : Due) (j i : ℕ) (t : RunTime) : Type 0 where

@@ -39,8 +39,8 @@ use Rattle.runs.specs.Due.{duePlan, dueCalendar, dueOf}
 offer-terms : Due → Terms → List ℤ → List ℤ → Run → ℕ → ℕ → Offer
 offer-terms d t cs ds r j i =
     record {
-      from = record { 0 = endOf greater (d .jobs) (i - 1) r (t .below .0) cs ((i - 1) * mostEvents) (onRun (d .window) j (t .low) .0) };
-      to = record { 0 = endOf lesser (d .jobs) (i - 1) r (t .above .0) ds ((i - 1) * mostEvents) (onRun (d .window) j (t .high) .0) };
+      from = record { 0 = endOf greater (d .jobs) (i - 1) (r .«has_previous») (r .previous) (r .present) (t .below .0) cs ((i - 1) * mostEvents) (onRun (d .window) j (t .low) .0) };
+      to = record { 0 = endOf lesser (d .jobs) (i - 1) (r .«has_previous») (r .previous) (r .present) (t .above .0) ds ((i - 1) * mostEvents) (onRun (d .window) j (t .high) .0) };
     }
 
 offer-is : (d : Due) (cs ds : List ℤ) (r : Run) (j i : ℕ) (t : Terms) → getD (replicate mostJobs (d .terms)) (i - 1) noTerms ≡ t
@@ -51,8 +51,8 @@ offer-is d cs ds r j i t e =
 
 module _ (d : Due) (cs ds : List ℤ) (r : Run) (j i : ℕ) (h : i ≤ mostJobs) where
   pub offerOf-due : (from to : RunTime)
-      → from .0 ≡ endOf (pickOf false) (d .jobs) (i - 1) r (d .terms .below .0) cs ((i - 1) * mostEvents) (onRun (d .window) j (d .terms .low) .0)
-      → to .0 ≡ endOf (pickOf true) (d .jobs) (i - 1) r (d .terms .above .0) ds ((i - 1) * mostEvents) (onRun (d .window) j (d .terms .high) .0)
+      → from .0 ≡ endOf (pickOf false) (d .jobs) (i - 1) (r .«has_previous») (r .previous) (r .present) (d .terms .below .0) cs ((i - 1) * mostEvents) (onRun (d .window) j (d .terms .low) .0)
+      → to .0 ≡ endOf (pickOf true) (d .jobs) (i - 1) (r .«has_previous») (r .previous) (r .present) (d .terms .above .0) ds ((i - 1) * mostEvents) (onRun (d .window) j (d .terms .high) .0)
       → record { from = from; to = to } ≡ offerOf (duePlan d) (dueCalendar d cs ds) r j i
   unfolding offer-terms
   offerOf-due from to p q =

@@ -180,17 +180,17 @@ module _ (pick : ℤ → ℤ → ℤ) (p : Plan) (r : Run) (set : ℕ) (cs : Lis
       no-previous-part y (2 * p .jobs) (2 * i) end 0 (omega arith)
       ∙ rw (zero-add) (present-whole (2 * i) _)
 
-  pub endOf-is : (i : ℕ) (end : ℤ) → endFrom pick p r set cs row end 0 (eventsBefore p i) ≡ endOf pick (p .jobs) i r set cs row end
+  pub endOf-is : (i : ℕ) (end : ℤ) → endFrom pick p r set cs row end 0 (eventsBefore p i) ≡ endOf pick (p .jobs) i (r .«has_previous») (r .previous) (r .present) set cs row end
   unfolding endOf
   endOf-is i end = rw (mul-add) (end-by i end (r .«has_previous») refl)
 
-module _ (pick : ℤ → ℤ → ℤ) (jobs i : ℕ) (r : Run) (set : ℕ) (cs : List ℤ) (row : ℕ) (end : ℤ) where
-  pub endOf-later : r .«has_previous» ≡ true → (far : ℤ) → far ≡ endIn pick (r .previous) set cs row end 0 (2 * jobs)
-      → endIn pick (r .present) (set / 2 ^ (2 * jobs)) cs (row + 2 * jobs) far 0 (2 * i) ≡ endOf pick jobs i r set cs row end
+module _ (pick : ℤ → ℤ → ℤ) (jobs i : ℕ) (has : Bool) (ps qs : List Probe) (set : ℕ) (cs : List ℤ) (row : ℕ) (end : ℤ) where
+  pub endOf-later : has ≡ true → (far : ℤ) → far ≡ endIn pick ps set cs row end 0 (2 * jobs)
+      → endIn pick qs (set / 2 ^ (2 * jobs)) cs (row + 2 * jobs) far 0 (2 * i) ≡ endOf pick jobs i has ps qs set cs row end
   unfolding endOf
   endOf-later y far e = rw (y, e)
 
-  pub endOf-first : r .«has_previous» ≡ false
-      → endIn pick (r .present) (set / 2 ^ (2 * jobs)) cs (row + 2 * jobs) end 0 (2 * i) ≡ endOf pick jobs i r set cs row end
+  pub endOf-first : has ≡ false
+      → endIn pick qs (set / 2 ^ (2 * jobs)) cs (row + 2 * jobs) end 0 (2 * i) ≡ endOf pick jobs i has ps qs set cs row end
   unfolding endOf
   endOf-first y = rw (y)

@@ -13,7 +13,6 @@ use Rattle.clock.specs.declared.RunTime.{RunTime}
 use Rattle.calendars.specs.Bits.{hasEvent}
 use Rattle.calendars.specs.Calendars.{mostEvents}
 use Rattle.runs.specs.declared.Probe.{Probe}
-use Rattle.runs.specs.declared.Run.{Run}
 use Rattle.runs.specs.Offers.{timeIn, greater, lesser}
 
 -- the upper end is the least of its terms, the lower end the greatest
@@ -38,16 +37,16 @@ endIn pick qs set cs at end e (suc count) =
     let now = cond (hasEvent 0 set) (pick end (termIn qs cs at e)) end in endIn pick qs (set / 2) cs at now (suc e) count
 
 -- the previous window's terms, where there is one, and then those of the present window's first i jobs
-unfoldable pub endOf : (ℤ → ℤ → ℤ) → ℕ → ℕ → Run → ℕ → List ℤ → ℕ → ℤ → ℤ
-endOf pick jobs i r set cs row end =
-    let far = cond (r .«has_previous») (endIn pick (r .previous) set cs row end 0 (2 * jobs)) end in
-    endIn pick (r .present) (set / 2 ^ (2 * jobs)) cs (row + 2 * jobs) far 0 (2 * i)
+unfoldable pub endOf : (ℤ → ℤ → ℤ) → ℕ → ℕ → Bool → List Probe → List Probe → ℕ → List ℤ → ℕ → ℤ → ℤ
+endOf pick jobs i has previous present set cs row end =
+    let far = cond has (endIn pick previous set cs row end 0 (2 * jobs)) end in
+    endIn pick present (set / 2 ^ (2 * jobs)) cs (row + 2 * jobs) far 0 (2 * i)
 
 -- every term that an end looks at fits an i64; the first bit of the set is event e's
 pub record TermsFit (qs : List Probe) (set : ℕ) (cs : List ℤ) (at e count : ℕ) : Type 0 where
   pub fit : (k : ℕ) → k < count → hasEvent k set ≡ true → SFits w64 (termIn qs cs at (e + k))
 
 -- every term of both windows that an end of the job at place i looks at, where the set is that of the job
-pub record EndFits (jobs i : ℕ) (r : Run) (set : ℕ) (cs : List ℤ) : Type 0 where
-  pub previous : r .«has_previous» ≡ true → TermsFit (r .previous) set cs (i * mostEvents) 0 (2 * jobs)
-  pub present : TermsFit (r .present) (set / 2 ^ (2 * jobs)) cs (i * mostEvents + 2 * jobs) 0 (2 * i)
+pub record EndFits (jobs i : ℕ) (has : Bool) (ps qs : List Probe) (set : ℕ) (cs : List ℤ) : Type 0 where
+  pub previous : has ≡ true → TermsFit ps set cs (i * mostEvents) 0 (2 * jobs)
+  pub present : TermsFit qs (set / 2 ^ (2 * jobs)) cs (i * mostEvents + 2 * jobs) 0 (2 * i)

@@ -120,7 +120,7 @@ side-named p i set cs e =
 
 module _ (p : Plan) (r : Run) (i set : ℕ) (cs : List ℤ) (h : Named set cs (i * mostEvents) (eventsBefore p i)) where
   end-fits : (r .«has_previous» ≡ true → areTimes (take (p .jobs) (r .previous)) ≡ true) → areTimes (take i (r .present)) ≡ true
-      → EndFits (p .jobs) i r set cs
+      → EndFits (p .jobs) i (r .«has_previous») (r .previous) (r .present) set cs
   end-fits y z =
       record {
         previous = λ e. terms-fit (r .previous) (p .jobs) set cs (i * mostEvents) (y e) (record { near = λ k l m. h .near k (omega arith) m });
@@ -223,9 +223,9 @@ module _ (p : Plan) (c : Calendar) (r : Run) (h : Inside p c r) where
   offer-inside j i e t =
       let at : place ≡ i - 1 = ap (λ (k : ℕ). k - 1) e in
       let inside = terms-inside p place _ (c .«at_least») (c .«at_most») (calendar-terms p c (h .calendar) place (omega arith)) in
-      let ends : (set : ℕ) (cs : List ℤ) → Named set cs (place * mostEvents) (eventsBefore p place) → EndFits (p .jobs) (i - 1) r set cs =
+      let ends : (set : ℕ) (cs : List ℤ) → Named set cs (place * mostEvents) (eventsBefore p place) → EndFits (p .jobs) (i - 1) (r .«has_previous») (r .previous) (r .present) set cs =
       λ set cs n.
-      subst (λ (k : ℕ). EndFits (p .jobs) k r set cs) at (end-fits p r place set cs n (run-previous p r (h .run)) (run-present p r (h .run))) in
+      subst (λ (k : ℕ). EndFits (p .jobs) k (r .«has_previous») (r .previous) (r .present) set cs) at (end-fits p r place set cs n (run-previous p r (h .run)) (run-present p r (h .run))) in
       let a = h .plan in
       record {
         spanned = record { least = omega whole; greatest = omega whole; first = t .window-least; last = omega arith };

@@ -2,7 +2,6 @@
 
 use crate::MOST_TERMS;
 use crate::Probe;
-use crate::Run;
 use calendars::MOST_EVENTS;
 use clock::RunTime;
 use plan::MOST_JOBS;
@@ -82,24 +81,24 @@ pub fn end_of(
     upper: bool,
     jobs: usize,
     i: usize,
-    run: Run,
+    has_previous: bool,
+    previous: [Probe; MOST_JOBS],
+    present: [Probe; MOST_JOBS],
     set: u64,
     cs: &[i32; MOST_TERMS],
     end: RunTime,
 ) -> RunTime
     requires { ⌜ jobs ≤ 9 ⌝ }
     requires { ⌜ i < 9 ⌝ }
-    requires { ⌜ EndFits jobs i run set (now cs) ⌝ }
-    ensures { λ r. ⌜ r .0 ≡ endOf (pickOf upper) jobs i run set (now (cs .entry)) (i * mostEvents) (end .0) ⌝ }
+    requires { ⌜ EndFits jobs i «has_previous» previous present set (now cs) ⌝ }
+    ensures { λ r. ⌜ r .0 ≡ endOf (pickOf upper) jobs i «has_previous» previous present set (now (cs .entry)) (i * mostEvents) (end .0) ⌝ }
 {
     let own = 2 * jobs;
     let before = 2 * i;
     let row = i * MOST_EVENTS;
     let next = row + own;
     let rest = set >> own;
-    let present = run.present;
-    if run.has_previous {
-        let previous = run.previous;
+    if has_previous {
         let far = end_in(upper, previous, set, cs, row, end, own);
         return end_in(upper, present, rest, cs, next, far, before);
     }

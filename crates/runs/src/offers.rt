@@ -32,10 +32,33 @@ pub fn offer_of(
     let below = terms.below;
     let above = terms.above;
     let place = i - 1;
+    let has_previous = run.has_previous;
+    let previous = run.previous;
+    let present = run.present;
     let earliest = clock::on_run(window, j, low);
     let latest = clock::on_run(window, j, high);
-    let from = end_of(false, jobs, place, run, below.0, least, earliest);
-    let to = end_of(true, jobs, place, run, above.0, most, latest);
+    let from = end_of(
+        false,
+        jobs,
+        place,
+        has_previous,
+        previous,
+        present,
+        below.0,
+        least,
+        earliest,
+    );
+    let to = end_of(
+        true,
+        jobs,
+        place,
+        has_previous,
+        previous,
+        present,
+        above.0,
+        most,
+        latest,
+    );
     Offer { from: from, to: to }
 }
 

@@ -26,26 +26,26 @@ shr-rest : tie.Need-shr-rest
 shr-rest c = search needs
 
 end-in-requires : tie.Need-end-in-requires
-end-in-requires c κs = (omega arith, (omega arith, c .before .before .before .pre .1 .1 .previous (c .before .if1 .taken)))
+end-in-requires c κs = (omega arith, (omega arith, c .before .pre .1 .1 .previous (c .if1 .taken)))
 
 end-in-requires-2 : tie.Need-end-in-requires-2
-end-in-requires-2 c κs = (omega arith, (omega arith, c .before .before .before .before .pre .1 .1 .present))
+end-in-requires-2 c κs = (omega arith, (omega arith, c .before .before .pre .1 .1 .present))
 
 returns : tie.Need-returns
 returns c =
-    let a = c .before .before .before .before .before .args in
+    let a = c .before .before .before .args in
     c .end-in2 .ensures
-    ∙ endOf-later (pickOf (a .upper)) (a .jobs) (a .i) (a .run) (a .set) (now (a .cs)) (a .i * mostEvents) (a .end .0) (c .before .before .before .if1 .taken)
+    ∙ endOf-later (pickOf (a .upper)) (a .jobs) (a .i) (a .has-previous) (a .previous) (a .present) (a .set) (now (a .cs)) (a .i * mostEvents) (a .end .0) (c .before .before .if1 .taken)
     _ (c .before .end-in .ensures)
 
 end-in-requires-3 : tie.Need-end-in-requires-3
-end-in-requires-3 c κs = (omega arith, (omega arith, c .before .before .pre .1 .1 .present))
+end-in-requires-3 c κs = (omega arith, (omega arith, c .before .pre .1 .1 .present))
 
 returns-2 : tie.Need-returns-2
 returns-2 c =
-    let a = c .before .before .before .args in
+    let a = c .before .before .args in
     c .end-in3 .ensures
-    ∙ endOf-first (pickOf (a .upper)) (a .jobs) (a .i) (a .run) (a .set) (now (a .cs)) (a .i * mostEvents) (a .end .0) (c .before .if1 .left)
+    ∙ endOf-first (pickOf (a .upper)) (a .jobs) (a .i) (a .has-previous) (a .previous) (a .present) (a .set) (now (a .cs)) (a .i * mostEvents) (a .end .0) (c .before .if1 .left)
 
 pub end-of-spec : {M : Type 1} → statement M
 end-of-spec =
