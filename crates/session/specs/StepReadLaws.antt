@@ -5,21 +5,21 @@
 -- A line that is a step has seven bytes at least and a time inside the limits (`stepIn-told`), also where it stands in a text. There
 -- it has no LF, or lacks something, or is a step (`stepAt-bare`, `stepAt-bad`, `stepAt-value`).
 
-use Prim.Native.Nat.{ℕ, _+_, _≤_, _<_}
+use Prim.Native.Nat.{ℕ, _+_, _-_, _≤_, _<_}
 use mathlib.Core.Path.{_≡_, refl, sym, ap, _∙_}
 use mathlib.Core.Bool.{Bool, true, false, cond, false≢true}
 use mathlib.Core.List.{List, [], _∷_, _++_}
 use mathlib.Core.Option.{Option, none, some}
 use native.Mathlib.Omega.{arith}
 use lib.IntN.{ℤ, pos}
-use lib.ListN.{length, take, drop, length-append, length-take, length-drop}
+use lib.ListN.{length, take, drop, length-append, length-take}
 use lib.Signed.{leZ}
 use mir.Syntax.{w64}
 use mir.Val.{SFits, toZ, ofZ}
 use mir.Facts.{toZ-ofZ}
 use Rattle.whole.specs.Rules.{wholes}
 use Rattle.text.specs.Bytes.{bytes}
-use Rattle.text.specs.Lines.{LF, lenTo, afterKey, isSome, hasKey}
+use Rattle.text.specs.Lines.{nextLine, afterKey, isSome, hasKey}
 use Rattle.text.specs.LineLaws.{afterKey-split, hasKey-true, hasKey-false}
 use Rattle.text.specs.Numbers.{isEmpty}
 use Rattle.text.specs.NumberLaws.{numberIn-value, decimal-some}
@@ -37,7 +37,7 @@ use Rattle.plan.specs.declared.Refusal.{Refusal}
 use Rattle.plan.specs.declared.Refusal.the-variants.{Form}
 use Rattle.plan.specs.Refusals.{faultAt}
 use Rattle.plan.specs.Reading.{refused}
-use Rattle.plan.specs.ReadAtLaws.{lineAt-bare, lineAt-fault, lineAt-value}
+use Rattle.plan.specs.ReadAtLaws.{lineTo-bare, lineTo-fault, lineTo-value}
 use Rattle.session.specs.declared.StepAt.{StepAt}
 use Rattle.session.specs.declared.StepAt.the-variants as stepAt
 use Rattle.session.specs.StepAt.{stepTold, StepEnds}
@@ -184,7 +184,7 @@ module _ (l : List ℕ) (st : Step) where
           record { least = omega (arith, isText-length (bytes "ask=offer") l h); timed = ap isStep g }
       of false h d = after-start (afterKey (bytes "start=") l) refl d
 
--- ---- a step at a place: t is the rest of the text, and i the length to its LF
+-- ---- a step at a place: next is the place behind its LF
 
 nothing-read : (at len : ℕ) (x : Refusal) → StepEnds at len (stepAt.Bad x)
 nothing-read at len x =
@@ -194,31 +194,30 @@ nothing-read at len x =
       timed = λ st next d. absurd (let z : _≡_ {A = ℕ} 0 1 = cc in omega arith);
     }
 
-module _ (s : List ℕ) (at n : ℕ) (t : List ℕ) (i : ℕ) (rest : t ≡ drop at s) (len : i ≡ lenTo LF t) where
+module _ (s : List ℕ) (at n next : ℕ) (within : at ≤ length s) (end : next ≡ nextLine s at) where
   abbrev pub ReadAs : StepAt → Type 0
   ReadAs r = (stepLine (drop at s) n ≡ stepTold s at (n + 1) r) × StepEnds at (length s) r
 
-  pub stepAt-bare : length t ≤ i → ReadAs (stepAt.Bad (Form n))
+  pub stepAt-bare : length s < next → ReadAs (stepAt.Bad (Form n))
   unfolding stepLine
-  stepAt-bare h = (lineAt-bare (λ l. linedStep (stepIn l)) s at n t i rest len h, nothing-read at (length s) (Form n))
+  stepAt-bare h = (lineTo-bare (λ l. linedStep (stepIn l)) s at n next within end h, nothing-read at (length s) (Form n))
 
-  pub stepAt-bad : (x : Fault) (r : Refusal) → i < length t → stepIn (take i t) ≡ Bad x → r ≡ faultAt n x → ReadAs (stepAt.Bad r)
+  pub stepAt-bad : (x : Fault) (r : Refusal) → next ≤ length s → stepIn (take (next - 1 - at) (drop at s)) ≡ Bad x → r ≡ faultAt n x → ReadAs (stepAt.Bad r)
   unfolding stepLine linedStep
   stepAt-bad x r h e d = (
-    lineAt-fault (λ l. linedStep (stepIn l)) s at n t i rest len h (ap linedStep e) ∙ ap (λ (q : Refusal). refused q (drop at s)) (sym d),
+    lineTo-fault (λ l. linedStep (stepIn l)) s at n next within end h (ap linedStep e) ∙ ap (λ (q : Refusal). refused q (drop at s)) (sym d),
     nothing-read at (length s) r,
   )
 
-  pub stepAt-value : (st : Step) → i < length t → stepIn (take i t) ≡ Value st → ReadAs (stepAt.Value st (at + i + 1))
+  pub stepAt-value : (st : Step) → next ≤ length s → stepIn (take (next - 1 - at) (drop at s)) ≡ Value st → ReadAs (stepAt.Value st next)
   unfolding stepLine linedStep
   stepAt-value st h e =
-      let q = stepIn-told (take i t) st e in
-      let far : at + i + 1 ≤ length s = omega (arith, ap length rest, length-drop at s) in
-      let near : 7 ≤ i = omega (arith, q .least, length-take i t) in (
-        lineAt-value (λ l. linedStep (stepIn l)) s at n t i rest len h (ap linedStep e),
+      let q = stepIn-told (take (next - 1 - at) (drop at s)) st e in
+      let near : 7 ≤ next - 1 - at = omega (arith, q .least, length-take (next - 1 - at) (drop at s)) in (
+        lineTo-value (λ l. linedStep (stepIn l)) s at n next within end h (ap linedStep e),
         record {
-          least = λ st′ next d. let g : next ≡ at + i + 1 = cc in omega arith;
-          most = λ st′ next d. let g : next ≡ at + i + 1 = cc in omega arith;
-          timed = λ st′ next d. let g : st′ ≡ st = cc in ap isStep g ∙ q .timed;
+          least = λ st′ k d. let g : k ≡ next = cc in omega arith;
+          most = λ st′ k d. let g : k ≡ next = cc in omega arith;
+          timed = λ st′ k d. let g : st′ ≡ st = cc in ap isStep g ∙ q .timed;
         },
       )

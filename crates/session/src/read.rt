@@ -71,17 +71,14 @@ pub fn read_step_at(s: &[u8], at: usize, line: usize) -> StepAt
     ensures { λ r. ⌜ stepLine (drop at (now (s .entry))) line ≡ stepTold (now (s .entry)) at (line + 1) r ⌝ }
     ensures { λ r. ⌜ StepEnds at (length (now (s .entry))) r ⌝ }
 {
-    let rest = &s[at..];
-    let len = text::len_to(rest, b'\n');
-    if rest.len() <= len {
+    let next = text::next_line(s, at);
+    if s.len() < next {
         return StepAt::Bad(Refusal::Form(line));
     }
-    let read = read_step(&rest[..len]);
+    let end = next - 1;
+    let read = read_step(&s[at..end]);
     match read {
-        StepLine::Value(st) => {
-            let next = at + len + 1;
-            StepAt::Value(st, next)
-        }
+        StepLine::Value(st) => StepAt::Value(st, next),
         StepLine::Bad(f) => {
             let refusal = plan::fault_at(line, f);
             StepAt::Bad(refusal)
