@@ -1,6 +1,6 @@
 -- The laws of a number's digits.
 -- The equations: a number below ten is one digit (`digits-one`), any other its tenth's digits and its last digit (`digits-more`), and
--- so with their count (`digits-length-one`, `digits-length-more`, and by two and by four digits `digits-length-two`, `digits-length-four`). So a fact that holds of one
+-- so with their count (`digits-length-one`, `digits-length-more`). So a fact that holds of one
 -- digit and is kept by a digit more holds of the digits of every number (`digits-each`).
 -- What they are: digits all (`digits-all`), without a leading zero (`digits-positive`), at least one (`digits-some`) and at most twenty below 2^64
 -- (`digits-short`); no other byte stands among them (`digits-free`).
@@ -71,16 +71,6 @@ digits-length-one n h = ap length (digits-one n h)
 
 pub digits-length-more : (n : ℕ) → 10 ≤ n → length (digits n) ≡ length (digits (n / 10)) + 1
 digits-length-more n h = ap length (digits-more n h) ∙ length-append (digits (n / 10)) ((zeroDigit + n % 10) ∷ [])
-
-pub digits-length-two : (n : ℕ) → 100 ≤ n → length (digits n) ≡ length (digits (n / 100)) + 2
-digits-length-two n h =
-    let e : n / 10 / 10 ≡ n / 100 = omega arith in
-    omega (arith, digits-length-more n (omega arith), digits-length-more (n / 10) (omega arith), ap (λ (k : ℕ). length (digits k)) e)
-
-pub digits-length-four : (n : ℕ) → 10000 ≤ n → length (digits n) ≡ length (digits (n / 10000)) + 4
-digits-length-four n h =
-    let e : n / 100 / 100 ≡ n / 10000 = omega arith in
-    omega (arith, digits-length-two n (omega arith), digits-length-two (n / 100) (omega arith), ap (λ (k : ℕ). length (digits k)) e)
 
 module _ (P : ℕ → List ℕ → Type 0) (one : (n : ℕ) → n < 10 → P n ((zeroDigit + n) ∷ [])) (more : (n : ℕ) (s : List ℕ) → 10 ≤ n → P (n / 10) s → P n (s ++ ((zeroDigit + n % 10) ∷ []))) where
   each-below : (k n : ℕ) → n ≤ k → P n (digits n)

@@ -46,20 +46,11 @@ fn count_digits(n: u64) -> usize
 {
     let mut left = n;
     let mut count = 1;
-    while 10000 <= left {
-        left = left / 10000;
-        count += 4;
+    while 10 <= left {
+        left = left / 10;
+        count += 1;
     }
-    if left < 10 {
-        return count;
-    }
-    if left < 100 {
-        return count + 1;
-    }
-    if left < 1000 {
-        return count + 2;
-    }
-    count + 3
+    count
 }
 
 // The digits of n.

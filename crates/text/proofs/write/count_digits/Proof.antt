@@ -1,10 +1,10 @@
 -- `count_digits`: the digits counted and those left, of which one is counted already, are all of them. They are at most twenty, so that the count fits.
-use Prim.Native.Nat.{_+_, _/_}
+use Prim.Native.Nat.{_+_}
 use mathlib.Core.Path.{_≡_}
 use native.Mathlib.Omega.{arith}
 use lib.ListN.{length}
 use Rattle.text.specs.Numbers.{digits}
-use Rattle.text.specs.DigitLaws.{digits-length-one, digits-length-more, digits-length-two, digits-length-four, digits-some, digits-short}
+use Rattle.text.specs.DigitLaws.{digits-length-one, digits-length-more, digits-some, digits-short}
 use Rattle.text.proofs.write.count_digits.Statement.{statement}
 use Rattle.text.proofs.write.count_digits.Tie as tie
 
@@ -26,50 +26,11 @@ loop-less : tie.Need-loop-less Inv-loop μ-loop
 loop-less c = omega arith
 
 loop-again : tie.Need-loop-again Inv-loop μ-loop
-loop-again c = omega (arith, digits-length-four (c .before .loop .left) (omega arith))
+loop-again c = omega (arith, digits-length-more (c .before .loop .left) (omega arith))
 
 returns : tie.Need-returns Inv-loop μ-loop
-returns c = omega (arith, digits-length-one (c .before .before .loop .left) (omega arith))
-
-add-result : tie.Need-add-result Inv-loop μ-loop
-add-result c = omega (arith, digits-some (c .before .before .before .loop .left), digits-short (c .before .before .before .before .args .n) (c .before .before .before .before .fits .n .fits))
-
-returns-2 : tie.Need-returns-2 Inv-loop μ-loop
-returns-2 c =
-    let left = c .before .before .before .loop .left in
-    omega (arith, digits-length-more left (omega arith), digits-length-one (left / 10) (omega arith))
-
-add-result-2 : tie.Need-add-result-2 Inv-loop μ-loop
-add-result-2 c = omega (arith, digits-some (c .before .before .before .before .loop .left), digits-short (c .before .before .before .before .before .args .n) (c .before .before .before .before .before .fits .n .fits))
-
-returns-3 : tie.Need-returns-3 Inv-loop μ-loop
-returns-3 c =
-    let left = c .before .before .before .before .loop .left in
-    omega (arith, digits-length-two left (omega arith), digits-length-one (left / 100) (omega arith))
-
-add-result-3 : tie.Need-add-result-3 Inv-loop μ-loop
-add-result-3 c = omega (arith, digits-some (c .before .before .before .before .loop .left), digits-short (c .before .before .before .before .before .args .n) (c .before .before .before .before .before .fits .n .fits))
-
-returns-4 : tie.Need-returns-4 Inv-loop μ-loop
-returns-4 c =
-    let left = c .before .before .before .before .loop .left in
-    let hundreds = left / 100 in
-    omega (arith, digits-length-two left (omega arith), digits-length-more hundreds (omega arith), digits-length-one (hundreds / 10) (omega arith))
+returns c = omega (arith, digits-length-one (c .before .loop .left) (omega arith))
 
 pub count-digits-spec : {M : Type 1} → statement M
 count-digits-spec =
-    tie.close
-    (tie.spec
-    Inv-loop
-    μ-loop
-    loop-holds
-    add-count
-    loop-less
-    loop-again
-    returns
-    add-result
-    returns-2
-    add-result-2
-    returns-3
-    add-result-3
-    returns-4)
+    tie.close (tie.spec Inv-loop μ-loop loop-holds add-count loop-less loop-again returns)
