@@ -27,10 +27,10 @@ use Rattle.runs.specs.declared.Choice.the-variants.{Auto}
 use Rattle.runs.specs.declared.Step.the-variants.{Start}
 use Rattle.runs.specs.declared.Answer.the-variants.{Started, Refused}
 use Rattle.runs.specs.Offers.{offerOf}
-use Rattle.runs.specs.Steps.{stepped}
+use Rattle.runs.specs.Steps.{newRun, stepped}
 use Rattle.strategy.specs.Histories.{History}
 use Rattle.strategy.specs.Strategies.{Kept, StrategyAfter, StrategyFor, StrategyForAll}
-use Rattle.strategy.specs.Reaching.{OnOffer, Reached}
+use Rattle.strategy.specs.Reaching.{OnOffer, Reached, afterSteps, ReachedWith}
 use Rattle.strategy.specs.Soundness.{Sound}
 use Rattle.strategy.specs.SoundLaws.{accepted-sound}
 use Rattle.strategy.specs.Theorems as demand-3
@@ -92,3 +92,12 @@ module _ (s : List ℕ) {p : Plan} {t : List ℕ} {n : ℕ} (e : planHead s ≡ 
     -- and every bound whose events have been seen is kept
     pub all-kept : Kept p h
     all-kept = demand-3.all-kept p sound m c accepted r h reached
+
+  -- and that run is any that a session comes to, whatever its steps are: those that were refused have left it as it was
+  module _ (m : ℕ) (c : Rows) (accepted : outcome p ≡ settled m c) (sts : List Step) where
+    pub session-kept : ReachedWith p (calendar p c) (afterSteps p (calendar p c) newRun sts)
+    session-kept = demand-3.session-reached p (calendar p c) sts
+
+    -- so no session is answered by refusal 11
+    pub session-never-11 : (st : Step) → stepped p (calendar p c) (afterSteps p (calendar p c) newRun sts) st .answer ≡ Refused refusal.EmptyOffer → ⊥
+    session-never-11 = never-11 m c accepted _ (session-kept .history) (session-kept .reached)

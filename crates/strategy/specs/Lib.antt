@@ -36,6 +36,7 @@ pub mod GameLaws
 pub mod RunLaws
 pub mod TimeLaws
 pub mod ReachedLaws
+pub mod StepsLaws
 -- what is to be read first
 pub mod Theorems
 pub mod Worked

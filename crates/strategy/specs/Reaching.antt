@@ -2,7 +2,7 @@
 -- A step that is refused, and an ask, leave the run as it is.
 use Prim.Native.Nat.{ℕ}
 use mathlib.Core.Path.{_≡_}
-use mathlib.Core.List.{[], _∷_, _++_}
+use mathlib.Core.List.{List, [], _∷_, _++_}
 use lib.IntN.{ℤ}
 use lib.Signed.{_≤ℤ_}
 use Rattle.clock.specs.declared.RunTime.{RunTime}
@@ -12,6 +12,7 @@ use Rattle.runs.specs.declared.Phase.the-variants.{Running}
 use Rattle.runs.specs.declared.Run.{Run}
 use Rattle.runs.specs.declared.Offer.{Offer}
 use Rattle.runs.specs.declared.Choice.{Choice}
+use Rattle.runs.specs.declared.Step.{Step}
 use Rattle.runs.specs.declared.Step.the-variants.{Start, Finish}
 use Rattle.runs.specs.declared.Answer.the-variants.{Started, Final}
 use Rattle.runs.specs.Steps.{newRun, stepped}
@@ -31,3 +32,15 @@ pub data Reached (p : Plan) (c : Calendar) : Run → History → Type 0 where
   finished : {r : Run} {h : History} → Reached p c r h → (j i : ℕ) (s t : RunTime) → r .phase ≡ Running j i s
       → stepped p c r (Finish t) .answer ≡ Final j i t
       → Reached p c (stepped p c r (Finish t) .run) (h ++ (record { start = s .0; finish = t .0 } ∷ []))
+
+-- ---- sessions: 'a plan followed by steps'
+
+-- the run after the steps of a session, whatever is answered to them
+unfoldable pub afterSteps : Plan → Calendar → Run → List Step → Run
+afterSteps p c r [] = r
+afterSteps p c r (st ∷ sts) = afterSteps p c (stepped p c r st .run) sts
+
+-- a run that kept to its offers, with its history
+pub record ReachedWith (p : Plan) (c : Calendar) (r : Run) : Type 0 where
+  pub history : History
+  pub reached : Reached p c r history

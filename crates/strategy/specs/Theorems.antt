@@ -4,6 +4,7 @@ use mathlib.Core.Bool.{Bool, true}
 use Prim.Native.Nat.{ℕ, suc, _+_, _*_, _-_, _≤_, _<_}
 use mathlib.Core.Path.{_≡_, refl}
 use mathlib.Core.Logic.{_↔_}
+use mathlib.Core.List.{List}
 use lib.IntN.{ℤ, _+ℤ_}
 use lib.Signed.{_≤ℤ_}
 use lib.ListN.{length}
@@ -15,6 +16,7 @@ use Rattle.bounds.specs.Tables.{Cell, off, upto, Rows, at, contradiction, bound
 use Rattle.bounds.specs.Elimination.{finishCell, startCell}
 use Rattle.rounds.specs.declared.Verdict.the-variants.{Settled, NoStrategy}
 use Rattle.rounds.specs.Rounds.{settled, outcome, verdict}
+use Rattle.calendars.specs.declared.Calendar.{Calendar}
 use Rattle.calendars.specs.Calendars.{calendar}
 use Rattle.runs.specs.declared.Phase.the-variants.{Waiting}
 use Rattle.runs.specs.declared.Run.{Run}
@@ -23,10 +25,10 @@ use Rattle.runs.specs.declared.Step.{Step}
 use Rattle.runs.specs.declared.Step.the-variants.{Start}
 use Rattle.runs.specs.declared.Answer.the-variants.{Started, Refused}
 use Rattle.runs.specs.Offers.{offerOf}
-use Rattle.runs.specs.Steps.{stepped}
+use Rattle.runs.specs.Steps.{newRun, stepped}
 use Rattle.strategy.specs.Histories.{History, seenFrom}
 use Rattle.strategy.specs.Strategies.{Kept, Forced, Strategy, StrategyAfter, StrategyFor, StrategyForAll}
-use Rattle.strategy.specs.Reaching.{OnOffer, Reached}
+use Rattle.strategy.specs.Reaching.{OnOffer, Reached, afterSteps, ReachedWith}
 use Rattle.strategy.specs.Keeping.{Keeps, Timely, Extreme, Anchored, Sized}
 use Rattle.strategy.specs.Soundness.{Sound}
 use Rattle.strategy.specs.SetLaws.{judged-iff, judged-none}
@@ -36,6 +38,7 @@ use Rattle.strategy.specs.RoundLaws.{C, strategy-kept, strategy-keeps, k
 use Rattle.strategy.specs.VerdictLaws.{settled-is, settled-from-then, settled-strategy, settled-outcome, none-is, none-outcome}
 use Rattle.strategy.specs.GameLaws.{fewer-windows}
 use Rattle.strategy.specs.ReachedLaws.{reached-kept, reached-some, reached-offer, reached-never-11, reached-lower, reached-auto}
+use Rattle.strategy.specs.StepsLaws.{steps-reached}
 
 -- ---- what a strategy is, as equations
 
@@ -130,3 +133,7 @@ module _ (p : Plan) (sound : Sound p) where
     -- The run has kept every bound.
     pub all-kept : Kept p h
     all-kept = reached-kept p sound m c accepted r h reached
+
+-- ---- sessions: whatever the steps are, the run after them is one of which the theorems on offers speak.
+pub session-reached : (p : Plan) (c : Calendar) (sts : List Step) → ReachedWith p c (afterSteps p c newRun sts)
+session-reached p c sts = steps-reached p c sts
