@@ -178,6 +178,17 @@ fn shown(spread: Spread) -> String {
     format!("{:.2} ({:.2} to {:.2})", spread.median, spread.lower, spread.upper)
 }
 
+const GROWTH: &str = "
+## How it grows
+
+Reading grows with the text, and with the square of the bounds for the pairs that came before. A round grows with the cube of the jobs at most:
+it eliminates two events for each job, and a start joins each bound to it with each bound from it; most pairs have no bound and are passed
+over. A verdict is its rounds, one more walk for the calendar, and a table for C(0). A session is its plan's verdict once and then the same for
+each step, whatever came before it. The stack does not grow.
+
+What is left in a round: the judgement of each bound that is made or put, and three copies of the table (5,476 bytes each). What is left in a
+step: its line and its answer, and copies of the run, which goes by value into and out of a step.";
+
 const FIGURES: &str = "\
 # Figures
 
@@ -207,5 +218,6 @@ fn figures() -> io::Result<bool> {
         let ratio = row.ratio.map_or(String::new(), shown);
         println!("| {} | {} | {} | {ratio} | {} | {} |", row.name, shown(row.times[1]), shown(row.times[0]), row.stack[1], row.stack[0]);
     }
+    println!("{GROWTH}");
     Ok(true)
 }
