@@ -31,33 +31,40 @@ use Rattle.plan.specs.Reading.{Lined, Reading, read, refused, Reader, _>
 abbrev pub faultyIn : {A : Type 0} → List ℕ → Faulty → Reading A
 faultyIn s f = refused (f .refusal) (drop (f .at) s)
 
-abbrev pub numberTold : List ℕ → ℕ → NumberLine → Reading ℤ
-numberTold s n (numberLine.Value z at) = read z (drop at s) n
-numberTold s n (numberLine.Bad f) = faultyIn s f
+-- What a line reader answers: a value and the place of the line after it, or a fault.
+pub data At (A : Type 0) : Type 0 where
+  goes : A → ℕ → At A
+  stops : Faulty → At A
 
-abbrev pub numberPlace : NumberLine → ℕ
-numberPlace (numberLine.Value z at) = at
-numberPlace (numberLine.Bad f) = f .at
+-- the reading of the text s that an answer tells, with the number of the line after it
+abbrev pub atTold : {A : Type 0} → List ℕ → ℕ → At A → Reading A
+atTold s n (goes a at) = read a (drop at s) n
+atTold s n (stops f) = faultyIn s f
 
-abbrev pub jobTold : List ℕ → ℕ → JobLines → Reading Job
-jobTold s n (jobLines.Value j at) = read j (drop at s) n
-jobTold s n (jobLines.Bad f) = faultyIn s f
-
-abbrev pub jobPlace : JobLines → ℕ
-jobPlace (jobLines.Value j at) = at
-jobPlace (jobLines.Bad f) = f .at
+abbrev pub atPlace : {A : Type 0} → At A → ℕ
+atPlace (goes a at) = at
+atPlace (stops f) = f .at
 
 -- the fault of an answer that is one
 abbrev pub noFault : Faulty
 noFault = record { refusal = Form 0; at = 0 }
 
-abbrev pub numberFault : NumberLine → Faulty
-numberFault (numberLine.Value z at) = noFault
-numberFault (numberLine.Bad f) = f
+abbrev pub atFault : {A : Type 0} → At A → Faulty
+atFault (goes a at) = noFault
+atFault (stops f) = f
 
-abbrev pub jobFault : JobLines → Faulty
-jobFault (jobLines.Value j at) = noFault
-jobFault (jobLines.Bad f) = f
+-- the answers of the code
+abbrev pub numberAt : NumberLine → At ℤ
+numberAt (numberLine.Value z at) = goes z at
+numberAt (numberLine.Bad f) = stops f
+
+abbrev pub jobAt : JobLines → At Job
+jobAt (jobLines.Value j at) = goes j at
+jobAt (jobLines.Bad f) = stops f
+
+abbrev pub boundAt : BoundRead → At Bound
+boundAt (boundRead.Value d at) = goes d at
+boundAt (boundRead.Bad f) = stops f
 
 -- what is told of a group that was read
 abbrev pub IfOn : Went → Type 0 → Type 0
@@ -88,18 +95,6 @@ wentFault (went.Bad f) = f
 -- a bound line by itself, with the pairs that are wrong after the bounds before it
 abbrev pub boundLined : ℕ → (EventName → EventName → Bool) → List ℕ → Lined Bound
 boundLined jobs isWrong l = linedBound (boundOf jobs isWrong (boundParts (afterKey (bytes "bound=") l)))
-
-abbrev pub boundTold : List ℕ → ℕ → BoundRead → Reading Bound
-boundTold s n (boundRead.Value d at) = read d (drop at s) n
-boundTold s n (boundRead.Bad f) = faultyIn s f
-
-abbrev pub boundPlace : BoundRead → ℕ
-boundPlace (boundRead.Value d at) = at
-boundPlace (boundRead.Bad f) = f .at
-
-abbrev pub boundFault : BoundRead → Faulty
-boundFault (boundRead.Value d at) = noFault
-boundFault (boundRead.Bad f) = f
 
 abbrev pub boundsTold : List ℕ → ℕ → ℕ → Bounds → Reading (List Bound)
 boundsTold s n bounds r = wentTold s (take bounds (r .bound)) (n + bounds) (r .went)

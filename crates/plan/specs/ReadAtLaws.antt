@@ -1,5 +1,6 @@
 -- The laws by which the code's line readers are right. A line at a place of the text has no LF, or lacks something, or has its value (`lineAt-bare`,
--- `lineAt-fault`, `lineAt-value`; by the place behind the LF: `lineTo-bare`, `lineTo-fault`, `lineTo-value`); and a group of lines ends with the first refusal (`jobLines-first` to `jobLines-fourth`) or is read (`jobLines-all`).
+-- `lineAt-fault`, `lineAt-value`; by the place behind the LF: `lineTo-bare`, `lineTo-fault`, `lineTo-value`); an answer goes on or stops (`atTold-goes`, `atTold-stops`), at a place
+-- in the text (`atPlace-goes`, `atPlace-stops`); and a group of lines ends with the first refusal (`jobLines-first` to `jobLines-fourth`) or is read (`jobLines-all`).
 use mathlib.Core.Path.{_≡_, refl, sym, _∙_, ap, subst}
 use mathlib.Core.List.{List}
 use Prim.Native.Nat.{ℕ, _+_, _-_, _≤_, _<_}
@@ -17,15 +18,7 @@ use Rattle.text.specs.declared.Fault.{Fault}
 use Rattle.plan.specs.declared.Refusal.{Refusal}
 use Rattle.plan.specs.declared.Refusal.the-variants.{Form}
 use Rattle.plan.specs.declared.Faulty.{Faulty}
-use Rattle.plan.specs.declared.NumberLine.{NumberLine}
-use Rattle.plan.specs.declared.NumberLine.the-variants as numberLine
-use Rattle.plan.specs.declared.Job.{Job}
-use Rattle.plan.specs.declared.JobLines.{JobLines}
-use Rattle.plan.specs.declared.JobLines.the-variants as jobLines
-use Rattle.plan.specs.declared.Bound.{Bound}
-use Rattle.plan.specs.declared.BoundRead.{BoundRead}
-use Rattle.plan.specs.declared.BoundRead.the-variants as boundRead
-use Rattle.plan.specs.ReadAt.{planRest, boundTold, boundPlace, boundFault, jobTold, jobPlace, jobFault, faultyIn, numberTold, numberPlace, numberFault}
+use Rattle.plan.specs.ReadAt.{At, goes, stops, atTold, atPlace, atFault, faultyIn, planRest}
 use Rattle.plan.specs.Limits.{longestWindow, mostJobs, longestRunning, latestDeadline}
 use Rattle.plan.specs.Refusals.{faultAt}
 use Rattle.plan.specs.Reading.{Lined, value, bad, Reading, read, refused, next, lined, line, numberLine}
@@ -68,49 +61,21 @@ module _ {A : Type 0} (f : List ℕ → Lined A) (s : List ℕ) (at n next : ℕ
       lineAt-value f s at n (drop at s) (next - 1 - at) refl len (omega (arith, length-drop at s, end ∙ nextLine-at s at within)) d
       ∙ ap (λ (k : ℕ). read a (drop k s) (n + 1)) place
 
--- ---- an answer taken apart: m is the reading that it tells, of a text s
+-- ---- a line reader's answer taken apart: m is the reading of a text s that it tells
 
-module _ (s : List ℕ) (n : ℕ) {m : Reading ℤ} (r : NumberLine) (told : m ≡ numberTold s n r) where
-  pub number-value : {z : ℤ} {at : ℕ} → r ≡ numberLine.Value z at → m ≡ read z (drop at s) n
-  number-value e = told ∙ ap (numberTold s n) e
+module _ {A : Type 0} (s : List ℕ) (n : ℕ) {m : Reading A} (r : At A) (told : m ≡ atTold s n r) where
+  pub atTold-goes : {a : A} {at : ℕ} → r ≡ goes a at → m ≡ read a (drop at s) n
+  atTold-goes e = told ∙ ap (atTold s n) e
 
-  pub number-faulty : {f g : Faulty} → r ≡ numberLine.Bad f → g ≡ numberFault r → m ≡ faultyIn s g
-  number-faulty e d = told ∙ ap (numberTold s n) e ∙ ap (faultyIn s) (sym (d ∙ ap numberFault e))
+  pub atTold-stops : {f g : Faulty} → r ≡ stops f → g ≡ atFault r → m ≡ faultyIn s g
+  atTold-stops e d = told ∙ ap (atTold s n) e ∙ ap (faultyIn s) (sym (d ∙ ap atFault e))
 
-module _ (r : NumberLine) (k : ℕ) (fits : numberPlace r ≤ k) where
-  pub number-value-fits : {z : ℤ} {at : ℕ} → r ≡ numberLine.Value z at → at ≤ k
-  number-value-fits e = subst (λ x. numberPlace x ≤ k) e fits
+module _ {A : Type 0} (r : At A) (k : ℕ) (fits : atPlace r ≤ k) where
+  pub atPlace-goes : {a : A} {at : ℕ} → r ≡ goes a at → at ≤ k
+  atPlace-goes e = subst (λ x. atPlace x ≤ k) e fits
 
-  pub number-faulty-fits : {f g : Faulty} → r ≡ numberLine.Bad f → g ≡ numberFault r → g .at ≤ k
-  number-faulty-fits e d = subst (λ x. x .at ≤ k) (sym (d ∙ ap numberFault e)) (subst (λ x. numberPlace x ≤ k) e fits)
-
-module _ (s : List ℕ) (n : ℕ) {m : Reading Job} (r : JobLines) (told : m ≡ jobTold s n r) where
-  pub job-value : {j : Job} {at : ℕ} → r ≡ jobLines.Value j at → m ≡ read j (drop at s) n
-  job-value e = told ∙ ap (jobTold s n) e
-
-  pub job-faulty : {f g : Faulty} → r ≡ jobLines.Bad f → g ≡ jobFault r → m ≡ faultyIn s g
-  job-faulty e d = told ∙ ap (jobTold s n) e ∙ ap (faultyIn s) (sym (d ∙ ap jobFault e))
-
-module _ (r : JobLines) (k : ℕ) (fits : jobPlace r ≤ k) where
-  pub job-value-fits : {j : Job} {at : ℕ} → r ≡ jobLines.Value j at → at ≤ k
-  job-value-fits e = subst (λ x. jobPlace x ≤ k) e fits
-
-  pub job-faulty-fits : {f g : Faulty} → r ≡ jobLines.Bad f → g ≡ jobFault r → g .at ≤ k
-  job-faulty-fits e d = subst (λ x. x .at ≤ k) (sym (d ∙ ap jobFault e)) (subst (λ x. jobPlace x ≤ k) e fits)
-
-module _ (s : List ℕ) (n : ℕ) {m : Reading Bound} (r : BoundRead) (told : m ≡ boundTold s n r) where
-  pub bound-value : {d : Bound} {at : ℕ} → r ≡ boundRead.Value d at → m ≡ read d (drop at s) n
-  bound-value e = told ∙ ap (boundTold s n) e
-
-  pub bound-faulty : {f g : Faulty} → r ≡ boundRead.Bad f → g ≡ boundFault r → m ≡ faultyIn s g
-  bound-faulty e d = told ∙ ap (boundTold s n) e ∙ ap (faultyIn s) (sym (d ∙ ap boundFault e))
-
-module _ (r : BoundRead) (k : ℕ) (fits : boundPlace r ≤ k) where
-  pub bound-value-fits : {d : Bound} {at : ℕ} → r ≡ boundRead.Value d at → at ≤ k
-  bound-value-fits e = subst (λ x. boundPlace x ≤ k) e fits
-
-  pub bound-faulty-fits : {f g : Faulty} → r ≡ boundRead.Bad f → g ≡ boundFault r → g .at ≤ k
-  bound-faulty-fits e d = subst (λ x. x .at ≤ k) (sym (d ∙ ap boundFault e)) (subst (λ x. boundPlace x ≤ k) e fits)
+  pub atPlace-stops : {f g : Faulty} → r ≡ stops f → g ≡ atFault r → g .at ≤ k
+  atPlace-stops e d = subst (λ x. x .at ≤ k) (sym (d ∙ ap atFault e)) (subst (λ x. atPlace x ≤ k) e fits)
 
 -- ---- the lines of a job
 

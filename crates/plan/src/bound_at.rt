@@ -11,7 +11,7 @@ ghost use Prim.Native.Nat.{_+_, _≤_};
 ghost use lib.ListN.{length, take, drop};
 ghost use Rattle.plan.specs.Reading.{line};
 ghost use Rattle.plan.specs.Pairs.{isWrongNumbered};
-ghost use Rattle.plan.specs.ReadAt.{boundLined, boundTold, boundPlace, boundFault};
+ghost use Rattle.plan.specs.ReadAt.{boundLined, boundAt, atTold, atPlace, atFault};
 
 // The bound of the line that begins at a place, and where the next line begins.
 pub fn read_bound_at(
@@ -23,8 +23,8 @@ pub fn read_bound_at(
     n: usize,
 ) -> BoundRead
     requires { ⌜ (at ≤ length (now s)) × ((n ≤ 64) × (n ≤ length (now given))) ⌝ }
-    ensures { λ r. ⌜ line (boundLined jobs (isWrongNumbered (take n (now (given .entry))))) (drop at (now (s .entry))) number ≡ boundTold (now (s .entry)) (number + 1) r ⌝ }
-    ensures { λ r. ⌜ boundPlace r ≤ length (now (s .entry)) ⌝ }
+    ensures { λ r. ⌜ line (boundLined jobs (isWrongNumbered (take n (now (given .entry))))) (drop at (now (s .entry))) number ≡ atTold (now (s .entry)) (number + 1) (boundAt r) ⌝ }
+    ensures { λ r. ⌜ atPlace (boundAt r) ≤ length (now (s .entry)) ⌝ }
 {
     let next = text::next_line(s, at);
     if s.len() < next {
@@ -46,7 +46,7 @@ pub fn read_bound_at(
 
 // The fault of a line that is faulty.
 pub fn bound_fault(l: BoundRead) -> Faulty
-    ensures { λ r. ⌜ r ≡ boundFault l ⌝ }
+    ensures { λ r. ⌜ r ≡ atFault (boundAt l) ⌝ }
 {
     match l {
         BoundRead::Value(_, _) => Faulty {

@@ -10,13 +10,13 @@ ghost use mathlib.Core.Path.{_≡_};
 ghost use Prim.Native.Nat.{_+_, _≤_};
 ghost use lib.ListN.{length, drop};
 ghost use Rattle.plan.specs.PlanRead.{jobLines};
-ghost use Rattle.plan.specs.ReadAt.{jobTold, jobPlace, jobFault};
+ghost use Rattle.plan.specs.ReadAt.{jobAt, atTold, atPlace, atFault};
 
 // The job whose lines begin at a place, and where the line after them begins.
 pub fn read_job(s: &[u8], at: usize, line: usize) -> JobLines
     requires { ⌜ (at ≤ length (now s)) × (line ≤ 1000) ⌝ }
-    ensures { λ r. ⌜ jobLines (drop at (now (s .entry))) line ≡ jobTold (now (s .entry)) (line + 1 + 1 + 1 + 1) r ⌝ }
-    ensures { λ r. ⌜ jobPlace r ≤ length (now (s .entry)) ⌝ }
+    ensures { λ r. ⌜ jobLines (drop at (now (s .entry))) line ≡ atTold (now (s .entry)) (line + 1 + 1 + 1 + 1) (jobAt r) ⌝ }
+    ensures { λ r. ⌜ atPlace (jobAt r) ≤ length (now (s .entry)) ⌝ }
 {
     let first = read_number_line(s, at, line, b"min=", 0, 86_400_000);
     let NumberLine::Value(min, at2) = first else {
@@ -48,7 +48,7 @@ pub fn read_job(s: &[u8], at: usize, line: usize) -> JobLines
 
 // The fault of lines that are faulty.
 pub fn job_fault(l: JobLines) -> Faulty
-    ensures { λ r. ⌜ r ≡ jobFault l ⌝ }
+    ensures { λ r. ⌜ r ≡ atFault (jobAt l) ⌝ }
 {
     match l {
         JobLines::Value(_, _) => Faulty {

@@ -9,7 +9,7 @@ ghost use mathlib.Core.Path.{_≡_};
 ghost use Prim.Native.Nat.{_+_, _≤_};
 ghost use lib.ListN.{length, drop};
 ghost use Rattle.plan.specs.Reading.{numberLine};
-ghost use Rattle.plan.specs.ReadAt.{numberTold, numberPlace, numberFault};
+ghost use Rattle.plan.specs.ReadAt.{numberAt, atTold, atPlace, atFault};
 
 // The number of the line that begins at a place, and where the next line begins.
 pub fn read_number_line(
@@ -21,8 +21,8 @@ pub fn read_number_line(
     hi: i32,
 ) -> NumberLine
     requires { ⌜ at ≤ length (now s) ⌝ }
-    ensures { λ r. ⌜ numberLine (now (key .entry)) lo hi (drop at (now (s .entry))) line ≡ numberTold (now (s .entry)) (line + 1) r ⌝ }
-    ensures { λ r. ⌜ numberPlace r ≤ length (now (s .entry)) ⌝ }
+    ensures { λ r. ⌜ numberLine (now (key .entry)) lo hi (drop at (now (s .entry))) line ≡ atTold (now (s .entry)) (line + 1) (numberAt r) ⌝ }
+    ensures { λ r. ⌜ atPlace (numberAt r) ≤ length (now (s .entry)) ⌝ }
 {
     let next = text::next_line(s, at);
     if s.len() < next {
@@ -44,7 +44,7 @@ pub fn read_number_line(
 
 // The fault of a line that is faulty.
 pub fn number_fault(l: NumberLine) -> Faulty
-    ensures { λ r. ⌜ r ≡ numberFault l ⌝ }
+    ensures { λ r. ⌜ r ≡ atFault (numberAt l) ⌝ }
 {
     match l {
         NumberLine::Value(_, _) => Faulty {

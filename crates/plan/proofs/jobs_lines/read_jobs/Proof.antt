@@ -1,10 +1,12 @@
 -- `read_jobs`: after i jobs stands `JobsPassed`, with one law a way.
+use mathlib.Core.Path.{ap}
 use Prim.Native.Nat.{_+_, _-_}
 use native.Mathlib.Omega.{arith}
 use borrow.Author.Needs.{needs}
 use denote.Ref.{now}
 use lib.ListN.{length}
-use Rattle.plan.specs.ReadAtLaws.{job-value, job-faulty, job-value-fits, job-faulty-fits}
+use Rattle.plan.specs.ReadAt.{jobAt}
+use Rattle.plan.specs.ReadAtLaws.{atTold-goes, atTold-stops, atPlace-goes, atPlace-stops}
 use Rattle.plan.specs.JobsLoop.{JobsPassed, JobsPassed-start, JobsPassed-stop, JobsPassed-past, JobsPassed-end, JobsPassed-filled}
 use Rattle.plan.proofs.jobs_lines.read_jobs.Statement.{statement}
 use Rattle.plan.proofs.jobs_lines.read_jobs.Tie as tie
@@ -37,8 +39,8 @@ returns c =
     let s = now (a .s) in
     let r = c .before .before .before .read-job in (
       JobsPassed-stop s (a .from) (a .jobs) (l .loop .job) (l .loop .at) (l .loop .line) (l .loop .i) (l .loop .inv) (c .before .before .before .before .loop-test .taken) (c .job-fault .result)
-          (job-faulty s (l .loop .line + 1 + 1 + 1 + 1) (r .result) (r .ensures .0) (c .before .enum-told .given .1) (c .job-fault .ensures)),
-      (job-faulty-fits (r .result) (length s) (r .ensures .1) (c .before .enum-told .given .1) (c .job-fault .ensures), tt),
+          (atTold-stops s (l .loop .line + 1 + 1 + 1 + 1) (jobAt (r .result)) (r .ensures .0) (ap jobAt (c .before .enum-told .given .1)) (c .job-fault .ensures)),
+      (atPlace-stops (jobAt (r .result)) (length s) (r .ensures .1) (ap jobAt (c .before .enum-told .given .1)) (c .job-fault .ensures), tt),
     )
 
 mul-job : tie.Need-mul-job Inv-loop μ-loop
@@ -64,8 +66,8 @@ loop-again c =
     let r = c .before .before .before .read-job in
     JobsPassed-past s (a .from) (a .jobs) (l .loop .job) (l .loop .at) (l .loop .line) (l .loop .i) (l .loop .inv) (c .before .before .before .before .loop-test .taken) (l .before .before .pre .1)
     (c .before .read .given .0 .0) (c .before .read .given .0 .1 .0)
-    (job-value-fits (r .result) (length s) (r .ensures .1) (c .before .read .given .1))
-    (job-value s (l .loop .line + 1 + 1 + 1 + 1) (r .result) (r .ensures .0) (c .before .read .given .1))
+    (atPlace-goes (jobAt (r .result)) (length s) (r .ensures .1) (ap jobAt (c .before .read .given .1)))
+    (atTold-goes s (l .loop .line + 1 + 1 + 1 + 1) (jobAt (r .result)) (r .ensures .0) (ap jobAt (c .before .read .given .1)))
 
 returns-2 : tie.Need-returns-2 Inv-loop μ-loop
 returns-2 c =

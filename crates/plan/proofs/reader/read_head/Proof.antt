@@ -21,8 +21,8 @@ use Rattle.plan.specs.Limits.{mostJobs, mostBounds}
 use Rattle.plan.specs.Reading.{read, numberLine}
 use Rattle.plan.specs.ReadingLaws.{numberLine-read}
 use Rattle.plan.specs.PlanRead.{jobsAfter, boundsAfter, noJob, noBound, filled, planHead}
-use Rattle.plan.specs.ReadAt.{planRest, firstRest, wentPlace, wentFault, faultyIn, IfOn}
-use Rattle.plan.specs.ReadAtLaws.{number-value, number-faulty, number-value-fits, number-faulty-fits}
+use Rattle.plan.specs.ReadAt.{numberAt, planRest, firstRest, wentPlace, wentFault, faultyIn, IfOn}
+use Rattle.plan.specs.ReadAtLaws.{atTold-goes, atTold-stops, atPlace-goes, atPlace-stops}
 use Rattle.plan.specs.HeadLaws.{planHead-long, planHead-short, planRest-jobs, planRest-count, planRest-bounds, planRest-all, went-on, went-bad, planRead-refused, planRead-accepted}
 use borrow.Author.Needs.{needs}
 use Rattle.plan.proofs.reader.read_head.Statement.{statement}
@@ -162,9 +162,9 @@ returns-4 c =
     let r = c .before .before .before .before .read-number-line in
     c .refused-plan4 .ensures
     ∙ planRead-refused (s₁ p) (c .before .number-fault .result)
-    (number-faulty-fits (r .result) (length (s₁ p)) (r .ensures .1) (c .before .before .enum-told3 .given .1) (c .before .number-fault .ensures))
+    (atPlace-stops (numberAt (r .result)) (length (s₁ p)) (r .ensures .1) (ap numberAt (c .before .before .enum-told3 .given .1)) (c .before .number-fault .ensures))
     (head₁ p ∙ planRest-count (first₁ p .window) (first₁ p .rounds) (first₁ p .last) (first₁ p .jobs) (drop (at₁ p) (s₁ p)) (told₂ q)
-    (number-faulty (s₁ p) _ (r .result) (r .ensures .0) (c .before .before .enum-told3 .given .1) (c .before .number-fault .ensures)))
+    (atTold-stops (s₁ p) _ (numberAt (r .result)) (r .ensures .0) (ap numberAt (c .before .before .enum-told3 .given .1)) (c .before .number-fault .ensures)))
 
 -- ---- after the count of the bounds
 
@@ -180,13 +180,13 @@ at₃ c = c .before .line .given .0 .1 .0
 told₃ : (c : tie.After-known-told3)
     → numberLine (bytes "bounds=") (pos 0) (pos 64) (drop (at₂ (q₃ c)) (s₁ (p₂ (q₃ c)))) (5 + 4 * first₁ (p₂ (q₃ c)) .jobs) ≡ read (z₃ c) (drop (at₃ c) (s₁ (p₂ (q₃ c)))) (5 + 4 * first₁ (p₂ (q₃ c)) .jobs + 1)
 unfolding bytes
-told₃ c = let r = c .before .before .before .read-number-line in number-value (s₁ (p₂ (q₃ c))) _ (r .result) (r .ensures .0) (c .before .line .given .1)
+told₃ c = let r = c .before .before .before .read-number-line in atTold-goes (s₁ (p₂ (q₃ c))) _ (numberAt (r .result)) (r .ensures .0) (ap numberAt (c .before .line .given .1))
 
 z-back : (c : tie.After-known-told3) → mir.Val.toZ w32 (mir.Val.ofZ w32 (z₃ c)) ≡ z₃ c
 z-back c = toZ-ofZ {w = w32} {z = z₃ c} (record { sfits = c .known-told3 .given .0 .1 })
 
 place₃ : (c : tie.After-known-told3) → at₃ c ≤ length (s₁ (p₂ (q₃ c)))
-place₃ c = let r = c .before .before .before .read-number-line in number-value-fits (r .result) (length (s₁ (p₂ (q₃ c)))) (r .ensures .1) (c .before .line .given .1)
+place₃ c = let r = c .before .before .before .read-number-line in atPlace-goes (numberAt (r .result)) (length (s₁ (p₂ (q₃ c)))) (r .ensures .1) (ap numberAt (c .before .line .given .1))
 
 few₃ : (c : tie.After-known-told3) → natAbs (z₃ c) ≤ 64
 few₃ c = let q = numberLine-read (bytes "bounds=") (pos 0) (pos 64) _ _ (told₃ c) .0 in at-most (z₃ c) (q .least) (q .most)
