@@ -16,15 +16,13 @@ use Rattle.plan.specs.declared.Job.{Job}
 use Rattle.plan.specs.declared.Bound.{Bound}
 use Rattle.plan.specs.declared.Plan.{Plan}
 use Rattle.plan.specs.declared.PlanAnswer.the-variants.{Accepted, Refused}
-use Rattle.plan.specs.declared.Went.{Went}
-use Rattle.plan.specs.declared.Went.the-variants as went
 use Rattle.plan.specs.Limits.{longestText, mostJobs, mostBounds}
 use Rattle.plan.specs.Reading.{Reading, read, refused, next, numberLine}
 use Rattle.plan.specs.PlanRead.{jobsAfter, boundsAfter, noJob, noBound, filled, planLines, planHead, nothingAfter}
 use Rattle.plan.specs.PlanWritten.{planText}
 use Rattle.plan.specs.PlanLaws.{planHead-written}
 use Rattle.plan.specs.PlanAnswers.{planRead, refusedRead}
-use Rattle.plan.specs.ReadAt.{faultyIn, planRest, wentTold, wentFault}
+use Rattle.plan.specs.ReadAt.{faultyIn, planRest}
 
 -- ---- the length
 
@@ -58,15 +56,6 @@ module _ (window : ℤ) (rounds last jobs : ℕ) (s : List ℕ) where
           ≡ read (record { window = window; rounds = rounds; last = last; jobs = jobs; job = filled mostJobs noJob js; bounds = natAbs z; bound = filled mostBounds noBound ds }) t n
       unfolding next
       planRest-all e = rw (e₁, e₂, e)
-
--- ---- a group of lines that went on, or not
-
-module _ {A : Type 0} (s : List ℕ) (a : A) (n : ℕ) {m : Reading A} (w : Went) (told : m ≡ wentTold s a n w) where
-  pub went-on : {at : ℕ} → w ≡ went.On at → m ≡ read a (drop at s) n
-  went-on e = told ∙ ap (wentTold s a n) e
-
-  pub went-bad : {f g : Faulty} → w ≡ went.Bad f → g ≡ wentFault w → m ≡ faultyIn s g
-  went-bad e d = told ∙ ap (wentTold s a n) e ∙ ap (faultyIn s) (sym (d ∙ ap wentFault e))
 
 -- ---- the answer
 

@@ -66,38 +66,33 @@ abbrev pub boundAt : BoundRead → At Bound
 boundAt (boundRead.Value d at) = goes d at
 boundAt (boundRead.Bad f) = stops f
 
+-- of a group of lines: a is what was read there, if all was
+abbrev pub wentAt : {A : Type 0} → A → Went → At A
+wentAt a (went.On at) = goes a at
+wentAt a (went.Bad f) = stops f
+
+-- where the group ended
+abbrev pub endAt : Went → At (Unit {0})
+endAt w = wentAt tt w
+
 -- what is told of a group that was read
 abbrev pub IfOn : Went → Type 0 → Type 0
 IfOn (went.On at) P = P
 IfOn (went.Bad f) P = Unit
 
-abbrev pub wentPlace : Went → ℕ
-wentPlace (went.On at) = at
-wentPlace (went.Bad f) = f .at
-
--- a group of lines that was read, with its value and the number of the line after it
-abbrev pub wentTold : {A : Type 0} → List ℕ → A → ℕ → Went → Reading A
-wentTold s a n (went.On at) = read a (drop at s) n
-wentTold s a n (went.Bad f) = faultyIn s f
-
 abbrev pub jobsTold : List ℕ → ℕ → Jobs → Reading (List Job)
-jobsTold s jobs r = wentTold s (take jobs (r .job)) (5 + 4 * jobs) (r .went)
+jobsTold s jobs r = atTold s (5 + 4 * jobs) (wentAt (take jobs (r .job)) (r .went))
 
 -- the places past the jobs that were read hold zeros
 abbrev pub jobsFilled : ℕ → Jobs → Type 0
 jobsFilled jobs r = IfOn (r .went) (r .job ≡ filled mostJobs noJob (take jobs (r .job)))
-
--- the fault of a group that has one
-abbrev pub wentFault : Went → Faulty
-wentFault (went.On at) = noFault
-wentFault (went.Bad f) = f
 
 -- a bound line by itself, with the pairs that are wrong after the bounds before it
 abbrev pub boundLined : ℕ → (EventName → EventName → Bool) → List ℕ → Lined Bound
 boundLined jobs isWrong l = linedBound (boundOf jobs isWrong (boundParts (afterKey (bytes "bound=") l)))
 
 abbrev pub boundsTold : List ℕ → ℕ → ℕ → Bounds → Reading (List Bound)
-boundsTold s n bounds r = wentTold s (take bounds (r .bound)) (n + bounds) (r .went)
+boundsTold s n bounds r = atTold s (n + bounds) (wentAt (take bounds (r .bound)) (r .went))
 
 abbrev pub boundsFilled : ℕ → Bounds → Type 0
 boundsFilled bounds r = IfOn (r .went) (r .bound ≡ filled mostBounds noBound (take bounds (r .bound)))
@@ -129,5 +124,5 @@ firstFault f = record { window = pos 0; rounds = 0; last = 0; jobs = 0; went = w
 
 pub record FirstTold (s : List ℕ) (m : Reading Plan) (r : First) : Type 0 where
   pub told : m ≡ firstRest s r (r .went)
-  pub place : wentPlace (r .went) ≤ length s
+  pub place : atPlace (endAt (r .went)) ≤ length s
   pub few : r .jobs ≤ 9

@@ -18,7 +18,9 @@ use Rattle.text.specs.declared.Fault.{Fault}
 use Rattle.plan.specs.declared.Refusal.{Refusal}
 use Rattle.plan.specs.declared.Refusal.the-variants.{Form}
 use Rattle.plan.specs.declared.Faulty.{Faulty}
-use Rattle.plan.specs.ReadAt.{At, goes, stops, atTold, atPlace, atFault, faultyIn, planRest}
+use Rattle.plan.specs.declared.Went.{Went}
+use Rattle.plan.specs.declared.Went.the-variants as went
+use Rattle.plan.specs.ReadAt.{At, goes, stops, atTold, atPlace, atFault, faultyIn, wentAt, endAt, planRest}
 use Rattle.plan.specs.Limits.{longestWindow, mostJobs, longestRunning, latestDeadline}
 use Rattle.plan.specs.Refusals.{faultAt}
 use Rattle.plan.specs.Reading.{Lined, value, bad, Reading, read, refused, next, lined, line, numberLine}
@@ -76,6 +78,11 @@ module _ {A : Type 0} (r : At A) (k : ℕ) (fits : atPlace r ≤ k) where
 
   pub atPlace-stops : {f g : Faulty} → r ≡ stops f → g ≡ atFault r → g .at ≤ k
   atPlace-stops e d = subst (λ x. x .at ≤ k) (sym (d ∙ ap atFault e)) (subst (λ x. atPlace x ≤ k) e fits)
+
+-- the fault of a group of lines is the same whatever was read there
+pub endAt-fault : {A : Type 0} (a : A) (w : Went) → atFault (endAt w) ≡ atFault (wentAt a w)
+endAt-fault a (went.On at) = refl
+endAt-fault a (went.Bad f) = refl
 
 -- ---- the lines of a job
 

@@ -15,13 +15,13 @@ ghost use mathlib.Core.List.{[]};
 ghost use Prim.Native.Nat.{_+_, _≤_};
 ghost use lib.ListN.{length, drop};
 ghost use Rattle.plan.specs.PlanRead.{boundsAfter};
-ghost use Rattle.plan.specs.ReadAt.{boundsTold, boundsFilled, wentPlace};
+ghost use Rattle.plan.specs.ReadAt.{boundsTold, boundsFilled, endAt, atPlace};
 
 // So many bounds, whose lines begin at a place with a line of a number. The pairs given are kept as numbers beside the bounds.
 pub fn read_bounds(s: &[u8], from: usize, number: usize, jobs: usize, bounds: usize) -> Bounds
     requires { ⌜ (from ≤ length (now s)) × ((number ≤ 1000) × ((jobs ≤ 9) × (bounds ≤ 64))) ⌝ }
     ensures { λ r. ⌜ boundsAfter jobs [] bounds (drop from (now (s .entry))) number ≡ boundsTold (now (s .entry)) number bounds r ⌝ }
-    ensures { λ r. ⌜ wentPlace (r .went) ≤ length (now (s .entry)) ⌝ }
+    ensures { λ r. ⌜ atPlace (endAt (r .went)) ≤ length (now (s .entry)) ⌝ }
     ensures { λ r. ⌜ boundsFilled bounds r ⌝ }
 {
     let nowhere = EventName {

@@ -12,7 +12,7 @@ ghost use lib.IntN.{pos, natAbs};
 ghost use lib.ListN.{length};
 ghost use lib.Signed.{_≤ℤ_};
 ghost use Rattle.plan.specs.PlanRead.{planLines};
-ghost use Rattle.plan.specs.ReadAt.{FirstTold, firstFault, wentFault};
+ghost use Rattle.plan.specs.ReadAt.{FirstTold, firstFault, endAt, atFault};
 
 // A number that is not negative, as a count.
 pub fn count(z: i32) -> u64
@@ -24,7 +24,7 @@ pub fn count(z: i32) -> u64
 
 // The fault of lines that are faulty.
 pub fn went_fault(w: Went) -> Faulty
-    ensures { λ r. ⌜ r ≡ wentFault w ⌝ }
+    ensures { λ r. ⌜ r ≡ atFault (endAt w) ⌝ }
 {
     match w {
         Went::On(_) => Faulty {

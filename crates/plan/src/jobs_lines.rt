@@ -11,13 +11,13 @@ ghost use mathlib.Core.List.{[]};
 ghost use Prim.Native.Nat.{_+_, _*_, _≤_};
 ghost use lib.ListN.{length, drop};
 ghost use Rattle.plan.specs.PlanRead.{jobsAfter};
-ghost use Rattle.plan.specs.ReadAt.{jobsTold, jobsFilled, wentPlace};
+ghost use Rattle.plan.specs.ReadAt.{jobsTold, jobsFilled, endAt, atPlace};
 
 // So many jobs, whose lines begin at a place with line 5.
 pub fn read_jobs(s: &[u8], from: usize, jobs: usize) -> Jobs
     requires { ⌜ (from ≤ length (now s)) × (jobs ≤ 9) ⌝ }
     ensures { λ r. ⌜ jobsAfter [] jobs (drop from (now (s .entry))) 5 ≡ jobsTold (now (s .entry)) jobs r ⌝ }
-    ensures { λ r. ⌜ wentPlace (r .went) ≤ length (now (s .entry)) ⌝ }
+    ensures { λ r. ⌜ atPlace (endAt (r .went)) ≤ length (now (s .entry)) ⌝ }
     ensures { λ r. ⌜ jobsFilled jobs r ⌝ }
 {
     let none = Job {

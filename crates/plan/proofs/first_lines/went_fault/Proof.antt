@@ -1,4 +1,4 @@
--- `went_fault`: each arm is a clause of `wentFault`.
+-- `went_fault`: each arm is a clause of `endAt` and of `atFault`.
 use borrow.Author.Needs.{needs}
 use Rattle.plan.proofs.first_lines.went_fault.Statement.{statement}
 use Rattle.plan.proofs.first_lines.went_fault.Tie as tie

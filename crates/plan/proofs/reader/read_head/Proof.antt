@@ -21,9 +21,9 @@ use Rattle.plan.specs.Limits.{mostJobs, mostBounds}
 use Rattle.plan.specs.Reading.{read, numberLine}
 use Rattle.plan.specs.ReadingLaws.{numberLine-read}
 use Rattle.plan.specs.PlanRead.{jobsAfter, boundsAfter, noJob, noBound, filled, planHead}
-use Rattle.plan.specs.ReadAt.{numberAt, planRest, firstRest, wentPlace, wentFault, faultyIn, IfOn}
-use Rattle.plan.specs.ReadAtLaws.{atTold-goes, atTold-stops, atPlace-goes, atPlace-stops}
-use Rattle.plan.specs.HeadLaws.{planHead-long, planHead-short, planRest-jobs, planRest-count, planRest-bounds, planRest-all, went-on, went-bad, planRead-refused, planRead-accepted}
+use Rattle.plan.specs.ReadAt.{numberAt, wentAt, endAt, atFault, planRest, firstRest, faultyIn, IfOn}
+use Rattle.plan.specs.ReadAtLaws.{atTold-goes, atTold-stops, atPlace-goes, atPlace-stops, endAt-fault}
+use Rattle.plan.specs.HeadLaws.{planHead-long, planHead-short, planRest-jobs, planRest-count, planRest-bounds, planRest-all, planRead-refused, planRead-accepted}
 use borrow.Author.Needs.{needs}
 use Rattle.plan.proofs.reader.read_head.Statement.{statement}
 use Rattle.plan.proofs.reader.read_head.Tie as tie
@@ -57,10 +57,10 @@ returns-2 c =
     let s = now (f .before .before .before .args .s) in
     let r = f .read-first in
     let e = planHead-short s (f .before .if1 .left) ∙ r .ensures .told ∙ ap (firstRest s (r .result)) (c .before .before .enum-told .given .1) in
-    let g = c .before .went-fault .ensures ∙ ap wentFault (c .before .before .enum-told .given .1) in
+    let g = c .before .went-fault .ensures ∙ ap (λ w. atFault (endAt w)) (c .before .before .enum-told .given .1) in
     c .refused-plan2 .ensures
     ∙ planRead-refused s (c .before .went-fault .result)
-    (subst (λ x. x .at ≤ length s) (sym g) (subst (λ w. wentPlace w ≤ length s) (c .before .before .enum-told .given .1) (r .ensures .place)))
+    (atPlace-stops (endAt (r .result .went)) (length s) (r .ensures .place) (ap endAt (c .before .before .enum-told .given .1)) (c .before .went-fault .ensures))
     (e ∙ ap (faultyIn s) (sym g))
 
 -- ---- after the first four lines
@@ -80,7 +80,7 @@ head₁ c =
     planHead-short (s₁ c) (f .before .if1 .left) ∙ f .read-first .ensures .told ∙ ap (firstRest (s₁ c) (first₁ c)) (c .before .went .given .1)
 
 place₁ : (c : tie.After-known-told) → at₁ c ≤ length (s₁ c)
-place₁ c = subst (λ w. wentPlace w ≤ length (s₁ c)) (c .before .went .given .1) (c .before .before .before .read-first .ensures .place)
+place₁ c = atPlace-goes (endAt (first₁ c .went)) (length (s₁ c)) (c .before .before .before .read-first .ensures .place) (ap endAt (c .before .went .given .1))
 
 read-jobs-requires : tie.Need-read-jobs-requires
 read-jobs-requires c κs = (place₁ c, c .before .before .before .read-first .ensures .few)
@@ -101,12 +101,11 @@ returns-3 : tie.Need-returns-3
 returns-3 c =
     let p = c .before .before .before .before .before in
     let r = c .before .before .before .before .read-jobs in
-    let g = c .before .went-fault2 .ensures ∙ ap wentFault (c .before .before .enum-told2 .given .1) in
     c .refused-plan3 .ensures
     ∙ planRead-refused (s₁ p) (c .before .went-fault2 .result)
-    (subst (λ x. x .at ≤ length (s₁ p)) (sym g) (subst (λ w. wentPlace w ≤ length (s₁ p)) (c .before .before .enum-told2 .given .1) (r .ensures .1 .0)))
+    (atPlace-stops (endAt (r .result .went)) (length (s₁ p)) (r .ensures .1 .0) (ap endAt (c .before .before .enum-told2 .given .1)) (c .before .went-fault2 .ensures))
     (head₁ p ∙ planRest-jobs (first₁ p .window) (first₁ p .rounds) (first₁ p .last) (first₁ p .jobs) (drop (at₁ p) (s₁ p))
-    (went-bad (s₁ p) _ _ (r .result .went) (r .ensures .0) (c .before .before .enum-told2 .given .1) (c .before .went-fault2 .ensures)))
+    (atTold-stops (s₁ p) _ (wentAt _ (r .result .went)) (r .ensures .0) (ap (wentAt _) (c .before .before .enum-told2 .given .1)) (c .before .went-fault2 .ensures ∙ endAt-fault _ (r .result .went))))
 
 mul-number : tie.Need-mul-number
 mul-number c = search needs
@@ -130,10 +129,10 @@ jobs₂ c = c .before .before .before .read-jobs .result
 
 told₂ : (c : tie.After-known-told2)
     → jobsAfter [] (first₁ (p₂ c) .jobs) (drop (at₁ (p₂ c)) (s₁ (p₂ c))) 5 ≡ read (take (first₁ (p₂ c) .jobs) (jobs₂ c .job)) (drop (at₂ c) (s₁ (p₂ c))) (5 + 4 * first₁ (p₂ c) .jobs)
-told₂ c = went-on (s₁ (p₂ c)) _ _ (jobs₂ c .went) (c .before .before .before .read-jobs .ensures .0) (c .before .jobs-went .given .1)
+told₂ c = atTold-goes (s₁ (p₂ c)) _ (wentAt _ (jobs₂ c .went)) (c .before .before .before .read-jobs .ensures .0) (ap (wentAt _) (c .before .jobs-went .given .1))
 
 place₂ : (c : tie.After-known-told2) → at₂ c ≤ length (s₁ (p₂ c))
-place₂ c = subst (λ w. wentPlace w ≤ length (s₁ (p₂ c))) (c .before .jobs-went .given .1) (c .before .before .before .read-jobs .ensures .1 .0)
+place₂ c = atPlace-goes (endAt (jobs₂ c .went)) (length (s₁ (p₂ c))) (c .before .before .before .read-jobs .ensures .1 .0) (ap endAt (c .before .jobs-went .given .1))
 
 filled₂ : (c : tie.After-known-told2) → jobs₂ c .job ≡ filled mostJobs noJob (take (first₁ (p₂ c) .jobs) (jobs₂ c .job))
 filled₂ c =
@@ -226,14 +225,13 @@ returns-5 c =
     let q = q₃ d in
     let p = p₂ q in
     let r = b .read-bounds in
-    let g = c .before .went-fault3 .ensures ∙ ap wentFault (c .before .before .enum-told4 .given .1) in
     let n = b .before .count .ensures ∙ ap natAbs (z-back d) in
     c .refused-plan5 .ensures
     ∙ planRead-refused (s₁ p) (c .before .went-fault3 .result)
-    (subst (λ x. x .at ≤ length (s₁ p)) (sym g) (subst (λ w. wentPlace w ≤ length (s₁ p)) (c .before .before .enum-told4 .given .1) (r .ensures .1 .0)))
+    (atPlace-stops (endAt (r .result .went)) (length (s₁ p)) (r .ensures .1 .0) (ap endAt (c .before .before .enum-told4 .given .1)) (c .before .went-fault3 .ensures))
     (head₁ p ∙ planRest-bounds (first₁ p .window) (first₁ p .rounds) (first₁ p .last) (first₁ p .jobs) (drop (at₁ p) (s₁ p)) (told₂ q) (told₃ d)
     (ap (λ (k : ℕ). boundsAfter (first₁ p .jobs) [] k (drop (at₃ d) (s₁ p)) (5 + 4 * first₁ p .jobs + 1)) (sym n)
-    ∙ went-bad (s₁ p) _ _ (r .result .went) (r .ensures .0) (c .before .before .enum-told4 .given .1) (c .before .went-fault3 .ensures)))
+    ∙ atTold-stops (s₁ p) _ (wentAt _ (r .result .went)) (r .ensures .0) (ap (wentAt _) (c .before .before .enum-told4 .given .1)) (c .before .went-fault3 .ensures ∙ endAt-fault _ (r .result .went))))
 
 add-after : tie.Need-add-after
 add-after c =
@@ -268,10 +266,10 @@ returns-6 c =
     subst (λ w. IfOn w (r .result .bound ≡ filled mostBounds noBound (take k (r .result .bound)))) (e .before .bounds-went .given .1) (r .ensures .1 .1) in
     sym
     (planRead-accepted (s₁ p) _ end (5 + 4 * f .jobs + 1 + k)
-    (subst (λ w. wentPlace w ≤ length (s₁ p)) (e .before .bounds-went .given .1) (r .ensures .1 .0))
+    (atPlace-goes (endAt (r .result .went)) (length (s₁ p)) (r .ensures .1 .0) (ap endAt (e .before .bounds-went .given .1)))
     (head₁ p ∙ planRest-all (f .window) (f .rounds) (f .last) (f .jobs) (drop (at₁ p) (s₁ p)) (told₂ q) (told₃ d)
     (ap (λ (x : ℕ). boundsAfter (f .jobs) [] x (drop (at₃ d) (s₁ p)) (5 + 4 * f .jobs + 1)) (sym n)
-    ∙ went-on (s₁ p) _ _ (r .result .went) (r .ensures .0) (e .before .bounds-went .given .1)))
+    ∙ atTold-goes (s₁ p) _ (wentAt _ (r .result .went)) (r .ensures .0) (ap (wentAt _) (e .before .bounds-went .given .1))))
     ∙ same-plan (f .rounds) (f .last) (f .jobs) end (5 + 4 * f .jobs + 1 + k) (sym back) (sym (filled₂ q)) (sym n) (sym full))
 
 pub read-head-spec : {M : Type 1} → statement M
