@@ -16,13 +16,13 @@ use Rattle.plan.specs.declared.Job.{Job}
 use Rattle.plan.specs.declared.Bound.{Bound}
 use Rattle.plan.specs.declared.Plan.{Plan}
 use Rattle.plan.specs.declared.PlanAnswer.the-variants.{Accepted, Refused}
-use Rattle.plan.specs.Limits.{longestText, mostJobs, mostBounds}
+use Rattle.plan.specs.Limits.{longestText}
 use Rattle.plan.specs.Reading.{Reading, read, refused, next, numberLine}
-use Rattle.plan.specs.PlanRead.{jobsAfter, boundsAfter, noJob, noBound, filled, planLines, planHead, nothingAfter}
+use Rattle.plan.specs.PlanRead.{jobsAfter, boundsAfter, planOf, planRest, planLines, planHead, nothingAfter}
 use Rattle.plan.specs.PlanWritten.{planText}
 use Rattle.plan.specs.PlanLaws.{planHead-written}
 use Rattle.plan.specs.PlanAnswers.{planRead, refusedRead}
-use Rattle.plan.specs.ReadAt.{faultyIn, planRest}
+use Rattle.plan.specs.ReadAt.{faultyIn}
 
 -- ---- the length
 
@@ -52,8 +52,7 @@ module _ (window : ℤ) (rounds last jobs : ℕ) (s : List ℕ) where
       planRest-bounds e = rw (e₁, e₂, e)
 
       pub planRest-all : {ds : List Bound} {t : List ℕ} {n : ℕ} → boundsAfter jobs [] (natAbs z) s₂ n₂ ≡ read ds t n
-          → planRest window rounds last jobs s 5
-          ≡ read (record { window = window; rounds = rounds; last = last; jobs = jobs; job = filled mostJobs noJob js; bounds = natAbs z; bound = filled mostBounds noBound ds }) t n
+          → planRest window rounds last jobs s 5 ≡ read (planOf window rounds last jobs js (natAbs z) ds) t n
       unfolding next
       planRest-all e = rw (e₁, e₂, e)
 

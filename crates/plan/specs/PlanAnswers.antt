@@ -9,22 +9,12 @@ use Rattle.plan.specs.declared.Plan.{Plan}
 use Rattle.plan.specs.declared.PlanAnswer.{PlanAnswer}
 use Rattle.plan.specs.declared.PlanAnswer.the-variants.{Accepted, Refused}
 use Rattle.plan.specs.declared.PlanRead.{PlanRead}
-use Rattle.plan.specs.Limits.{mostJobs, mostBounds}
 use Rattle.plan.specs.Reading.{Reading, read, refused}
-use Rattle.plan.specs.PlanRead.{noJob, noBound, filled}
+use Rattle.plan.specs.PlanRead.{planOf}
 
 -- the plan beside a refusal
 abbrev pub emptyPlan : Plan
-emptyPlan =
-    record {
-      window = pos 0;
-      rounds = 0;
-      last = 0;
-      jobs = 0;
-      job = filled mostJobs noJob [];
-      bounds = 0;
-      bound = filled mostBounds noBound [];
-    }
+emptyPlan = planOf (pos 0) 0 0 0 [] 0 []
 
 abbrev pub refusedRead : Faulty → PlanRead
 refusedRead f = record { answer = Refused (f .refusal); plan = emptyPlan; at = f .at; line = 0 }

@@ -28,7 +28,7 @@ use Rattle.plan.specs.declared.Plan.{Plan}
 use Rattle.plan.specs.Limits.{longestText, mostJobs, mostBounds, leastC, greatestC}
 use Rattle.plan.specs.Refusals.{tooLong}
 use Rattle.plan.specs.Reading.{value, Reading, read, refused, Reader, next}
-use Rattle.plan.specs.PlanRead.{jobLines, jobsAfter, BoundParts, partsOf, boundParts, isJob, isWrongPair, boundOf, linedBound, boundIn, boundsAfter, noJob, noBound, filled, planLines, planHead, nothingAfter, planAlone}
+use Rattle.plan.specs.PlanRead.{jobLines, jobsAfter, BoundParts, partsOf, boundParts, isJob, isWrongPair, boundOf, linedBound, boundIn, boundsAfter, noJob, noBound, filled, planOf, planLines, planHead, nothingAfter, planAlone}
 use Rattle.plan.specs.EventNames.{nameBytes, eventName}
 use Rattle.plan.specs.EventNameLaws.{eventName-written}
 use Rattle.plan.specs.PlanWritten.{keyed, boundBytes, jobsText, boundsText, trimmed, planText}
@@ -227,18 +227,6 @@ boundsAfter-then {B} {G} jobs given (suc left) s n f {b} {t} {k} e go =
     }) (rw append-assoc at o))))
 
 -- ---- the plan
-
-abbrev pub planOf : ℤ → ℕ → ℕ → ℕ → List Job → ℕ → List Bound → Plan
-planOf window rounds last jobs js bounds ds =
-    record {
-      window = window;
-      rounds = rounds;
-      last = last;
-      jobs = jobs;
-      job = filled mostJobs noJob js;
-      bounds = bounds;
-      bound = filled mostBounds noBound ds;
-    }
 
 -- what a plan's lines tell: the plan is accepted, its text is what was read, and the places beyond its jobs and bounds hold zeros
 pub record PlanRead (s : List ℕ) (p : Plan) (t : List ℕ) : Type 0 where

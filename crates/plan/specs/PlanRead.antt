@@ -134,6 +134,26 @@ noBound = record { a = noEvent; b = noEvent; c = pos 0 }
 abbrev pub filled : {A : Type 0} → ℕ → A → List A → List A
 filled size d xs = xs ++ replicate (size - length xs) d
 
+abbrev pub planOf : ℤ → ℕ → ℕ → ℕ → List Job → ℕ → List Bound → Plan
+planOf window rounds last jobs job bounds bound =
+    record {
+      window = window;
+      rounds = rounds;
+      last = last;
+      jobs = jobs;
+      job = filled mostJobs noJob job;
+      bounds = bounds;
+      bound = filled mostBounds noBound bound;
+    }
+
+-- the lines after the first four: the jobs, the count of the bounds, and the bounds
+abbrev pub planRest : ℤ → ℕ → ℕ → ℕ → Reader Plan
+planRest window rounds last jobs = do
+  job ← jobsAfter [] jobs
+  bounds ← countLine (bytes "bounds=") 0 mostBounds
+  bound ← boundsAfter jobs [] bounds
+  answer (planOf window rounds last jobs job bounds bound)
+
 -- 'Key=value lines in this order': the table, line by line
 unfoldable pub planLines : Reader Plan
 planLines = do
@@ -141,19 +161,7 @@ planLines = do
   rounds ← countLine (bytes "rounds=") 1 mostRounds
   last ← countLine (bytes "last=") 1 mostWindows
   jobs ← countLine (bytes "jobs=") 1 mostJobs
-  job ← jobsAfter [] jobs
-  bounds ← countLine (bytes "bounds=") 0 mostBounds
-  bound ← boundsAfter jobs [] bounds
-  answer
-      (record {
-        window = window;
-        rounds = rounds;
-        last = last;
-        jobs = jobs;
-        job = filled mostJobs noJob job;
-        bounds = bounds;
-        bound = filled mostBounds noBound bound;
-      })
+  planRest window rounds last jobs
 
 -- 'Length comes first': a plan at the head of a text, with the steps that may follow it. 'for D = 0 .. that part is empty'
 unfoldable pub planHead : List ℕ → Reading Plan

@@ -11,10 +11,9 @@ use Rattle.plan.specs.declared.Job.{Job}
 use Rattle.plan.specs.declared.Bound.{Bound}
 use Rattle.plan.specs.declared.Plan.{Plan}
 use Rattle.plan.specs.declared.Refusal.{Refusal}
-use Rattle.plan.specs.Limits.{mostJobs, mostBounds}
 use Rattle.plan.specs.Reading.{Reading, read, refused}
 use Rattle.plan.specs.EventNames.{nameBytes}
-use Rattle.plan.specs.PlanRead.{noJob, noBound, filled, planAlone}
+use Rattle.plan.specs.PlanRead.{planOf, planAlone}
 
 -- a line that is a key and a number, with the text that follows it
 abbrev pub keyed : List ℕ → ℤ → List ℕ → List ℕ
@@ -46,16 +45,7 @@ boundsOf p = take (p .bounds) (p .bound)
 
 -- the same plan with the reader's zeros in the places beyond them
 unfoldable pub trimmed : Plan → Plan
-trimmed p =
-    record {
-      window = p .window;
-      rounds = p .rounds;
-      last = p .last;
-      jobs = p .jobs;
-      job = filled mostJobs noJob (jobsOf p);
-      bounds = p .bounds;
-      bound = filled mostBounds noBound (boundsOf p);
-    }
+trimmed p = planOf (p .window) (p .rounds) (p .last) (p .jobs) (jobsOf p) (p .bounds) (boundsOf p)
 
 -- the plan's lines, in the document's order
 unfoldable pub planText : Plan → List ℕ

@@ -1,7 +1,7 @@
 -- The answers of the code's line readers, as readings of the text that they stand in: a place in the text stands for the text from there on.
 use Prim.Native.Nat.{ℕ, _+_, _*_, _≤_}
 use mathlib.Core.Path.{_≡_}
-use mathlib.Core.List.{List, []}
+use mathlib.Core.List.{List}
 use mathlib.Core.Bool.{Bool}
 use Rattle.text.specs.Bytes.{bytes}
 use Rattle.text.specs.Lines.{afterKey}
@@ -25,8 +25,8 @@ use Rattle.plan.specs.declared.Went.the-variants as went
 use Rattle.plan.specs.declared.Jobs.{Jobs}
 use Rattle.plan.specs.declared.Refusal.the-variants.{Form}
 use Rattle.plan.specs.Limits.{mostJobs, mostBounds}
-use Rattle.plan.specs.PlanRead.{countLine, jobsAfter, boundParts, boundOf, linedBound, boundsAfter, noJob, noBound, filled}
-use Rattle.plan.specs.Reading.{Lined, Reading, read, refused, Reader, _>>=_, answer}
+use Rattle.plan.specs.PlanRead.{boundParts, boundOf, linedBound, noJob, noBound, filled, planRest}
+use Rattle.plan.specs.Reading.{Lined, Reading, read, refused}
 
 abbrev pub faultyIn : {A : Type 0} → List ℕ → Faulty → Reading A
 faultyIn s f = refused (f .refusal) (drop (f .at) s)
@@ -96,23 +96,6 @@ boundsTold s n bounds r = atTold s (n + bounds) (wentAt (take bounds (r .bound))
 
 abbrev pub boundsFilled : ℕ → Bounds → Type 0
 boundsFilled bounds r = IfOn (r .went) (r .bound ≡ filled mostBounds noBound (take bounds (r .bound)))
-
--- the lines after the first four: the jobs, the count of the bounds, and the bounds
-abbrev pub planRest : ℤ → ℕ → ℕ → ℕ → Reader Plan
-planRest window rounds last jobs = do
-  job ← jobsAfter [] jobs
-  bounds ← countLine (bytes "bounds=") 0 mostBounds
-  bound ← boundsAfter jobs [] bounds
-  answer
-      (record {
-        window = window;
-        rounds = rounds;
-        last = last;
-        jobs = jobs;
-        job = filled mostJobs noJob job;
-        bounds = bounds;
-        bound = filled mostBounds noBound bound;
-      })
 
 -- what is left of the plan's lines after the first four, or their fault
 abbrev pub firstRest : List ℕ → First → Went → Reading Plan

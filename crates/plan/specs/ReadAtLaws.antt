@@ -20,11 +20,11 @@ use Rattle.plan.specs.declared.Refusal.the-variants.{Form}
 use Rattle.plan.specs.declared.Faulty.{Faulty}
 use Rattle.plan.specs.declared.Went.{Went}
 use Rattle.plan.specs.declared.Went.the-variants as went
-use Rattle.plan.specs.ReadAt.{At, goes, stops, atTold, atPlace, atFault, faultyIn, wentAt, endAt, planRest}
+use Rattle.plan.specs.ReadAt.{At, goes, stops, atTold, atPlace, atFault, faultyIn, wentAt, endAt}
 use Rattle.plan.specs.Limits.{longestWindow, mostJobs, longestRunning, latestDeadline}
 use Rattle.plan.specs.Refusals.{faultAt}
 use Rattle.plan.specs.Reading.{Lined, value, bad, Reading, read, refused, next, lined, line, numberLine}
-use Rattle.plan.specs.PlanRead.{jobLines, planLines}
+use Rattle.plan.specs.PlanRead.{jobLines, planRest, planLines}
 
 -- ---- a line at a place: t is the rest of the text, and i the length to its LF
 

@@ -38,11 +38,10 @@ use Rattle.plan.specs.Limits.{longestText, longestWindow, mostRounds, mostWindo
 use Rattle.plan.specs.Reading.{Lined, Reading, read, refused, Reader, next, _>>=_, answer, lined, line, linedNumber, numberLine}
 use Rattle.plan.specs.EventNames.{letterByte, kindByte, nameBytes, eventName}
 use Rattle.plan.specs.EventNameLaws.{eventName-back, eventName-long}
-use Rattle.plan.specs.PlanRead.{countLine, jobLines, jobsAfter, partsOf, boundParts, isJob, isWrongPair, judgedBound, boundOf, linedBound, boundIn, boundsAfter, planLines, nothingAfter}
+use Rattle.plan.specs.PlanRead.{countLine, jobLines, jobsAfter, partsOf, boundParts, isJob, isWrongPair, judgedBound, boundOf, linedBound, boundIn, boundsAfter, planOf, planRest, planLines, nothingAfter}
 use Rattle.plan.specs.PlanWritten.{keyed, jobsText, boundBytes, boundsText, jobsOf, boundsOf, trimmed, planText, refusalOf, judgedPlan}
 use Rattle.plan.specs.HeadLaws.{planHead-short}
-use Rattle.plan.specs.ReadAt.{planRest}
-use Rattle.plan.specs.PlanLaws.{boundBytes-append, planOf}
+use Rattle.plan.specs.PlanLaws.{boundBytes-append}
 use Rattle.values.specs.PlanJudged.{judgedAnswer, andThen, numberJudged, jobJudged, jobsJudged, isOneDigit, lineJudged, boundJudged, boundsJudged, planJudged}
 
 -- ---- one answer after another

@@ -20,8 +20,8 @@ use Rattle.plan.specs.declared.Jobs.{Jobs}
 use Rattle.plan.specs.Limits.{mostJobs, mostBounds}
 use Rattle.plan.specs.Reading.{read, numberLine}
 use Rattle.plan.specs.ReadingLaws.{numberLine-read}
-use Rattle.plan.specs.PlanRead.{jobsAfter, boundsAfter, noJob, noBound, filled, planHead}
-use Rattle.plan.specs.ReadAt.{numberAt, wentAt, endAt, atFault, planRest, firstRest, faultyIn, IfOn}
+use Rattle.plan.specs.PlanRead.{jobsAfter, boundsAfter, noJob, noBound, filled, planRest, planHead}
+use Rattle.plan.specs.ReadAt.{numberAt, wentAt, endAt, atFault, firstRest, faultyIn, IfOn}
 use Rattle.plan.specs.ReadAtLaws.{atTold-goes, atTold-stops, atPlace-goes, atPlace-stops, endAt-fault}
 use Rattle.plan.specs.HeadLaws.{planHead-long, planHead-short, planRest-jobs, planRest-count, planRest-bounds, planRest-all, planRead-refused, planRead-accepted}
 use borrow.Author.Needs.{needs}
