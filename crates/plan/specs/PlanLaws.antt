@@ -34,7 +34,7 @@ use Rattle.plan.specs.EventNameLaws.{eventName-written}
 use Rattle.plan.specs.PlanWritten.{keyed, boundBytes, jobsText, boundsText, trimmed, planText}
 use Rattle.plan.specs.ListLaws.{All, All-at, filled-length, filled-at, filled-take, filled-all}
 use Rattle.plan.specs.Accepted.{JobAccepted, BoundAccepted, Accepted}
-use Rattle.plan.specs.ReadingLaws.{next-then, next-of, line-read, line-written, numberLine-then, countLine-then}
+use Rattle.plan.specs.ReadingLaws.{Then, _>>=_, next-then, next-of, line-read, line-written, numberLine-then, countLine-then}
 
 -- ---- jobs
 
@@ -42,38 +42,37 @@ pub record JobRead (s : List ℕ) (j : Job) (t : List ℕ) : Type 0 where
   pub accepted : JobAccepted j
   pub written : s ≡ jobsText (j ∷ []) t
 
-pub jobLines-then : {B G : Type 0} (s : List ℕ) (n : ℕ) (f : Job → Reader B) {b : B} {t : List ℕ} {k : ℕ}
-    → next (jobLines s n) f ≡ read b t k → ((j : Job) (r : List ℕ) → JobRead s j r → f j r (suc (suc (suc (suc n)))) ≡ read b t k → G) → G
-unfolding jobLines jobsText
-jobLines-then s n f {b} {t} {k} e go =
-    next-then (jobLines s n) f e
-    (λ j r i d h.
-    numberLine-then _ _ _ _ _ _ d
-    (λ z1 r1 q1 d1.
-    numberLine-then _ _ _ _ _ _ d1
-    (λ z2 r2 q2 d2.
-    numberLine-then _ _ _ _ _ _ d2
-    (λ z3 r3 q3 d3.
-    numberLine-then _ _ _ _ _ _ d3
-    (λ z4 r4 q4 d4.
-    go
-    (record { min = z1; max = z2; release = z3; deadline = z4 })
-    r4
-    (record {
+pub jobLines-then : {B : Type 0} (s : List ℕ) (n : ℕ) (f : Job → Reader B) {b : B} {t : List ℕ} {k : ℕ}
+    → next (jobLines s n) f ≡ read b t k → Then (λ j r i. JobRead s j r) f b t k
+unfolding jobLines jobsText next
+jobLines-then s n f e = do
+  all ← next-then (jobLines s n) f e
+  min ← numberLine-then _ _ _ _ _ _ (all .told)
+  max ← numberLine-then _ _ _ _ _ _ (min .more)
+  release ← numberLine-then _ _ _ _ _ _ (max .more)
+  deadline ← numberLine-then _ _ _ _ _ _ (release .more)
+  record {
+    got = record { min = min .got; max = max .got; release = release .got; deadline = deadline .got };
+    left = deadline .left;
+    line = deadline .line;
+    told = record {
       accepted = record {
-        min-least = q1 .least;
-        min-most = q2 .least;
-        max-most = q2 .most;
-        release-least = q3 .least;
-        release-most = q3 .most;
-        deadline-least = q4 .least;
-        deadline-most = q4 .most;
+        min-least = min .told .least;
+        min-most = max .told .least;
+        max-most = max .told .most;
+        release-least = release .told .least;
+        release-most = release .told .most;
+        deadline-least = deadline .told .least;
+        deadline-most = deadline .told .most;
       };
       written =
-          q1 .written
-          ∙ ap (keyed (bytes "min=") z1) (q2 .written ∙ ap (keyed (bytes "max=") z2) (q3 .written ∙ ap (keyed (bytes "release=") z3) (q4 .written)));
-    })
-    (cc))))))
+          min .told .written
+          ∙ ap (keyed (bytes "min=") (min .got))
+          (max .told .written
+          ∙ ap (keyed (bytes "max=") (max .got)) (release .told .written ∙ ap (keyed (bytes "release=") (release .got)) (deadline .told .written)));
+    };
+    more = next-of f (deadline .more) (all .more);
+  }
 
 -- so many jobs more: those that were read, in their order
 pub record JobsRead (left : ℕ) (s : List ℕ) (js : List Job) (t : List ℕ) : Type 0 where
@@ -81,17 +80,25 @@ pub record JobsRead (left : ℕ) (s : List ℕ) (js : List Job) (t : List ℕ) :
   pub accepted : All JobAccepted js
   pub written : s ≡ jobsText js t
 
-pub jobsAfter-then : {B G : Type 0} (done : List Job) (left : ℕ) (s : List ℕ) (n : ℕ) (f : List Job → Reader B) {b : B} {t : List ℕ} {k : ℕ}
-    → next (jobsAfter done left s n) f ≡ read b t k → ((js : List Job) (r : List ℕ) (i : ℕ) → JobsRead left s js r → f (done ++ js) r i ≡ read b t k → G) → G
+pub jobsAfter-then : {B : Type 0} (done : List Job) (left : ℕ) (s : List ℕ) (n : ℕ) (f : List Job → Reader B) {b : B} {t : List ℕ} {k : ℕ}
+    → next (jobsAfter done left s n) f ≡ read b t k → Then (λ js r i. JobsRead left s js r) (λ js. f (done ++ js)) b t k
 unfolding jobsAfter next jobsText
-jobsAfter-then done zero s n f e go = go [] s n (record { count = refl; accepted = tt; written = refl }) (rw append-nil e)
-jobsAfter-then {B} {G} done (suc left) s n f {b} {t} {k} e go =
-    next-then (jobsAfter done (suc left) s n) f e
-    (λ js r i d h.
-    jobLines-then s n _ d
-    (λ j u q g.
-    jobsAfter-then (done ++ (j ∷ [])) left u (suc (suc (suc (suc n)))) f (next-of f g h)
-    (λ more v m p y. go (j ∷ more) v m (record { count = ap suc (p .count); accepted = (q .accepted, p .accepted); written = q .written ∙ ap (jobsText (j ∷ [])) (p .written) }) (rw append-assoc at y))))
+jobsAfter-then done zero s n f e = record { got = []; left = s; line = n; told = record { count = refl; accepted = tt; written = refl }; more = rw append-nil e }
+jobsAfter-then done (suc left) s n f e = do
+  all ← next-then (jobsAfter done (suc left) s n) f e
+  job ← jobLines-then s n _ (all .told)
+  others ← jobsAfter-then (done ++ (job .got ∷ [])) left (job .left) (job .line) f (next-of f (job .more) (all .more))
+  record {
+    got = job .got ∷ others .got;
+    left = others .left;
+    line = others .line;
+    told = record {
+      count = ap suc (others .told .count);
+      accepted = (job .told .accepted, others .told .accepted);
+      written = job .told .written ∙ ap (jobsText (job .got ∷ [])) (others .told .written);
+    };
+    more = rw append-assoc at (others .more);
+  }
 
 -- ---- bounds
 
@@ -203,28 +210,32 @@ pub record BoundsRead (jobs : ℕ) (given : List Bound) (left : ℕ) (s : List �
   pub accepted : AllBounds jobs given ds
   pub written : s ≡ boundsText ds ++ t
 
-pub boundsAfter-then : {B G : Type 0} (jobs : ℕ) (given : List Bound) (left : ℕ) (s : List ℕ) (n : ℕ) (f : List Bound → Reader B) {b : B} {t : List ℕ} {k : ℕ}
-    → next (boundsAfter jobs given left s n) f ≡ read b t k → ((ds : List Bound) (r : List ℕ) (i : ℕ) → BoundsRead jobs given left s ds r → f (given ++ ds) r i ≡ read b t k → G) → G
+pub boundsAfter-then : {B : Type 0} (jobs : ℕ) (given : List Bound) (left : ℕ) (s : List ℕ) (n : ℕ) (f : List Bound → Reader B) {b : B} {t : List ℕ} {k : ℕ}
+    → next (boundsAfter jobs given left s n) f ≡ read b t k → Then (λ ds r i. BoundsRead jobs given left s ds r) (λ ds. f (given ++ ds)) b t k
 unfolding boundsAfter next boundsText
-boundsAfter-then jobs given zero s n f e go = go [] s n (record { count = refl; accepted = tt; written = refl }) (rw append-nil e)
-boundsAfter-then {B} {G} jobs given (suc left) s n f {b} {t} {k} e go =
-    next-then (boundsAfter jobs given (suc left) s n) f e
-    (λ js r i y h.
-    next-then _ _ y
-    (λ d u m w g.
-    let q = line-read (λ l. linedBound (boundIn jobs given l)) s n w in
-    let p = boundIn-read jobs given (before LF s) (q .held) in
-    boundsAfter-then jobs (given ++ (d ∷ [])) left u m f (next-of f g h)
-    (λ more v x c o. go (d ∷ more) v x (record {
-      count = ap suc (c .count);
-      accepted = (p .accepted, p .pair, c .accepted);
+boundsAfter-then jobs given zero s n f e = record { got = []; left = s; line = n; told = record { count = refl; accepted = tt; written = refl }; more = rw append-nil e }
+boundsAfter-then jobs given (suc left) s n f e = do
+  all ← next-then (boundsAfter jobs given (suc left) s n) f e
+  bound ← next-then _ _ (all .told)
+  q ← line-read (λ l. linedBound (boundIn jobs given l)) s n (bound .told)
+  p ← boundIn-read jobs given (before LF s) (q .held)
+  others ← boundsAfter-then jobs (given ++ (bound .got ∷ [])) left (bound .left) (bound .line) f (next-of f (bound .more) (all .more))
+  record {
+    got = bound .got ∷ others .got;
+    left = others .left;
+    line = others .line;
+    told = record {
+      count = ap suc (others .told .count);
+      accepted = (p .accepted, p .pair, others .told .accepted);
       written =
           line-written q
-          ∙ ap (λ (l : List ℕ). l ++ (LF ∷ u)) (p .written)
-          ∙ boundBytes-append d [] (LF ∷ u)
-          ∙ ap (λ (x : List ℕ). boundBytes d (LF ∷ x)) (c .written)
-          ∙ sym (boundBytes-append d (LF ∷ boundsText more) v);
-    }) (rw append-assoc at o))))
+          ∙ ap (λ (l : List ℕ). l ++ (LF ∷ bound .left)) (p .written)
+          ∙ boundBytes-append (bound .got) [] (LF ∷ bound .left)
+          ∙ ap (λ (x : List ℕ). boundBytes (bound .got) (LF ∷ x)) (others .told .written)
+          ∙ sym (boundBytes-append (bound .got) (LF ∷ boundsText (others .got)) (others .left));
+    };
+    more = rw append-assoc at (others .more);
+  }
 
 -- ---- the plan
 
@@ -254,65 +265,61 @@ linesOf-append window rounds last jobs js bounds s t = simp (append-assoc, jobsT
 
 pub planLines-read : (s : List ℕ) (n : ℕ) {p : Plan} {t : List ℕ} {k : ℕ} → planLines s n ≡ read p t k → PlanRead s p t
 unfolding planLines planText trimmed
-planLines-read s n {p} {t} {k} e =
-    numberLine-then _ _ _ _ _ _ e
-    (λ window r1 q1 d1.
-    countLine-then _ _ _ _ _ _ d1
-    (λ rounds r2 q2 d2.
-    countLine-then _ _ _ _ _ _ d2
-    (λ last r3 q3 d3.
-    countLine-then _ _ _ _ _ _ d3
-    (λ jobs r4 q4 d4.
-    jobsAfter-then _ _ _ _ _ d4
-    (λ js r5 i5 q5 d5.
-    countLine-then _ _ _ _ _ _ d5
-    (λ bounds r6 q6 d6.
-    boundsAfter-then _ _ _ _ _ _ d6
-    (λ ds r7 i7 q7 d7.
-    let m : _≡_ {A = Plan} (planOf window rounds last jobs js bounds ds) p = cc in
-    let all : length js ≤ mostJobs = omega (arith, q4 .most, q5 .count) in
-    let every : length ds ≤ mostBounds = omega (arith, q6 .most, q7 .count) in
-    let jobs-are : take jobs (filled mostJobs noJob js) ≡ js = filled-all mostJobs noJob js all jobs (q5 .count) in
-    let bounds-are : take bounds (filled mostBounds noBound ds) ≡ ds = filled-all mostBounds noBound ds every bounds (q7 .count) in
-    subst (λ x. PlanRead s x t) m
-    (record {
-      accepted = record {
-        window-least = q1 .least;
-        window-most = q1 .most;
-        rounds-least = q2 .least;
-        rounds-most = q2 .most;
-        last-least = q3 .least;
-        last-most = q3 .most;
-        jobs-least = q4 .least;
-        jobs-most = q4 .most;
-        bounds-most = q6 .most;
-        job-places = filled-length mostJobs noJob js all;
-        bound-places = filled-length mostBounds noBound ds every;
-        job-at = λ i l.
-            rw (filled-at mostJobs noJob js all i (omega (arith, q5 .count)))
-            (All-at JobAccepted js noJob i (q5 .accepted) (omega (arith, q5 .count)));
-        bound-at = λ i l.
-            rw (filled-at mostBounds noBound ds every i (omega (arith, q7 .count)))
-            (AllBounds-at jobs [] ds i (q7 .accepted) (omega (arith, q7 .count)) .0);
-        pair-at = λ i l.
-            rw (filled-at mostBounds noBound ds every i (omega (arith, q7 .count)), filled-take mostBounds noBound ds every i (omega (arith, q7 .count)))
-            (AllBounds-at jobs [] ds i (q7 .accepted) (omega (arith, q7 .count)) .1);
-      };
-      written =
-          rw (jobs-are, bounds-are)
-          (linesOf-append window rounds last jobs js bounds (boundsText ds) t
-          ∙ sym
-          (q1 .written
-          ∙ ap (keyed (bytes "window=") window)
-          (q2 .written
-          ∙ ap (keyed (bytes "rounds=") (pos rounds))
-          (q3 .written
-          ∙ ap (keyed (bytes "last=") (pos last))
-          (q4 .written
-          ∙ ap (keyed (bytes "jobs=") (pos jobs))
-          (q5 .written ∙ ap (jobsText js) (q6 .written ∙ ap (keyed (bytes "bounds=") (pos bounds)) (q7 .written ∙ ap (λ (x : List ℕ). boundsText ds ++ x) (cc)))))))));
-      whole = rw (jobs-are, bounds-are);
-    }))))))))
+planLines-read s n {p} {t} {k} e = do
+  window ← numberLine-then _ _ _ _ _ _ e
+  rounds ← countLine-then _ _ _ _ _ _ (window .more)
+  last ← countLine-then _ _ _ _ _ _ (rounds .more)
+  jobs ← countLine-then _ _ _ _ _ _ (last .more)
+  job ← jobsAfter-then _ _ _ _ _ (jobs .more)
+  bounds ← countLine-then _ _ _ _ _ _ (job .more)
+  bound ← boundsAfter-then _ _ _ _ _ _ (bounds .more)
+  let js = job .got
+  let ds = bound .got
+  let m : _≡_ {A = Plan} (planOf (window .got) (rounds .got) (last .got) (jobs .got) js (bounds .got) ds) p = cc
+  let all : length js ≤ mostJobs = omega (arith, jobs .told .most, job .told .count)
+  let every : length ds ≤ mostBounds = omega (arith, bounds .told .most, bound .told .count)
+  let jobs-are : take (jobs .got) (filled mostJobs noJob js) ≡ js = filled-all mostJobs noJob js all (jobs .got) (job .told .count)
+  let bounds-are : take (bounds .got) (filled mostBounds noBound ds) ≡ ds = filled-all mostBounds noBound ds every (bounds .got) (bound .told .count)
+  subst (λ x. PlanRead s x t) m
+      (record {
+        accepted = record {
+          window-least = window .told .least;
+          window-most = window .told .most;
+          rounds-least = rounds .told .least;
+          rounds-most = rounds .told .most;
+          last-least = last .told .least;
+          last-most = last .told .most;
+          jobs-least = jobs .told .least;
+          jobs-most = jobs .told .most;
+          bounds-most = bounds .told .most;
+          job-places = filled-length mostJobs noJob js all;
+          bound-places = filled-length mostBounds noBound ds every;
+          job-at = λ i l.
+              rw (filled-at mostJobs noJob js all i (omega (arith, job .told .count)))
+              (All-at JobAccepted js noJob i (job .told .accepted) (omega (arith, job .told .count)));
+          bound-at = λ i l.
+              rw (filled-at mostBounds noBound ds every i (omega (arith, bound .told .count)))
+              (AllBounds-at (jobs .got) [] ds i (bound .told .accepted) (omega (arith, bound .told .count)) .0);
+          pair-at = λ i l.
+              rw (filled-at mostBounds noBound ds every i (omega (arith, bound .told .count)), filled-take mostBounds noBound ds every i (omega (arith, bound .told .count)))
+              (AllBounds-at (jobs .got) [] ds i (bound .told .accepted) (omega (arith, bound .told .count)) .1);
+        };
+        written =
+            rw (jobs-are, bounds-are)
+            (linesOf-append (window .got) (rounds .got) (last .got) (jobs .got) js (bounds .got) (boundsText ds) t
+            ∙ sym
+            (window .told .written
+            ∙ ap (keyed (bytes "window=") (window .got))
+            (rounds .told .written
+            ∙ ap (keyed (bytes "rounds=") (pos (rounds .got)))
+            (last .told .written
+            ∙ ap (keyed (bytes "last=") (pos (last .got)))
+            (jobs .told .written
+            ∙ ap (keyed (bytes "jobs=") (pos (jobs .got)))
+            (job .told .written
+            ∙ ap (jobsText js) (bounds .told .written ∙ ap (keyed (bytes "bounds=") (pos (bounds .got))) (bound .told .written ∙ ap (λ (x : List ℕ). boundsText ds ++ x) (cc)))))))));
+        whole = rw (jobs-are, bounds-are);
+      })
 
 -- 'At most 65,536 bytes'
 pub planHead-read : (s : List ℕ) {p : Plan} {t : List ℕ} {k : ℕ} → planHead s ≡ read p t k → PlanRead s p t × (length s ≤ longestText)

@@ -1,5 +1,5 @@
--- What a reading that ended well tells, and what follows it: the reading before it ended well (`next-then`), a line had its LF and its value
--- (`line-then`), a number is in its range (`numberLine-then`), and so is a count (`countLine-then`). Each hands what it tells to what is shown from the rest.
+-- What a reading that ended well tells: the reading before it ended well (`next-then`), a line had its LF and its value
+-- (`line-read`), a number is in its range (`numberLine-then`), and so is a count (`countLine-then`). Each `-then` tells of the first reading and leaves the rest (`Then`).
 use mathlib.Core.Path.{_≡_, refl, sym, _∙_, ap}
 use mathlib.Core.Bool.{Bool, true, false, cond}
 use mathlib.Core.List.{List, _∷_, _++_, append-assoc}
@@ -21,11 +21,22 @@ use Rattle.plan.specs.PlanWritten.{keyed}
 
 -- ---- one reading after another
 
-pub next-then : {A B G : Type 0} (m : Reading A) (f : A → Reader B) {b : B} {t : List ℕ} {k : ℕ}
-    → next m f ≡ read b t k → ((a : A) (r : List ℕ) (i : ℕ) → m ≡ read a r i → f a r i ≡ read b t k → G) → G
+-- what was read first, what is told of it, and that all was read from there on
+pub record Then {A B : Type 0} (P : A → List ℕ → ℕ → Type 0) (f : A → Reader B) (b : B) (t : List ℕ) (k : ℕ) : Type 0 where
+  pub got : A
+  pub left : List ℕ
+  pub line : ℕ
+  pub told : P got left line
+  pub more : f got left line ≡ read b t k
+
+-- in a proof that reads as the reader does, each line names what is told there
+abbrev pub _>>=_ : {A B : Type 0} → A → (A → B) → B
+_>>=_ a f = f a
+
+pub next-then : {A B : Type 0} (m : Reading A) (f : A → Reader B) {b : B} {t : List ℕ} {k : ℕ} → next m f ≡ read b t k → Then (λ a r i. m ≡ read a r i) f b t k
 unfolding next
-next-then (read a s n) f e go = go a s n refl e
-next-then (refused r s) f e go = absurd (let z : _≡_ {A = ℕ} 0 1 = cc in omega arith)
+next-then (read a s n) f e = record { got = a; left = s; line = n; told = refl; more = e }
+next-then (refused r s) f e = absurd (let z : _≡_ {A = ℕ} 0 1 = cc in omega arith)
 
 pub next-of : {A B : Type 0} {m : Reading A} (f : A → Reader B) {a : A} {r : List ℕ} {i : ℕ} {x : Reading B} → m ≡ read a r i → f a r i ≡ x → next m f ≡ x
 unfolding next
@@ -80,11 +91,11 @@ numberLine-read key lo hi s n {z} {t} {k} e = (by-number (numberAfter key lo hi 
         }
     by-number (number.Bad f) p d = absurd (let z : _≡_ {A = ℕ} 0 1 = cc in omega arith)
 
-pub numberLine-then : {B G : Type 0} (key : List ℕ) (lo hi : ℤ) (s : List ℕ) (n : ℕ) (f : ℤ → Reader B) {b : B} {t : List ℕ} {k : ℕ}
-    → next (numberLine key lo hi s n) f ≡ read b t k → ((z : ℤ) (r : List ℕ) → NumberRead key lo hi s z r → f z r (suc n) ≡ read b t k → G) → G
-numberLine-then key lo hi s n f e go =
-    next-then (numberLine key lo hi s n) f e
-    (λ z r i d h. let q = numberLine-read key lo hi s n d in go z r (q .0) (rw (q .1) at h))
+pub numberLine-then : {B : Type 0} (key : List ℕ) (lo hi : ℤ) (s : List ℕ) (n : ℕ) (f : ℤ → Reader B) {b : B} {t : List ℕ} {k : ℕ}
+    → next (numberLine key lo hi s n) f ≡ read b t k → Then (λ z r i. NumberRead key lo hi s z r) f b t k
+numberLine-then key lo hi s n f e =
+    let q = next-then (numberLine key lo hi s n) f e in
+    record { got = q .got; left = q .left; line = q .line; told = numberLine-read key lo hi s n (q .told) .0; more = q .more }
 
 -- ---- a line that is a key and a count
 
@@ -97,8 +108,10 @@ counted : (key : List ℕ) (lo hi : ℕ) (s : List ℕ) (z : ℤ) (t : List ℕ)
 counted key lo hi s (pos m) t q = record { least = omega (whole, q .least); most = omega (whole, q .most); written = q .written }
 counted key lo hi s (negsuc m) t q = absurd (omega (whole, q .least))
 
-pub countLine-then : {B G : Type 0} (key : List ℕ) (lo hi : ℕ) (s : List ℕ) (n : ℕ) (f : ℕ → Reader B) {b : B} {t : List ℕ} {k : ℕ}
-    → next (countLine key lo hi s n) f ≡ read b t k → ((z : ℕ) (r : List ℕ) → CountRead key lo hi s z r → f z r (suc n) ≡ read b t k → G) → G
-countLine-then key lo hi s n f {b} {t} {k} e go =
-    next-then (countLine key lo hi s n) f e
-    (λ z r i d h. numberLine-then key (pos lo) (pos hi) s n _ d (λ y u q g. go (natAbs y) u (counted key lo hi s y u q) (cc)))
+pub countLine-then : {B : Type 0} (key : List ℕ) (lo hi : ℕ) (s : List ℕ) (n : ℕ) (f : ℕ → Reader B) {b : B} {t : List ℕ} {k : ℕ}
+    → next (countLine key lo hi s n) f ≡ read b t k → Then (λ z r i. CountRead key lo hi s z r) f b t k
+unfolding next
+countLine-then key lo hi s n f e = do
+  all ← next-then (countLine key lo hi s n) f e
+  z ← numberLine-then key (pos lo) (pos hi) s n _ (all .told)
+  record { got = natAbs (z .got); left = z .left; line = z .line; told = counted key lo hi s (z .got) (z .left) (z .told); more = next-of f (z .more) (all .more) }

@@ -40,7 +40,10 @@ then-counted : {A B : Type 0} (m : Reader A) (f : A → Reader B) → Counted m 
 then-counted m f h g =
     record {
       counts = λ s n b t k e.
-          next-then (m s n) f e (λ a r i d q. let x = h .counts s n a r i d in let y = g a .counts r i b t k q in omega arith);
+          let q = next-then (m s n) f e in
+          let x = h .counts s n (q .got) (q .left) (q .line) (q .told) in
+          let y = g (q .got) .counts (q .left) (q .line) b t k (q .more) in
+          omega arith;
     }
 
 answer-counted : {A : Type 0} (a : A) → Counted (answer a)
