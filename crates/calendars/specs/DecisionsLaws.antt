@@ -1,25 +1,17 @@
 -- The laws of what is decided. A plan whose verdict is settled has a settled set (`verdict-settled`), and the calendar made from the joined table is the plan's
 -- (`calendar-joined`, `made-settled`); beside any other verdict the calendar says nothing (`made-refused`, `made-unsettled`). The text of a decision, verdict by
 -- verdict (`text-settled`, `text-refused`, `text-unsettled`), is what the program prints for the plan (`text-of-outcome`), and so for a text that was read
--- (`plan-accepted`) or refused (`plan-refused`). A length that a writer answers counts bytes of its slice (`written-counts`).
+-- (`plan-accepted`) or refused (`plan-refused`).
 
-use Prim.Native.Nat.{ℕ, _≤_}
+use Prim.Native.Nat.{ℕ}
 use mathlib.Core.Path.{_≡_, refl, sym, ap, subst, _∙_}
-use mathlib.Core.Bool.{Bool, true, false, cond}
 use mathlib.Core.List.{List}
 use native.Mathlib.Omega.{arith}
-use lib.ListN.{length, take, length-take}
-use borrow.Author.Tests.{leb-true}
-use Rattle.text.specs.Lent.{hasRoom}
 use Rattle.plan.specs.declared.Plan.{Plan}
 use Rattle.plan.specs.declared.PlanRead.{PlanRead}
 use Rattle.plan.specs.declared.PlanAnswer.the-variants as planAnswer
 use Rattle.plan.specs.declared.Refusal.{Refusal}
 use Rattle.plan.specs.declared.Refusal.the-variants as refusal
-use Rattle.plan.specs.declared.Written.{Written}
-use Rattle.plan.specs.declared.Written.the-variants.{Length}
-use Rattle.plan.specs.declared.Written.the-variants as written
-use Rattle.plan.specs.Written.{writtenAs}
 use Rattle.plan.specs.Refusals.{refusedLine}
 use Rattle.plan.specs.Reading.{Reading, read, refused}
 use Rattle.plan.specs.PlanRead.{planAlone}
@@ -131,17 +123,3 @@ module _ (s : List ℕ) (r : PlanRead) (d : r ≡ planRead s (planAlone s)) wher
           let f : r .answer ≡ planAnswer.Refused y = ap (λ (r : PlanRead). r .answer) g in
           let same : x ≡ y = cc in
           ap refusedLine same ∙ sym (ap answered e)
-
--- ---- the length that was answered is one of the slice's
-
-pub written-counts : (t out out′ : List ℕ) {r : Written} {m : ℕ} → r ≡ writtenAs t out → length out′ ≡ length out → r ≡ Length m
-    → (m ≤ length out′) × (m ≡ length (take m out′))
-unfolding writtenAs
-written-counts t out out′ {r} {m} e k d = of (hasRoom t out) refl (sym d ∙ e)
-  where
-    of : (b : Bool) → hasRoom t out ≡ b → Length m ≡ cond b (Length (length t)) (written.Refused refusal.NoRoom) → (m ≤ length out′) × (m ≡ length (take m out′))
-    of true h f =
-        let g : m ≡ length t = cc in
-        let room : m ≤ length out′ = omega (arith, leb-true (length t) (length out) h) in
-        (room, omega (arith, length-take m out′))
-    of false h f = absurd (let z : _≡_ {A = ℕ} 0 1 = cc in omega arith)

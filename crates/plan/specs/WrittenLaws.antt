@@ -1,16 +1,16 @@
 -- The laws of a whole text in a lent slice: one that has room is written, with its length as the answer (`stored-whole`); one that has none is refused by 12 and
 -- leaves every byte (`stored-none`). A text that was measured first, on a part without places, which leaves every byte too, is refused or written by its
 -- measure (`measured-none`, `measured-whole`). A text is stored, and written, as any text that equals it
--- (`stored-as`, `wrote-as`).
+-- (`stored-as`, `wrote-as`). A length that a writer answers counts bytes of its slice (`written-counts`).
 
 use Prim.Native.Nat.{ℕ, _+_, _≤_, _<_}
 use mathlib.Core.Path.{_≡_, refl, sym, ap, subst, _∙_}
 use mathlib.Core.Bool.{Bool, true, false, cond}
 use mathlib.Core.List.{List, [], _∷_, _++_, append-assoc}
 use native.Mathlib.Omega.{arith}
-use lib.ListN.{length}
-use borrow.Author.Tests.{le-leb, lt-leb}
-use Rattle.text.specs.Lent.{written, put, Stored}
+use lib.ListN.{length, take, length-take}
+use borrow.Author.Tests.{le-leb, lt-leb, leb-true}
+use Rattle.text.specs.Lent.{hasRoom, written, put, Stored}
 use Rattle.text.specs.LentLaws.{put-length, put-written, stored-append}
 use Rattle.text.specs.Bytes.{bytes}
 use Rattle.text.specs.Lines.{LF, comma}
@@ -71,6 +71,20 @@ module _ {t out o o′ : List ℕ} {n : ℕ} (p : Stored o 0 t o′ n) (h : leng
 pub wrote-as : (out : List ℕ) {t u o : List ℕ} {r : Written} → t ≡ u → (r ≡ writtenAs t out) × (o ≡ written t out) → (r ≡ writtenAs u out) × (o ≡ written u out)
 wrote-as out e w =
     (w .0 ∙ ap (λ (s : List ℕ). writtenAs s out) e, w .1 ∙ ap (λ (s : List ℕ). written s out) e)
+
+-- ---- the length that was answered counts bytes of the slice
+
+pub written-counts : (t out out′ : List ℕ) {r : Written} {m : ℕ} → r ≡ writtenAs t out → length out′ ≡ length out → r ≡ Length m
+    → (m ≤ length out′) × (m ≡ length (take m out′))
+unfolding writtenAs
+written-counts t out out′ {r} {m} e k d = of (hasRoom t out) refl (sym d ∙ e)
+  where
+    of : (b : Bool) → hasRoom t out ≡ b → Length m ≡ cond b (Length (length t)) (Refused refusal.NoRoom) → (m ≤ length out′) × (m ≡ length (take m out′))
+    of true h f =
+        let g : m ≡ length t = cc in
+        let room : m ≤ length out′ = omega (arith, leb-true (length t) (length out) h) in
+        (room, omega (arith, length-take m out′))
+    of false h f = absurd (let z : _≡_ {A = ℕ} 0 1 = cc in omega arith)
 
 -- ---- the line of a refusal, stored part by part
 

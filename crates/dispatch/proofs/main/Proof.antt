@@ -1,5 +1,5 @@
 -- `main`: the length that was answered counts bytes of the slice, by `written-counts`.
-use Rattle.calendars.specs.DecisionsLaws.{written-counts}
+use Rattle.plan.specs.WrittenLaws.{written-counts}
 use borrow.Author.Needs.{needs}
 use Rattle.dispatch.proofs.main.Statement.{statement}
 use Rattle.dispatch.proofs.main.Tie as tie
