@@ -118,54 +118,54 @@ pub enum BoundLine {
 // ---- what the line readers answer
 
 // A refusal, and where its faulty line begins.
-pub struct Faulty {
-    pub refusal: Refusal,
-    pub at: usize,
+struct Faulty {
+    refusal: Refusal,
+    at: usize,
 }
 
 // A line that is a key and a number: the number and where the next line begins, or the fault.
-pub enum NumberLine {
+enum NumberLine {
     Value(i32, usize),
     Bad(Faulty),
 }
 
 // The four lines of a job: the job and where the next line begins, or the first fault.
-pub enum JobLines {
+enum JobLines {
     Value(Job, usize),
     Bad(Faulty),
 }
 
 // A bound line at its place: the bound and where the next line begins, or the fault.
-pub enum BoundRead {
+enum BoundRead {
     Value(Bound, usize),
     Bad(Faulty),
 }
 
 // Where a group of lines ended: the place of the next line, or the first fault.
-pub enum Went {
+enum Went {
     On(usize),
     Bad(Faulty),
 }
 
 // The jobs of a plan as they were read; on a fault what was read before it.
-pub struct Jobs {
-    pub job: [Job; MOST_JOBS],
-    pub went: Went,
+struct Jobs {
+    job: [Job; MOST_JOBS],
+    went: Went,
 }
 
 // The bounds of a plan as they were read; on a fault what was read before it.
-pub struct Bounds {
-    pub bound: [Bound; MOST_BOUNDS],
-    pub went: Went,
+struct Bounds {
+    bound: [Bound; MOST_BOUNDS],
+    went: Went,
 }
 
 // The first four lines of a plan, and where they ended.
-pub struct First {
-    pub window: i32,
-    pub rounds: u64,
-    pub last: u64,
-    pub jobs: usize,
-    pub went: Went,
+struct First {
+    window: i32,
+    rounds: u64,
+    last: u64,
+    jobs: usize,
+    went: Went,
 }
 
 // What a reader of a plan answers.
