@@ -1,17 +1,15 @@
 -- The faulty line is a part of the text that was read. What a reading leaves, or refuses from its faulty line on, is the text from some place on (`Tail`): so it is of a line
 -- (`line-tail`), of one reading after another (`next-tail`), of each group of a plan's lines, and of a plan (`planHead-tail`, `planAlone-tail`). So the place which the
--- reader tells is in the text (`planRead-place`), and the line that begins there is the faulty one (`partAt-read`). For the code: the line up to its LF (`line-inside`,
--- `line-part`).
-use mathlib.Core.Path.{_≡_, refl, sym, _∙_, ap, subst}
+-- reader tells is in the text (`planRead-place`), and the line that begins there is the faulty one (`partAt-read`).
+use mathlib.Core.Path.{_≡_, refl, sym, _∙_, ap}
 use mathlib.Core.Bool.{Bool, true, false, cond}
 use mathlib.Core.List.{List, [], _∷_, _++_, append-assoc, append-nil}
 use Prim.Native.Nat.{ℕ, zero, suc, _+_, _-_, _≤_}
 use native.Mathlib.Omega.{arith}
 use lib.Dec.{leb}
-use lib.ListN.{length, take, drop, length-append, length-take, take-append-drop}
+use lib.ListN.{length, take, drop, length-append, take-append-drop}
 use lib.Seq.{drop-append-seam}
 use Rattle.text.specs.Lines.{LF, before, has, lenTo}
-use Rattle.text.specs.LineLaws.{lenTo-fits}
 use Rattle.text.specs.declared.Fault.the-variants as fault
 use Rattle.plan.specs.declared.Job.{Job}
 use Rattle.plan.specs.declared.Bound.{Bound}
@@ -129,13 +127,3 @@ module _ (s : List ℕ) where
   unfolding planRead faultyPart
   partAt-read (read p t n) h = refl
   partAt-read (refused x t) h = ap (before LF) (tail-place h)
-
--- ---- for the code
-
--- the line up to its LF, of a rest that is handed on as a part of the text: the byte looked for is LF
-module _ (b : ℕ) (s t : List ℕ) {n : ℕ} (length-told : n ≡ lenTo b t) where
-  pub line-inside : n ≡ length (take n t)
-  line-inside = let fits : n ≤ length t = subst (λ (k : ℕ). k ≤ length t) (sym length-told) (lenTo-fits b t) in omega (arith, length-take n t)
-
-  pub line-part : b ≡ LF → t ≡ s → take n t ≡ before LF s
-  line-part e d = ap (λ (k : ℕ). take k t) (length-told ∙ ap (λ (a : ℕ). lenTo a t) e) ∙ ap (before LF) d

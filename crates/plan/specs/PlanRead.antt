@@ -1,9 +1,9 @@
 -- A plan's text, read (document 01, 'Plan text'). Each reader below is one line of the document's table, or a group of its lines.
 use Prim.Native.Nat.{ℕ, zero, suc, _-_}
-use mathlib.Core.Bool.{Bool, true, false, not, cond, _&&_, _||_}
+use mathlib.Core.Bool.{Bool, false, not, cond, _&&_, _||_}
 use mathlib.Core.List.{List, [], _∷_, _++_}
 use mathlib.Core.Option.{Option, none, some}
-use lib.Dec.{leb, ltb}
+use lib.Dec.{leb}
 use lib.IntN.{ℤ, pos, natAbs}
 use lib.ListN.{length, replicate}
 use Rattle.text.specs.Bytes.{bytes}
@@ -32,7 +32,7 @@ use Rattle.plan.specs.Limits.{
   greatestC,
 }
 use Rattle.plan.specs.Refusals.{tooLong}
-use Rattle.plan.specs.Reading.{Lined, value, bad, Reading, read, refused, Reader, next, _>>=_, answer, line, numberLine}
+use Rattle.plan.specs.Reading.{Lined, value, bad, Reading, read, refused, Reader, _>>=_, answer, line, numberLine}
 use Rattle.plan.specs.EventNames.{eventName, sameEvent, isNext}
 
 -- a line that is a key and a count

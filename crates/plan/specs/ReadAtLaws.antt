@@ -1,5 +1,5 @@
 -- The laws by which the code's line readers are right. A line at a place of the text has no LF, or lacks something, or has its value (`lineAt-bare`,
--- `lineAt-fault`, `lineAt-value`; by the place behind the LF: `lineTo-bare`, `lineTo-fault`, `lineTo-value`); an answer goes on or stops (`atTold-goes`, `atTold-stops`), at a place
+-- `lineAt-fault`, `lineAt-value`; by the place behind the LF: `lineTo-len`, `lineTo-bare`, `lineTo-fault`, `lineTo-value`); an answer goes on or stops (`atTold-goes`, `atTold-stops`), at a place
 -- in the text (`atPlace-goes`, `atPlace-stops`); and a group of lines ends with the first refusal (`jobLines-first` to `jobLines-fourth`) or is read (`jobLines-all`).
 use mathlib.Core.Path.{_≡_, refl, sym, _∙_, ap, subst}
 use mathlib.Core.List.{List}
@@ -47,20 +47,20 @@ module _ {A : Type 0} (f : List ℕ → Lined A) (s : List ℕ) (at n : ℕ) (t 
 
 -- ---- a line at a place: next is the place behind its LF
 
-module _ {A : Type 0} (f : List ℕ → Lined A) (s : List ℕ) (at n next : ℕ) (within : at ≤ length s) (end : next ≡ nextLine s at) where
-  len : next - 1 - at ≡ lenTo LF (drop at s)
-  len = omega (arith, end ∙ nextLine-at s at within)
+pub lineTo-len : (s : List ℕ) (at : ℕ) {next : ℕ} → at ≤ length s → next ≡ nextLine s at → next - 1 - at ≡ lenTo LF (drop at s)
+lineTo-len s at within end = omega (arith, end ∙ nextLine-at s at within)
 
+module _ {A : Type 0} (f : List ℕ → Lined A) (s : List ℕ) (at n next : ℕ) (within : at ≤ length s) (end : next ≡ nextLine s at) where
   pub lineTo-bare : length s < next → line f (drop at s) n ≡ refused (Form n) (drop at s)
-  lineTo-bare h = lineAt-bare f s at n (drop at s) (next - 1 - at) refl len (omega (arith, length-drop at s))
+  lineTo-bare h = lineAt-bare f s at n (drop at s) (next - 1 - at) refl (lineTo-len s at within end) (omega (arith, length-drop at s))
 
   pub lineTo-fault : {e : Fault} → next ≤ length s → f (take (next - 1 - at) (drop at s)) ≡ bad e → line f (drop at s) n ≡ refused (faultAt n e) (drop at s)
-  lineTo-fault h d = lineAt-fault f s at n (drop at s) (next - 1 - at) refl len (omega (arith, length-drop at s, end ∙ nextLine-at s at within)) d
+  lineTo-fault h d = lineAt-fault f s at n (drop at s) (next - 1 - at) refl (lineTo-len s at within end) (omega (arith, length-drop at s, end ∙ nextLine-at s at within)) d
 
   pub lineTo-value : {a : A} → next ≤ length s → f (take (next - 1 - at) (drop at s)) ≡ value a → line f (drop at s) n ≡ read a (drop next s) (n + 1)
   lineTo-value {a} h d =
       let place : at + (next - 1 - at) + 1 ≡ next = omega (arith, end ∙ nextLine-at s at within) in
-      lineAt-value f s at n (drop at s) (next - 1 - at) refl len (omega (arith, length-drop at s, end ∙ nextLine-at s at within)) d
+      lineAt-value f s at n (drop at s) (next - 1 - at) refl (lineTo-len s at within end) (omega (arith, length-drop at s, end ∙ nextLine-at s at within)) d
       ∙ ap (λ (k : ℕ). read a (drop k s) (n + 1)) place
 
 -- ---- a line reader's answer taken apart: m is the reading of a text s that it tells

@@ -3,14 +3,14 @@
 -- measure (`measured-none`, `measured-whole`). A text is stored, and written, as any text that equals it
 -- (`stored-as`, `wrote-as`). A length that a writer answers counts bytes of its slice (`written-counts`).
 
-use Prim.Native.Nat.{ℕ, _+_, _≤_, _<_}
+use Prim.Native.Nat.{ℕ, _≤_, _<_}
 use mathlib.Core.Path.{_≡_, refl, sym, ap, subst, _∙_}
 use mathlib.Core.Bool.{Bool, true, false, cond}
 use mathlib.Core.List.{List, [], _∷_, _++_, append-assoc}
 use native.Mathlib.Omega.{arith}
 use lib.ListN.{length, take, length-take}
 use borrow.Author.Tests.{le-leb, lt-leb, leb-true}
-use Rattle.text.specs.Lent.{hasRoom, written, put, Stored}
+use Rattle.text.specs.Lent.{hasRoom, written, Stored}
 use Rattle.text.specs.LentLaws.{put-length, put-written, stored-append}
 use Rattle.text.specs.Bytes.{bytes}
 use Rattle.text.specs.Lines.{LF, comma}

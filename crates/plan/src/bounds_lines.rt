@@ -12,7 +12,7 @@ use crate::bound_at::read_bound_at;
 use crate::pairs::pair_number;
 ghost use mathlib.Core.Path.{_≡_};
 ghost use mathlib.Core.List.{[]};
-ghost use Prim.Native.Nat.{_+_, _≤_};
+ghost use Prim.Native.Nat.{_≤_};
 ghost use lib.ListN.{length, drop};
 ghost use Rattle.plan.specs.PlanRead.{boundsAfter};
 ghost use Rattle.plan.specs.ReadAt.{boundsTold, boundsFilled, endAt, atPlace};

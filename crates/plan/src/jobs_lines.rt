@@ -8,7 +8,7 @@ use crate::job_lines::job_fault;
 use crate::job_lines::read_job;
 ghost use mathlib.Core.Path.{_≡_};
 ghost use mathlib.Core.List.{[]};
-ghost use Prim.Native.Nat.{_+_, _*_, _≤_};
+ghost use Prim.Native.Nat.{_≤_};
 ghost use lib.ListN.{length, drop};
 ghost use Rattle.plan.specs.PlanRead.{jobsAfter};
 ghost use Rattle.plan.specs.ReadAt.{jobsTold, jobsFilled, endAt, atPlace};

@@ -17,9 +17,8 @@ fn faulty_part(s: &[u8], answer: PlanAnswer, at: usize) -> &[u8]
     let PlanAnswer::Refused(_) = answer else {
         return &s[..0];
     };
-    let rest = &s[at..];
-    let len = text::len_to(rest, b'\n');
-    &rest[..len]
+    let end = text::next_line(s, at) - 1;
+    &s[at..end]
 }
 
 // The faulty line of the plan at the head of a text, without its LF; empty where the line is missing, where the text is too long, and where no line is faulty.

@@ -1,12 +1,14 @@
--- `faulty_part`: the rest from the place on is a drop (`drop-rest`), and its line goes up to the LF (`line-inside`, `line-part`).
-use mathlib.Core.Path.{sym, _∙_, ap}
-use Prim.Native.Nat.{_-_}
+-- `faulty_part`: the line begins before its end (`nextLine-at`), and goes up to its LF (`lineTo-len`).
+use mathlib.Core.Path.{_≡_, sym, _∙_, ap}
+use mathlib.Core.List.{List}
+use Prim.Native.Nat.{ℕ, _+_}
 use native.Mathlib.Omega.{arith}
 use denote.Ref.{now}
-use lib.ListN.{length, take, drop}
-use Rattle.text.specs.LineLaws.{drop-rest}
+use lib.ListN.{take, drop, length-drop}
+use Rattle.text.specs.Lines.{LF, lenTo}
+use Rattle.text.specs.LineLaws.{nextLine-at, lenTo-fits}
 use Rattle.plan.specs.PlanAnswers.{partAt}
-use Rattle.plan.specs.PartLaws.{line-inside, line-part}
+use Rattle.plan.specs.ReadAtLaws.{lineTo-len}
 use borrow.Author.Needs.{needs}
 use Rattle.plan.proofs.parts.faulty_part.Statement.{statement}
 use Rattle.plan.proofs.parts.faulty_part.Tie as tie
@@ -23,29 +25,35 @@ slice-aggregate-result c = search needs
 returns : tie.Need-returns
 returns c = ap (partAt (now (c .before .before .before .before .args .s)) (c .before .before .before .before .args .at)) (sym (c .before .enum-told2 .given .1))
 
-sub-rest : tie.Need-sub-rest
-sub-rest c = omega arith
+next-line-requires : tie.Need-next-line-requires
+next-line-requires c κs = search needs
 
-part-rest-start : tie.Need-part-rest-start
-part-rest-start c = omega arith
+abbrev text : tie.After-next-line → List ℕ
+text c = now (c .before .before .before .before .args .s)
 
-part-rest-end : tie.Need-part-rest-end
-part-rest-end c = omega arith
+abbrev place : tie.After-next-line → ℕ
+place c = c .before .before .before .before .args .at
 
-len-to-requires : tie.Need-len-to-requires
-len-to-requires c κs = tt
+ends : (c : tie.After-next-line) → c .next-line .result ≡ place c + lenTo LF (drop (place c) (text c)) + 1
+ends c = c .next-line .ensures ∙ nextLine-at (text c) (place c) (c .before .before .before .before .pre)
 
-slice-aggregate-result-2 : tie.Need-slice-aggregate-result-2
-slice-aggregate-result-2 c =
-    let a = c .before .before .before .before .before .before .args in
-    let s = now (a .s) in
-    line-inside _ (drop (a .at) s) (take (length s - a .at) (drop (a .at) s)) (c .before .len-to .ensures)
+sub-end : tie.Need-sub-end
+sub-end c = omega (arith, ends c)
+
+sub-result : tie.Need-sub-result
+sub-result c = omega (arith, ends c)
+
+part-result-start : tie.Need-part-result-start
+part-result-start c = omega (arith, ends c)
+
+part-result-end : tie.Need-part-result-end
+part-result-end c = omega (arith, ends c, lenTo-fits LF (drop (place c) (text c)), length-drop (place c) (text c))
 
 returns-2 : tie.Need-returns-2
 returns-2 c =
-    let a = c .before .before .before .before .before .before .args in
-    let s = now (a .s) in
-    line-part _ (drop (a .at) s) (take (length s - a .at) (drop (a .at) s)) (c .before .len-to .ensures) (omega arith) (drop-rest (a .at) s) ∙ ap (partAt s (a .at)) (sym (c .before .before .before .enum-told .given .1))
+    let b = c .before in
+    ap (λ (k : ℕ). take k (drop (place b) (text b))) (lineTo-len (text b) (place b) (b .before .before .before .before .pre) (b .next-line .ensures))
+    ∙ ap (partAt (text b) (place b)) (sym (b .before .enum-told .given .1))
 
 pub faulty-part-spec : {M : Type 1} → statement M
 faulty-part-spec =
@@ -55,9 +63,9 @@ faulty-part-spec =
     enum-told-2
     slice-aggregate-result
     returns
-    sub-rest
-    part-rest-start
-    part-rest-end
-    len-to-requires
-    slice-aggregate-result-2
+    next-line-requires
+    sub-end
+    sub-result
+    part-result-start
+    part-result-end
     returns-2)
