@@ -1,9 +1,9 @@
 -- A bound line taken apart as the code does it: a name up to its comma, at a place of the line, and the next place.
-use Prim.Native.Nat.{ℕ, _+_, _≤_}
+use Prim.Native.Nat.{ℕ, _+_}
 use mathlib.Core.Bool.{cond}
 use mathlib.Core.List.{List}
 use mathlib.Core.Option.{Option, none, some}
-use lib.ListN.{length, drop}
+use lib.ListN.{drop}
 use Rattle.text.specs.Bytes.{bytes}
 use Rattle.text.specs.Lines.{comma, lenTo, before, has, hasKey}
 use Rattle.plan.specs.declared.EventName.{EventName}

@@ -1,7 +1,7 @@
 -- How a text is read line by line (document 01, 'Numbers of refusal': 'then the first faulty line decides'; 'A reader of the refusal also
 -- gets back the faulty line as a part of the text, without its LF').
 use Prim.Native.Nat.{ℕ, suc}
-use mathlib.Core.Bool.{Bool, true, false, cond}
+use mathlib.Core.Bool.{cond}
 use mathlib.Core.List.{List, []}
 use lib.IntN.{ℤ}
 use Rattle.text.specs.Lines.{LF, before, has, after}

@@ -9,7 +9,7 @@ ghost use mathlib.Core.Bool.{_&&_};
 ghost use mathlib.Core.List.{[], _∷_};
 ghost use mathlib.Core.Option.{some};
 ghost use Rattle.plan.specs.PlanRead.{isJob};
-ghost use Rattle.plan.specs.EventNames.{eventName, nameOf, letterOf, kindOf, jobOf, nameRead, letterNumber, kindNumber, eventNumber, isNext};
+ghost use Rattle.plan.specs.EventNames.{eventName, nameOf, kindOf, jobOf, nameRead, letterNumber, kindNumber, eventNumber, isNext};
 
 // A name with its letter and its kind known: its last byte is the job digit.
 fn named(letter: Letter, kind: Kind, digit: u8) -> NameRead

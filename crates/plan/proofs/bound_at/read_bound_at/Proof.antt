@@ -1,8 +1,8 @@
 -- `read_bound_at`: one law a way, `lineTo-bare`, `lineTo-value`, `lineTo-fault`; and the line begins before its end (`nextLine-at`).
-use mathlib.Core.Path.{_≡_, sym, _∙_, ap}
+use mathlib.Core.Path.{sym, _∙_, ap}
 use native.Mathlib.Omega.{arith}
 use denote.Ref.{now}
-use lib.ListN.{length, take, drop}
+use lib.ListN.{take, drop}
 use Rattle.text.specs.LineLaws.{nextLine-at}
 use Rattle.plan.specs.Reading.{refused}
 use Rattle.plan.specs.PlanRead.{linedBound}

@@ -3,7 +3,7 @@ use Prim.Native.Nat.{_-_, _≤_}
 use mathlib.Core.Path.{_≡_, refl, sym, _∙_}
 use native.Mathlib.Omega.{arith}
 use denote.Ref.{now}
-use lib.ListN.{length, take, drop}
+use lib.ListN.{take, drop}
 use Rattle.plan.specs.Pairs.{isIn}
 use Rattle.plan.specs.PairLaws.{isIn-stop, isIn-past, isIn-end}
 use Rattle.plan.proofs.pairs.is_in.Statement.{statement}

@@ -1,5 +1,5 @@
 -- `read_plan`: a refused head is the answer, and an accepted one is if nothing follows it: `alone-refused`, `alone-more`, `alone-end`.
-use mathlib.Core.Path.{_≡_, sym, _∙_, ap, subst}
+use mathlib.Core.Path.{sym, _∙_, ap, subst}
 use Prim.Native.Nat.{_≤_, _<_}
 use denote.Ref.{now}
 use lib.ListN.{length}
