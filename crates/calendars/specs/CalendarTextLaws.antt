@@ -1,15 +1,14 @@
 -- The laws of the calendar's text.
 -- How long it is: an event's name has at most 22 bytes (`eventBytes-short`), a term's line 52 (`termLine-short`), and the whole text `mostCalendarBytes`, where
--- every number of the calendar fits its type (`calendarText-short`). A line of a key and a number stands before what follows it (`keyed-append`).
+-- every number of the calendar fits its type (`calendarText-short`).
 -- One turn of a writer: the next term of a side (`termLines-next`, `termLines-stop`; by what is left, `left-term`, `left-terms`), and the next job (`left-job`,
 -- `left-jobs`).
--- What writers did: numbers as they are handed over (`stored-narrow`, `stored-line`, `stored-count`), an event's name from its parts (`stored-event`), a line and
--- what is behind it (`stored-keyed`), and how far a term moves the place (`stored-term-near`).
+-- What writers did: an event's name from its parts (`stored-event`), and how far a term moves the place (`stored-term-near`); of lines, `PlanWrittenLaws` of `values` tells.
 
 use Prim.Native.Nat.{ℕ, zero, suc, _+_, _*_, _-_, _/_, _^_, _≤_, _<_}
 use mathlib.Core.Path.{_≡_, sym, ap, _∙_, subst}
 use mathlib.Core.Bool.{Bool, true, false, cond}
-use mathlib.Core.List.{List, [], _∷_, _++_, append-assoc}
+use mathlib.Core.List.{List, [], _∷_, _++_}
 use native.Mathlib.Numerals.{add-one}
 use native.Mathlib.Omega.{arith}
 use lib.Dec.{ltb}
@@ -22,7 +21,6 @@ use Rattle.whole.specs.Rules.{wholes}
 use Rattle.whole.specs.SplitLaws.{cast-wide}
 use Rattle.text.specs.Bytes.{bytes}
 use Rattle.text.specs.Lent.{Stored}
-use Rattle.text.specs.LentLaws.{stored-append, stored-number}
 use Rattle.text.specs.Lines.{LF, comma}
 use Rattle.text.specs.Numbers.{decimal, digits}
 use Rattle.text.specs.DigitLaws.{digits-short}
@@ -66,9 +64,6 @@ keyed-short key z s k d = omega (arith, length-append key (decimal z ++ (LF ∷ 
 
 count-short : (n : ℕ) → n < 2 ^ 64 → length (decimal (pos n)) ≤ 20
 count-short n h = rw (decimal-above (pos n) (omega wholes)) (digits-short n h)
-
-pub keyed-append : (key : List ℕ) (z : ℤ) (s : List ℕ) → keyed key z s ≡ keyed key z [] ++ s
-keyed-append key z s = sym (append-assoc key (decimal z ++ (LF ∷ [])) s ∙ ap (λ (x : List ℕ). key ++ x) (append-assoc (decimal z) (LF ∷ []) s))
 
 -- every number of a calendar fits its type
 pub record CalendarFits (c : Calendar) : Type 0 where
@@ -210,25 +205,6 @@ module _ (jobs : ℕ) (c : Calendar) (i count : ℕ) where
     left-jobs h = left-end (subst (λ (t : List ℕ). Left out at s o j t) (jobTexts-end h) l)
 
 -- ---- for writers
-
--- a c as it is handed over
-pub stored-narrow : {out out′ : List ℕ} {at at′ : ℕ} {c : ℤ} → SFits w32 c
-    → Stored out at (decimal (toZ w64 (ofZ w64 (toZ w32 (ofZ w32 c))))) out′ at′ → Stored out at (decimal c) out′ at′
-stored-narrow f d = rw (toZ-ofZ f) at (stored-number (cast-wide tt f) d)
-
--- a count and a LF behind a key
-pub stored-count : {out out′ : List ℕ} {at at′ : ℕ} (n : ℕ) → Stored out at (digits n) out′ at′ → Stored out at (decimal (pos n)) out′ at′
-stored-count n d = rw (decimal-above (pos n) (omega wholes)) d
-
--- a number as it is handed over
-pub stored-line : {out out′ : List ℕ} {at at′ : ℕ} (key : List ℕ) {z : ℤ} → SFits w64 z
-    → Stored out at (keyed key (toZ w64 (ofZ w64 z)) []) out′ at′ → Stored out at (keyed key z []) out′ at′
-stored-line key f d = rw (toZ-ofZ f) at d
-
--- a line, and the lines behind it
-pub stored-keyed : {out s o o′ : List ℕ} {at j j′ : ℕ} (key : List ℕ) (z : ℤ)
-    → Stored out at (keyed key z []) o j → Stored o j s o′ j′ → Stored out at (keyed key z s) o′ j′
-stored-keyed {s = s} key z p q = rw (keyed-append key z s) (stored-append p q)
 
 -- how far a term moves the place
 pub stored-term-near : {o o′ : List ℕ} {j j′ : ℕ} (jobs : ℕ) (key : List ℕ) (k : ℕ) {c : ℤ} → length key ≤ 8 → k < mostBits → SFits w32 c

@@ -5,13 +5,10 @@ use crate::MOST_EVENTS;
 use crate::MOST_TERMS;
 use crate::Terms;
 ghost use mathlib.Core.Path.{_≡_};
-ghost use mathlib.Core.List.{[]};
-ghost use lib.IntN.{pos};
 ghost use lib.ListN.{length};
 ghost use Prim.Native.Nat.{_+_, _*_, _^_, _≤_, _<_};
 ghost use Rattle.text.specs.Lent.{Stored};
 ghost use Rattle.plan.specs.Limits.{mostJobs};
-ghost use Rattle.plan.specs.PlanWritten.{keyed};
 ghost use Rattle.calendars.specs.Calendars.{mostEvents};
 ghost use Rattle.calendars.specs.CalendarText.{eventLetter, eventKind, eventJob, eventBytes, termLine, termLines, jobHead, jobText, jobTexts, calendarText, mostJobBytes, mostCalendarBytes};
 
@@ -78,30 +75,6 @@ fn put_term(out: &mut [u8], at: usize, key: &[u8], jobs: usize, e: usize, c: i32
     text::put_byte(out, end, b'\n')
 }
 
-// A line that is a key and a number.
-fn put_line(out: &mut [u8], at: usize, key: &[u8], z: i64) -> usize
-    requires { ⌜ at ≤ 2 ^ 60 ⌝ }
-    requires { ⌜ length (now key) ≤ 8 ⌝ }
-    ensures { λ r. ⌜ Stored (now (out .entry)) at (keyed (now (key .entry)) z []) (now (out .exit)) r ⌝ }
-    ensures { λ r. ⌜ r ≤ at + 29 ⌝ }
-{
-    let number = text::put_bytes(out, at, key);
-    let end = text::put_number(out, number, z);
-    text::put_byte(out, end, b'\n')
-}
-
-// A line that is a key and a count.
-fn put_count_line(out: &mut [u8], at: usize, key: &[u8], n: u64) -> usize
-    requires { ⌜ at ≤ 2 ^ 60 ⌝ }
-    requires { ⌜ length (now key) ≤ 8 ⌝ }
-    ensures { λ r. ⌜ Stored (now (out .entry)) at (keyed (now (key .entry)) (pos n) []) (now (out .exit)) r ⌝ }
-    ensures { λ r. ⌜ r ≤ at + 29 ⌝ }
-{
-    let number = text::put_bytes(out, at, key);
-    let end = text::put_count(out, number, n);
-    text::put_byte(out, end, b'\n')
-}
-
 // The terms of one side of a job, in order: those of the set among count events; the c of event e stands at place row + e.
 fn put_terms(
     out: &mut [u8],
@@ -146,9 +119,9 @@ fn put_head(out: &mut [u8], at: usize, i: usize, terms: Terms) -> usize
     let low = terms.low;
     let high = terms.high;
     let number = i as u64 + 1;
-    let second = put_count_line(out, at, b"job=", number);
-    let third = put_line(out, second, b"low=", low.0);
-    put_line(out, third, b"high=", high.0)
+    let second = values::put_count_line(out, at, b"job=", number);
+    let third = values::put_line(out, second, b"low=", low.0);
+    values::put_line(out, third, b"high=", high.0)
 }
 
 // One job, at place i: its head, and its terms on both sides.
@@ -203,6 +176,6 @@ pub fn put_calendar(out: &mut [u8], at: usize, jobs: usize, m: u64, c: Calendar)
     ensures { λ r. ⌜ Stored (now (out .entry)) at (calendarText jobs m c) (now (out .exit)) r ⌝ }
     ensures { λ r. ⌜ r ≤ at + mostCalendarBytes ⌝ }
 {
-    let next = put_count_line(out, at, b"settled=", m);
+    let next = values::put_count_line(out, at, b"settled=", m);
     put_jobs(out, next, jobs, c)
 }

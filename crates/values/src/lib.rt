@@ -6,4 +6,6 @@ mod plan_value;
 mod writer;
 
 pub use plan_value::judge_plan;
+pub use writer::put_count_line;
+pub use writer::put_line;
 pub use writer::write_plan;

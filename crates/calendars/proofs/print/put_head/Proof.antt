@@ -1,12 +1,14 @@
 -- `put_head`: three lines in a row, by `stored-keyed`.
+use mathlib.Core.List.{[]}
 use Prim.Native.Nat.{_+_}
 use native.Mathlib.Omega.{arith}
-use lib.IntN.{pos}
+use lib.IntN.{ℤ, pos}
 use mir.Syntax.{w64}
 use Rattle.whole.specs.SplitLaws.{told-fits}
 use borrow.Author.Needs.{needs}
 use Rattle.text.specs.Bytes.{bytes}
-use Rattle.calendars.specs.CalendarTextLaws.{stored-line, stored-keyed}
+use Rattle.plan.specs.PlanWritten.{keyed}
+use Rattle.values.specs.PlanWrittenLaws.{stored-told, stored-keyed}
 use Rattle.calendars.proofs.print.put_head.Statement.{statement}
 use Rattle.calendars.proofs.print.put_head.Tie as tie
 
@@ -47,8 +49,8 @@ returns c =
           (stored-keyed
           (bytes "low=")
           (a .terms .low .0)
-          (stored-line (bytes "low=") f (c .before .before .before .before .before .before .before .before .put-line .ensures .0))
-          (stored-line (bytes "high=") g (c .before .before .put-line2 .ensures .0))),
+          (stored-told (λ (z : ℤ). keyed (bytes "low=") z []) f (c .before .before .before .before .before .before .before .before .put-line .ensures .0))
+          (stored-told (λ (z : ℤ). keyed (bytes "high=") z []) g (c .before .before .put-line2 .ensures .0))),
       omega arith,
     )
 

@@ -3,7 +3,9 @@ use native.Mathlib.Omega.{arith}
 use borrow.Author.Needs.{needs}
 use Rattle.whole.specs.SplitLaws.{cast-wide}
 use Rattle.text.specs.LentLaws.{stored-append, stored-near}
-use Rattle.calendars.specs.CalendarTextLaws.{eventBytes-short, stored-narrow}
+use Rattle.text.specs.Numbers.{decimal}
+use Rattle.values.specs.PlanWrittenLaws.{stored-narrow}
+use Rattle.calendars.specs.CalendarTextLaws.{eventBytes-short}
 use Rattle.calendars.proofs.print.put_term.Statement.{statement}
 use Rattle.calendars.proofs.print.put_term.Tie as tie
 
@@ -47,7 +49,7 @@ returns c =
     (c .before .before .before .before .before .before .before .before .before .before .before .before .before .before .put-event .ensures)
     (stored-append
     (c .before .before .before .before .before .before .before .before .before .before .put-byte .ensures)
-    (stored-append (stored-narrow f (c .before .before .before .before .before .before .put-number .ensures)) (c .before .before .put-byte2 .ensures))))
+    (stored-append (stored-narrow decimal f (c .before .before .before .before .before .before .put-number .ensures)) (c .before .before .put-byte2 .ensures))))
 
 pub put-term-spec : {M : Type 1} → statement M
 put-term-spec =
