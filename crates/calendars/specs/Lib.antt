@@ -13,4 +13,5 @@ pub mod RecordedLaws
 pub mod CalendarsLaws
 pub mod DecisionsLaws
 pub mod ValueLaws
+pub mod ValueTextLaws
 pub mod Unique
