@@ -3,13 +3,16 @@ use mathlib.Core.Path.{_≡_}
 use mathlib.Core.Bool.{Bool}
 use mathlib.Core.List.{List}
 use Prim.Native.Nat.{ℕ}
+use lib.IntN.{ℤ}
 use Rattle.text.specs.Lent.{written}
+use Rattle.text.specs.Numbers.{within}
 use Rattle.text.specs.Unique.{only}
 use Rattle.text.specs.declared.Fault.{Fault}
 use Rattle.plan.specs.declared.NameRead.{NameRead}
 use Rattle.plan.specs.declared.PlanRead.{PlanRead}
 use Rattle.plan.specs.declared.Refusal.{Refusal}
 use Rattle.plan.specs.declared.Written.{Written}
+use Rattle.plan.specs.Limits.{leastC, greatestC}
 use Rattle.plan.specs.Refusals.{number, value, ends, faultAt, refusedLine}
 use Rattle.plan.specs.EventNames.{eventName, nameRead}
 use Rattle.plan.specs.Reading.{faultyPart}
@@ -31,6 +34,9 @@ fault-at-unique line f = only
 
 pub event-name-unique : (s : List ℕ) {r q : NameRead} → r ≡ nameRead (eventName s) → q ≡ nameRead (eventName s) → r ≡ q
 event-name-unique s = only
+
+pub is-c-unique : (c : ℤ) {r q : Bool} → r ≡ within leastC greatestC c → q ≡ within leastC greatestC c → r ≡ q
+is-c-unique c = only
 
 pub read-head-unique : (s : List ℕ) {r q : PlanRead} → r ≡ planRead s (planHead s) → q ≡ planRead s (planHead s) → r ≡ q
 read-head-unique s = only

@@ -57,8 +57,8 @@ fn bound_names(line: &[u8]) -> BoundNames
     BoundNames::Value(a, b, number)
 }
 
-// Whether c is in its range.
-fn is_c(c: i32) -> bool
+// Whether a number is in the range of a bound's c.
+pub fn is_c(c: i64) -> bool
     ensures { λ r. ⌜ r ≡ within leastC greatestC c ⌝ }
 {
     if c < -1_000_000_000 {
@@ -79,7 +79,8 @@ fn has_range(d: Bound, jobs: usize) -> bool
     if !is_job(b.job, jobs) {
         return false;
     }
-    is_c(d.c)
+    let c = d.c as i64;
+    is_c(c)
 }
 
 // A bound that has its form, after n bounds whose pairs are given by their numbers: its numbers, and then its pair.

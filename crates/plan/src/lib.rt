@@ -198,6 +198,7 @@ mod reader;
 mod refusals;
 mod refused;
 
+pub use bound_line::is_c;
 pub use bound_line::judge_bound;
 pub use names::event_name;
 pub use pairs::pair_number;

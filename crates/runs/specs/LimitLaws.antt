@@ -11,7 +11,7 @@ use lib.Dec.{eqb, leb}
 use lib.IntN.{ℤ, pos}
 use lib.ListN.{getD, take, drop, length, drop-of-length-le}
 use lib.Pow.{pow-pos}
-use lib.Signed.{_≤ℤ_, _<ℤ_, leZ}
+use lib.Signed.{_≤ℤ_, leZ}
 use lib.Seq.{drop-cons, take-nil}
 use borrow.Author.Tests.{lt-ltb, le-ltb, leb-true, leb-false}
 use Rattle.whole.specs.Rules.{whole}
@@ -124,15 +124,8 @@ module _ (f : ℕ → Bool) where
 
 -- ---- one side of a job
 
-module _ (c : ℤ) where
-  pub isC-low : c <ℤ leastC → isC c ≡ false
-  isC-low h = let l : leZ leastC c ≡ false = omega whole in rw (l)
-
-  pub isC-high : leastC ≤ℤ c → greatestC <ℤ c → isC c ≡ false
-  isC-high g h = let l : leZ leastC c ≡ true = omega whole in let k : leZ c greatestC ≡ false = omega whole in rw (l, k)
-
-  pub isC-in : leastC ≤ℤ c → c ≤ℤ greatestC → isC c ≡ true
-  isC-in g h = let l : leZ leastC c ≡ true = omega whole in let k : leZ c greatestC ≡ true = omega whole in rw (l, k)
+pub isC-in : (c : ℤ) → leastC ≤ℤ c → c ≤ℤ greatestC → isC c ≡ true
+isC-in c g h = let l : leZ leastC c ≡ true = omega whole in let k : leZ c greatestC ≡ true = omega whole in rw (l, k)
 
 -- a set that has a bit past so many events
 pub shift-some : (set count : ℕ) → (set / 2 ^ count ≡ 0 → ⊥) → 2 ^ count ≤ set

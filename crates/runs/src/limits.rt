@@ -12,10 +12,11 @@ use calendars::Terms;
 use clock::RunTime;
 use plan::MOST_JOBS;
 use plan::Plan;
+use plan::is_c;
 ghost use mathlib.Core.Path.{_≡_};
 ghost use Prim.Native.Nat.{_-_, _≤_, _<_};
 ghost use lib.ListN.{take};
-ghost use Rattle.runs.specs.ValueLimits.{isTime, areTimes, isTurn, isPhase, jobOfPhase, isRun, isC, isOut, isSide, areTermsOf, isCalendar};
+ghost use Rattle.runs.specs.ValueLimits.{isTime, areTimes, isTurn, isPhase, jobOfPhase, isRun, isOut, isSide, areTermsOf, isCalendar};
 ghost use Rattle.runs.specs.Steps.{isStep};
 
 // Whether a time is in 0..100,000,000,000,000,000.
@@ -155,19 +156,6 @@ pub fn is_step(st: Step) -> bool
         },
         Step::Finish(t) => is_time(t),
     }
-}
-
-// Whether a number is in the range of a bound's c.
-fn is_c(c: i64) -> bool
-    ensures { λ r. ⌜ r ≡ isC c ⌝ }
-{
-    if c < -1_000_000_000 {
-        return false;
-    }
-    if 1_000_000_000 < c {
-        return false;
-    }
-    true
 }
 
 // Whether event e is in the set and its c is in no bound's range.
