@@ -2,7 +2,7 @@
 -- What the code does to it, cell by cell, in the code's order.
 use Prim.Native.Nat.{ℕ, zero, suc, _+_, _*_, _<_}
 use mathlib.Core.Path.{_≡_}
-use mathlib.Core.Bool.{Bool, true, false, cond}
+use mathlib.Core.Bool.{Bool, true, false, cond, not}
 use mathlib.Core.List.{List, [], _∷_}
 use lib.IntN.{ℤ, pos, negℤ, _+ℤ_}
 use lib.Signed.{leZ, _≤ℤ_}
@@ -100,6 +100,18 @@ joinedAt early late s y w z ws = putAt early late y z (weightAt ws s z) w ws
 abbrev pub joinedCells : List ℤ → List ℤ → ℕ → ℕ → ℤ → List ℤ → Flat
 joinedCells early late s y w = eachNode (joinedAt early late s y w) 0 s
 
+-- a test at each of so many nodes from node e on, as bits, of which node e has the first
+unfoldable pub bitsFrom : (ℕ → Bool) → ℕ → ℕ → ℕ
+bitsFrom f e zero = 0
+bitsFrom f e (suc count) = cond (f e) 1 0 + 2 * bitsFrom f (e + 1) count
+
+abbrev pub isBounded : List ℤ → ℕ → ℕ → Bool
+isBounded ws s z = not (eqZ (weightAt ws s z) noBound)
+
+-- the nodes z before s for which z - s has a bound, as bits
+abbrev pub boundedBits : List ℤ → ℕ → ℕ
+boundedBits ws s = bitsFrom (isBounded ws s) 0 s
+
 -- the bounds through s of row y, where s - y has a bound
 unfoldable pub joinedRow : List ℤ → List ℤ → ℕ → ℕ → List ℤ → Flat
 joinedRow early late s y ws =
@@ -135,18 +147,20 @@ abbrev pub AllTimed : List ℤ → List ℤ → Type 0
 AllTimed early late = (y : ℕ) → y < 37 → Timed early late y
 
 -- what each function of the elimination of the start s rests on: times in range, and weights in range in row s and in column s
-pub record JoinsCells (early late : List ℤ) (s y : ℕ) (w : ℤ) (ws : List ℤ) : Type 0 where
+pub record JoinsCells (early late : List ℤ) (s set y : ℕ) (w : ℤ) (ws : List ℤ) : Type 0 where
   pub times : AllTimed early late
   pub node : s < 37
   pub before : y < s
+  pub bits : set ≡ boundedBits ws s
   pub on : eqZ w noBound ≡ false
   pub weighed : Weighed w
   pub row : (z : ℕ) → z < s → Weighed (weightAt ws s z)
 
-pub record JoinsRow (early late : List ℤ) (s y : ℕ) (ws : List ℤ) : Type 0 where
+pub record JoinsRow (early late : List ℤ) (s set y : ℕ) (ws : List ℤ) : Type 0 where
   pub times : AllTimed early late
   pub node : s < 37
   pub before : y < s
+  pub bits : set ≡ boundedBits ws s
   pub weighed : Weighed (weightAt ws y s)
   pub row : (z : ℕ) → z < s → Weighed (weightAt ws s z)
 

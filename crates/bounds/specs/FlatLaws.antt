@@ -1,20 +1,22 @@
 -- Tables in one array. How `putAt` goes, as the code goes: no bound to put, one that is no less than what stands there, or one that is judged.
 use Prim.Native.Nat.{ℕ, zero, suc, _+_, _*_, _-_, _≤_, _<_}
 use mathlib.Core.Path.{_≡_, refl, sym, ap, subst, _∙_}
-use mathlib.Core.Bool.{Bool, true, false, cond}
+use mathlib.Core.Bool.{Bool, true, false, cond, not}
 use mathlib.Core.List.{List, [], _∷_}
 use native.Mathlib.Omega.{arith}
 use lib.IntN.{ℤ, pos, _+ℤ_}
 use lib.Signed.{leZ}
 use lib.ListN.{length, getD, set, length-set}
 use lib.Seq.{getD-set-other}
+use borrow.Author.Tests.{not-false}
 use Rattle.whole.specs.Split.{eqZ}
 use Rattle.bounds.specs.declared.Judgement.{Judgement}
 use Rattle.bounds.specs.declared.Judgement.the-variants.{Contradiction, LeftOut, Kept}
 use Rattle.bounds.specs.Events.{nodeOf}
 use Rattle.bounds.specs.Tables.{Between}
 use Rattle.bounds.specs.Spans.{judgedAt}
-use Rattle.bounds.specs.Flat.{noBound, place, weightAt, Flat, flat, stored, keptAt, putAt, thenFlat, eachNode, putBounds, joinedAt, joinedCells, joinedRow, joinedRows, movedAt, movedRows}
+use Rattle.bounds.specs.Flat.{noBound, place, weightAt, Flat, flat, stored, keptAt, putAt, thenFlat, eachNode, putBounds, bitsFrom, isBounded, joinedAt, joinedCells, joinedRow, joinedRows, movedAt, movedRows}
+use Rattle.bounds.specs.BitsLaws.{bitsFrom-ext}
 
 module _ (early late : List ℤ) (y z : ℕ) (v a : ℤ) (ws : List ℤ) where
   pub putAt-none : eqZ v noBound ≡ true → flat false ws ≡ putAt early late y z v a ws
@@ -162,6 +164,17 @@ putBounds-length early late (b ∷ bs) ws =
     (λ us e. putBounds-length early late bs us ∙ e)
 
 -- ---- a row of a start that is eliminated
+
+-- the nodes to which row s has a bound are told by row s
+pub boundedBits-same : (s : ℕ) (ws us : List ℤ) (e n : ℕ) → ((z : ℕ) → e ≤ z → z < e + n → weightAt us s z ≡ weightAt ws s z)
+    → bitsFrom (isBounded us s) e n ≡ bitsFrom (isBounded ws s) e n
+boundedBits-same s ws us e n h = bitsFrom-ext (isBounded us s) (isBounded ws s) e n (λ z l m. ap (λ w. not (eqZ w noBound)) (h z l m))
+
+-- a node to which row s has no bound is passed by
+pub joinedCells-past : (early late : List ℤ) (s y : ℕ) (w : ℤ) (ws : List ℤ) (e : ℕ) → e < s → isBounded ws s e ≡ false
+    → eachNode (joinedAt early late s y w) e (s - e) ws ≡ eachNode (joinedAt early late s y w) (e + 1) (s - (e + 1)) ws
+joinedCells-past early late s y w ws e h q =
+    eachNode-past (joinedAt early late s y w) s e ws false ws h (putAt-none early late y e (weightAt ws s e) w ws (not-false (eqZ (weightAt ws s e) noBound) q)) refl
 
 module _ (early late : List ℤ) (s y : ℕ) (ws : List ℤ) where
   pub joinedRow-none : eqZ (weightAt ws y s) noBound ≡ true → flat false ws ≡ joinedRow early late s y ws

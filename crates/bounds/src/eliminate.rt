@@ -1,29 +1,38 @@
 // The elimination of one event, in place. The event is the last node of its table; only cells of the nodes before it are written, and what is
 // read of the event itself is not.
 use super::Table;
+use super::bounded::bounded_bits;
 use super::cells::put;
 ghost use mathlib.Core.Path.{_≡_};
 ghost use Rattle.bounds.specs.Flat.{JoinsCells, JoinsRow, JoinsRows, MovesAt, MovesRows, flat, joinedCells, joinedRow, joinedRows, movedAt, movedRows};
 
-// The bounds through the start s in row y, where s - y <= w. Answers whether one is a contradiction.
+// The bounds through the start s in row y, where s - y <= w; the set is that of the nodes z for which z - s has a bound, and only these cost a
+// turn. Answers whether one is a contradiction.
 fn join_cells<'a>(
     weights: &mut [i32; Table::SIZE],
     early: &'a [i32; Table::SIDE],
     late: &'a [i32; Table::SIDE],
     s: usize,
+    set: u64,
     y: usize,
     w: i32,
 ) -> bool
-    requires { ⌜ JoinsCells (now early) (now late) s y w (now weights) ⌝ }
+    requires { ⌜ JoinsCells (now early) (now late) s set y w (now weights) ⌝ }
     ensures { λ r. ⌜ flat r (now (weights .exit)) ≡ joinedCells (now (early .entry)) (now (late .entry)) s y w (now (weights .entry)) ⌝ }
 {
-    let mut z = 0;
-    while z < s {
-        let v = weights[s * Table::SIDE + z];
+    let row = s * Table::SIDE;
+    let mut rest = set;
+    let mut e: usize = 0;
+    while rest != 0 {
+        let gap = u64::trailing_zeros(rest) as u64;
+        let z = e + gap as usize;
+        let v = weights[row + z];
         if put(weights, early, late, y, z, v, w) {
             return true;
         }
-        z += 1;
+        rest = rest >> gap;
+        rest = rest >> 1;
+        e = z + 1;
     }
     false
 }
@@ -34,16 +43,17 @@ fn join_row<'a>(
     early: &'a [i32; Table::SIDE],
     late: &'a [i32; Table::SIDE],
     s: usize,
+    set: u64,
     y: usize,
 ) -> bool
-    requires { ⌜ JoinsRow (now early) (now late) s y (now weights) ⌝ }
+    requires { ⌜ JoinsRow (now early) (now late) s set y (now weights) ⌝ }
     ensures { λ r. ⌜ flat r (now (weights .exit)) ≡ joinedRow (now (early .entry)) (now (late .entry)) s y (now (weights .entry)) ⌝ }
 {
     let w = weights[y * Table::SIDE + s];
     if w == Table::NO_BOUND {
         return false;
     }
-    join_cells(weights, early, late, s, y, w)
+    join_cells(weights, early, late, s, set, y, w)
 }
 
 // 'Eliminating a start s: each s - y <= w and z - s <= v give z - y <= w + v.' Answers whether one is a contradiction.
@@ -56,9 +66,10 @@ pub fn join_rows<'a>(
     requires { ⌜ JoinsRows (now early) (now late) s (now weights) ⌝ }
     ensures { λ r. ⌜ flat r (now (weights .exit)) ≡ joinedRows (now (early .entry)) (now (late .entry)) s (now (weights .entry)) ⌝ }
 {
+    let set = bounded_bits(weights, s);
     let mut y = 0;
     while y < s {
-        if join_row(weights, early, late, s, y) {
+        if join_row(weights, early, late, s, set, y) {
             return true;
         }
         y += 1;

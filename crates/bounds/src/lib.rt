@@ -1,5 +1,6 @@
 // Bounds between events, their judgement, and the elimination of one event from a set of them.
 
+mod bounded;
 mod cells;
 mod eliminate;
 mod judging;

@@ -34,11 +34,12 @@ join-cells-requires c κs =
     let s = c .before .before .before in
     let a = s .args in
     let f = told-fits w32 (weightAt (a .weights .now) (a .y) (a .s)) (c .before .before .w .given) in
-    subst (λ w. JoinsCells (a .early .now) (a .late .now) (a .s) (a .y) w (a .weights .now)) (sym (toZ-ofZ f))
+    subst (λ w. JoinsCells (a .early .now) (a .late .now) (a .s) (a .set) (a .y) w (a .weights .now)) (sym (toZ-ofZ f))
     (record {
       times = s .pre .times;
       node = s .pre .node;
       before = s .pre .before;
+      bits = s .pre .bits;
       on = no-mark f (c .before .if1 .left);
       weighed = s .pre .weighed;
       row = s .pre .row;

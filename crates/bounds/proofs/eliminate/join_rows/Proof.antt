@@ -1,30 +1,33 @@
 -- `bounds::eliminate::join_rows` meets its contract. The loop's invariant: what remains to be done from row y on gives the whole answer, and
--- from row y on nothing has changed.
+-- from row y on nothing has changed, so that the set is still that of row s.
 use Prim.Native.Nat.{ℕ, _≤_, _<_, _-_}
 use mathlib.Core.Path.{_≡_, refl, sym, _∙_, ap, subst}
 use native.Mathlib.Omega.{arith}
 use lib.IntN.{ℤ, pos}
 use lib.ListN.{getD}
 use Rattle.bounds.specs.Flat.{place, weightAt, Weighed, eachNode, joinedRow, joinedRows}
-use Rattle.bounds.specs.FlatLaws.{eachNode-stop, eachNode-past, eachNode-end, joinedRow-same}
+use Rattle.bounds.specs.FlatLaws.{eachNode-stop, eachNode-past, eachNode-end, boundedBits-same, joinedRow-same}
 use Rattle.bounds.proofs.eliminate.join_rows.Statement.{statement}
 use Rattle.bounds.proofs.eliminate.join_rows.Tie as tie
 
 abbrev Inv-loop : tie.InvT-loop
-Inv-loop weights₀ early late s y₀ weights y =
+Inv-loop weights₀ early late s set y₀ weights y =
     (y ≤ s)
     × (joinedRows early late s weights₀ ≡ eachNode (joinedRow early late s) y (s - y) weights)
     × ((i : ℕ) → place y 0 ≤ i → getD weights i (pos 0) ≡ getD weights₀ i (pos 0))
 
 abbrev μ-loop : tie.MeasureT-loop
-μ-loop weights₀ early late s y₀ weights y = s - y
+μ-loop weights₀ early late s set y₀ weights y = s - y
+
+bounded-bits-requires : tie.Need-bounded-bits-requires Inv-loop μ-loop
+bounded-bits-requires c κs = c .before .pre .node
 
 loop-holds : tie.Need-loop-holds Inv-loop μ-loop
-loop-holds c = let whole : c .args .s - 0 ≡ c .args .s = omega arith in (omega arith, rw whole, λ i h. refl)
+loop-holds c = let whole : c .before .before .args .s - 0 ≡ c .before .before .args .s = omega arith in (omega arith, rw whole, λ i h. refl)
 
 join-row-requires : tie.Need-join-row-requires Inv-loop μ-loop
 join-row-requires c κs =
-    let s = c .before .before .before in
+    let s = c .before .before .before .before .before in
     let a = s .args in
     let l = c .before .before .loop in
     let low : l .y < a .s = omega arith in
@@ -32,13 +35,16 @@ join-row-requires c κs =
       times = s .pre .times;
       node = s .pre .node;
       before = low;
+      bits =
+          c .before .before .before .bounded-bits .ensures
+          ∙ sym (boundedBits-same (a .s) (a .weights .now) (l .weights) 0 (a .s) (λ z h k. l .inv .2 (place (a .s) z) (omega arith)));
       weighed = subst Weighed (sym (l .inv .2 (place (l .y) (a .s)) (omega arith))) (s .pre .column (l .y) low);
       row = λ z h. subst Weighed (sym (l .inv .2 (place (a .s) z) (omega arith))) (s .pre .row z h);
     }
 
 returns : tie.Need-returns Inv-loop μ-loop
 returns c =
-    let a = c .before .before .before .before .before .args in
+    let a = c .before .before .before .before .before .before .before .args in
     let l = c .before .before .before .before .loop in
     let r = c .before .join-row in
     sym
@@ -54,7 +60,7 @@ loop-less c = omega arith
 
 loop-again : tie.Need-loop-again Inv-loop μ-loop
 loop-again c =
-    let s = c .before .before .before .before .before in
+    let s = c .before .before .before .before .before .before .before in
     let a = s .args in
     let l = c .before .before .before .before .loop in
     let r = c .before .join-row in (
@@ -70,7 +76,7 @@ loop-again c =
 
 returns-2 : tie.Need-returns-2 Inv-loop μ-loop
 returns-2 c =
-    let a = c .before .before .args in
+    let a = c .before .before .before .before .args in
     let l = c .before .loop in
     sym (l .inv .1 ∙ eachNode-end (joinedRow (a .early .now) (a .late .now) (a .s)) (a .s) (l .y) (l .weights) (omega arith))
 
@@ -80,6 +86,7 @@ join-rows-spec =
     (tie.spec
     Inv-loop
     μ-loop
+    bounded-bits-requires
     loop-holds
     join-row-requires
     returns
