@@ -52,7 +52,8 @@ fn contradicted<'a>(
     Verdict::NoStrategy(next)
 }
 
-// The rounds from the first on: `own` is C(0), and `base` has the bounds between windows put into it. The joined table of each round is put into `joined`.
+// The rounds from the first on: `own` is C(0), and `base` has the bounds between windows put into it. The joined table of the round that settles is made
+// anew in `joined`, so that no other round copies its table.
 fn settle_rounds<'a>(
     p: Plan,
     early: &'a [i32; Table::SIDE],
@@ -77,11 +78,12 @@ fn settle_rounds<'a>(
         if put_next(&mut weights, early, late, jobs, window, &carried) {
             return contradicted(p, early, late, &carried, m);
         }
-        *joined = weights;
         if drop_places(&mut weights, early, late, jobs, jobs) {
             return contradicted(p, early, late, &carried, m);
         }
         if same_rows(&carried, &weights, count) {
+            *joined = *base;
+            put_next(joined, early, late, jobs, window, &carried);
             return Verdict::Settled(m);
         }
         carried = weights;

@@ -17,6 +17,7 @@ use Rattle.bounds.specs.Flat.{rowsOf, setIn, flat}
 use Rattle.bounds.specs.Fit.{Fit, StandingOf}
 use Rattle.rounds.specs.Rounds.{unsettled, roundsFrom, outcome}
 use Rattle.rounds.specs.Next.{Nexts, nextRows}
+use Rattle.rounds.specs.Settling.{SettledOn}
 use Rattle.rounds.specs.SettleLaws.{verdict-none, verdict-settled, verdict-unsettled, none-on, unsettled-on, rounds-end, own-fit, own-size, first-round, Carrying, carried-standing, carried-nexts, joined-none, joined-standing, remains-none, remains-fit, round-later, round-settled, round-settled-on}
 use Rattle.rounds.proofs.verdicts.settle_rounds.Statement.{statement}
 use Rattle.rounds.proofs.verdicts.settle_rounds.Tie as tie
@@ -126,28 +127,35 @@ returns-2 c =
     let none = remains-none (carrying (n .before)) (n .put-next .result) (n .put-next .last .0) (put-is n) (c .before .before .before .before .before .if1 .left) (r .drop-places .result) (r .drop-places .last .0)
     (remains-is r)
     (c .before .before .if2 .taken) in
-    (c .contradicted2 .ensures ∙ verdict-none p _ none, (none-on p _ _ none, joining n (c .before .before .before .before .before .if1 .left) .size))
+    (c .contradicted2 .ensures ∙ verdict-none p _ none, (none-on p _ _ none, n .before .before .before .before .before .loop .inv .5))
 
 -- ---- 'C(m) = C(m-1)'
 
 same-rows-requires : tie.Need-same-rows-requires Inv-loop μ-loop
 same-rows-requires c κs = let most = c .before .before .before .before .before .before .before .before .before .before .before .before .before .before .pre .0 .accepted .jobs-most in omega arith
 
+put-next-requires-2 : tie.Need-put-next-requires-2 Inv-loop μ-loop
+put-next-requires-2 c κs = put-next-requires (c .before .before .before .before .before .before .before .before .before .before .before .before) κs
+
 returns-3 : tie.Need-returns-3 Inv-loop μ-loop
 returns-3 c =
-    let r = c .before .before .before .before .before in
-    let n = c .before .before .before .before .before .before .before .before in
-    let left = c .before .before .before .before .if2 .left in
-    let same = sym (c .before .same-rows .ensures) ∙ c .if3 .taken in (
-      verdict-settled (c .before .before .before .before .before .before .before .before .before .before .before .before .before .before .before .before .args .p) (c .before .before .before .before .before .before .before .before .before .before .before .before .before .loop .m) _
-          (round-settled (carrying (n .before)) (n .put-next .result) (n .put-next .last .0) (put-is n) (c .before .before .before .before .before .before .before .if1 .left) (r .drop-places .result) (r .drop-places .last .0) (remains-is r)
+    let r = c .before .before .before .before .before .before .before .before .before in
+    let n = r .before .before .before in
+    let p = n .before .before .before .before .before .before .before .before .args .p in
+    let joined = r .before .before .if1 .left in
+    let left = c .before .before .before .before .before .before .before .before .if2 .left in
+    let same = sym (c .before .before .before .before .before .same-rows .ensures) ∙ c .before .before .before .before .if3 .taken in
+    let anew : c .put-next2 .last .0 ≡ n .put-next .last .0 = ap (λ f. f .weights) (c .put-next2 .ensures ∙ sym (n .put-next .ensures)) in (
+      verdict-settled p (n .before .before .before .before .before .loop .m) _
+          (round-settled (carrying (n .before)) (n .put-next .result) (n .put-next .last .0) (put-is n) joined (r .drop-places .result) (r .drop-places .last .0) (remains-is r)
           left
           same),
       (
-        round-settled-on (carrying (n .before)) (n .put-next .result) (n .put-next .last .0) (put-is n) (c .before .before .before .before .before .before .before .if1 .left) (r .drop-places .result) (r .drop-places .last .0) (remains-is r)
+        subst (λ us. SettledOn p (rowsOf (nodes (p .jobs + p .jobs)) us)) (sym anew)
+            (round-settled-on (carrying (n .before)) (n .put-next .result) (n .put-next .last .0) (put-is n) joined (r .drop-places .result) (r .drop-places .last .0) (remains-is r)
             left
-            same,
-        joining n (c .before .before .before .before .before .before .before .if1 .left) .size,
+            same),
+        ap length anew ∙ joining n joined .size,
       ),
     )
 
@@ -176,7 +184,7 @@ loop-again c =
           (one-less (a .p .rounds) (l .m)),
       remains-fit (carrying (n .before)) (n .put-next .result) (n .put-next .last .0) (put-is n) (c .before .before .before .before .before .before .before .if1 .left) (r .drop-places .result) (r .drop-places .last .0) (remains-is r) left,
       r .drop-places .ensures .1 ∙ joins,
-      joins,
+      l .inv .5,
     )
 
 returns-4 : tie.Need-returns-4 Inv-loop μ-loop
@@ -204,6 +212,7 @@ settle-rounds-spec =
     contradicted-requires-2
     returns-2
     same-rows-requires
+    put-next-requires-2
     returns-3
     add-m
     loop-less
