@@ -64,39 +64,26 @@ filled-place t k ts a b h d e f =
 
 -- ---- both arrays
 
-zero-in : InRange (pos 0)
-zero-in = record { least = omega wholes; greatest = omega wholes }
+module _ (t : Event → ℤ) (n : ℕ) (ts : List ℤ) (f : Filled t n ts) (known : (y : ℕ) → y < n → InRange (t (eventOf y))) where
+  filled-in : (y : ℕ) → y < 37 → InRange (timeAt ts y)
+  filled-in y h = by (ltb y n) refl
+    where
+      by : (b : Bool) → ltb y n ≡ b → InRange (timeAt ts y)
+      by true q = let low = ltb-true y n q in subst InRange (sym (f .done y low)) (known y low)
+      by false q = subst InRange (sym (f .rest y (ltb-false y n q) h)) (record { least = omega wholes; greatest = omega wholes })
 
 module _ (p : Plan) (a : Accepted p) (early late : List ℤ)
     (e : Filled (earliest p) (nodes (p .jobs + p .jobs)) early) (l : Filled (latest p) (nodes (p .jobs + p .jobs)) late) where
-  early-timed : (y : ℕ) → y < 37 → InRange (timeAt early y)
-  early-timed y h = by (ltb y (nodes (p .jobs + p .jobs))) refl
-    where
-      by : (b : Bool) → ltb y (nodes (p .jobs + p .jobs)) ≡ b → InRange (timeAt early y)
-      by true q =
-          let low : y < nodes (p .jobs + p .jobs) = ltb-true y _ q in
-          let r = earliest-in p a y low in
-          let least = r .least in
-          let most = r .greatest in
-          subst InRange (sym (e .done y low)) (record { least = omega wholes; greatest = omega wholes })
-      by false q = subst InRange (sym (e .rest y (ltb-false y _ q) h)) zero-in
+  early-known : (y : ℕ) → y < nodes (p .jobs + p .jobs) → InRange (earliest p (eventOf y))
+  early-known y h = let r = earliest-in p a y h in let low = r .least in let high = r .greatest in record { least = omega wholes; greatest = omega wholes }
 
-  late-timed : (y : ℕ) → y < 37 → InRange (timeAt late y)
-  late-timed y h = by (ltb y (nodes (p .jobs + p .jobs))) refl
-    where
-      by : (b : Bool) → ltb y (nodes (p .jobs + p .jobs)) ≡ b → InRange (timeAt late y)
-      by true q =
-          let low : y < nodes (p .jobs + p .jobs) = ltb-true y _ q in
-          let r = latest-in p a y low in
-          let least = r .least in
-          let most = r .greatest in
-          subst InRange (sym (l .done y low)) (record { least = omega wholes; greatest = omega wholes })
-      by false q = subst InRange (sym (l .rest y (ltb-false y _ q) h)) zero-in
+  late-known : (y : ℕ) → y < nodes (p .jobs + p .jobs) → InRange (latest p (eventOf y))
+  late-known y h = let r = latest-in p a y h in let low = r .least in let high = r .greatest in record { least = omega wholes; greatest = omega wholes }
 
   pub filled-clocked : Clocked p early late
   filled-clocked =
       record {
         accepted = a;
         times = record { earliest-at = λ y h. e .done y h; latest-at = λ y h. l .done y h };
-        timed = λ y h. record { node = h; early-in = early-timed y h; late-in = late-timed y h };
+        timed = λ y h. record { node = h; early-in = filled-in _ _ early e early-known y h; late-in = filled-in _ _ late l late-known y h };
       }
