@@ -1,6 +1,7 @@
 -- How the own bounds are put: the two of an event, and one place after the other, from the last to the first.
 use Prim.Native.Nat.{ℕ, zero, suc, _+_, _*_, _-_, _≤_, _<_}
 use mathlib.Core.Path.{_≡_, refl, sym, ap, ap₂, _∙_}
+use mathlib.Core.Bool.{Bool, true, false}
 use mathlib.Core.List.{List, [], _∷_, _++_}
 use native.Mathlib.Omega.{arith}
 use lib.IntN.{ℤ, pos, negℤ}
@@ -12,8 +13,8 @@ use Rattle.bounds.specs.BuildLaws.{eventOf-nodeOf}
 use Rattle.bounds.specs.EventsLaws.{nodeOf-eventOf}
 use Rattle.bounds.specs.Tables.{Between}
 use Rattle.bounds.specs.Spans.{timeAt, Times}
-use Rattle.bounds.specs.Flat.{putAt, putBounds}
-use Rattle.bounds.specs.BoundsLaws.{putBounds-one}
+use Rattle.bounds.specs.Flat.{flat, putAt, putBounds}
+use Rattle.bounds.specs.BoundsLaws.{putBounds-none, putBounds-one, putBounds-stop, putBounds-past}
 use Rattle.rounds.specs.Given.{upTo, downTo, inOrder, ranges, orders}
 use Rattle.rounds.specs.Put.{rangeOf, rangeOfPlace, rangesOf}
 
@@ -34,23 +35,35 @@ module _ (early late : List ℤ) (y : ℕ) (ws : List ℤ) where
   unfolding nodeOf
   down-is = ap (λ n. putAt early late n 0 (negℤ (timeAt early n)) (pos 0) ws) (sym (nodeOf-eventOf y)) ∙ putBounds-one early late (downBound early y) ws
 
--- ---- place by place
+-- ---- place by place, from the last to the first
 
-pub rangesOf-more : (early late : List ℤ) (left : ℕ) → 0 < left → rangesOf early late left ≡ rangeOfPlace early late (left - 1) ++ rangesOf early late (left - 1)
+-- the bounds of so many places are those of the last of them, and then those of the others
+pub record PlaceByPlace (own all : ℕ → List Between) : Type 0 where
+  pub more : (k : ℕ) → all (suc k) ≡ own k ++ all k
+  pub none : all 0 ≡ []
+
+pub rangesOf-places : (early late : List ℤ) → PlaceByPlace (rangeOfPlace early late) (rangesOf early late)
 unfolding rangesOf
-rangesOf-more early late left h = let more : left ≡ suc (left - 1) = omega arith in ap (rangesOf early late) more
+rangesOf-places early late = record { more = λ k. refl; none = refl }
 
-pub rangesOf-end : (early late : List ℤ) (left : ℕ) → left ≡ 0 → rangesOf early late left ≡ []
-unfolding rangesOf
-rangesOf-end early late left e = ap (rangesOf early late) e
-
-pub orders-more : (left : ℕ) → 0 < left → orders left ≡ (inOrder (left - 1) ∷ []) ++ orders (left - 1)
+pub orders-places : PlaceByPlace (λ k. inOrder k ∷ []) orders
 unfolding orders
-orders-more left h = let more : left ≡ suc (left - 1) = omega arith in ap orders more
+orders-places = record { more = λ k. refl; none = refl }
 
-pub orders-end : (left : ℕ) → left ≡ 0 → orders left ≡ []
-unfolding orders
-orders-end left e = ap orders e
+-- one turn of a loop over the places
+module _ {own all : ℕ → List Between} (b : PlaceByPlace own all) (early late : List ℤ) (left : ℕ) (ws : List ℤ) where
+  turn : 0 < left → putBounds early late (all left) ws ≡ putBounds early late (own (left - 1) ++ all (left - 1)) ws
+  turn h = let last : left ≡ suc (left - 1) = omega arith in ap (λ bs. putBounds early late bs ws) (ap all last ∙ b .more (left - 1))
+
+  module _ (r : Bool) (us : List ℤ) (h : 0 < left) (e : flat r us ≡ putBounds early late (own (left - 1)) ws) where
+    pub places-stop : r ≡ true → putBounds early late (all left) ws ≡ flat true us
+    places-stop t = turn h ∙ sym (putBounds-stop early late (own (left - 1)) (all (left - 1)) ws r us e t)
+
+    pub places-past : r ≡ false → putBounds early late (all left) ws ≡ putBounds early late (all (left - 1)) us
+    places-past t = turn h ∙ sym (putBounds-past early late (own (left - 1)) (all (left - 1)) ws r us e t)
+
+  pub places-end : left ≡ 0 → putBounds early late (all left) ws ≡ flat false ws
+  places-end z = ap (λ bs. putBounds early late bs ws) (ap all z ∙ b .none) ∙ putBounds-none early late ws
 
 pub order-is : (early late : List ℤ) (k : ℕ) (ws : List ℤ) → putAt early late (3 + 2 * k) (2 + 2 * k) (pos 0) (pos 0) ws ≡ putBounds early late (inOrder k ∷ []) ws
 unfolding nodeOf

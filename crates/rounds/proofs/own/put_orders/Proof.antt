@@ -1,12 +1,10 @@
 -- `rounds::own::put_orders` meets its contract. The loop's invariant: the places that are left give the whole answer.
-use Prim.Native.Nat.{ℕ, _+_, _-_, _≤_, _<_}
-use mathlib.Core.Path.{_≡_, refl, sym, _∙_, ap}
-use mathlib.Core.List.{[], _∷_}
+use Prim.Native.Nat.{_≤_}
+use mathlib.Core.Path.{_≡_, refl, sym, _∙_}
 use native.Mathlib.Omega.{arith}
-use Rattle.bounds.specs.Flat.{flat, putBounds}
-use Rattle.bounds.specs.BoundsLaws.{putBounds-stop, putBounds-past, putBounds-none}
-use Rattle.rounds.specs.Given.{inOrder, orders}
-use Rattle.rounds.specs.PutLaws.{orders-more, orders-end}
+use Rattle.bounds.specs.Flat.{putBounds}
+use Rattle.rounds.specs.Given.{orders}
+use Rattle.rounds.specs.PutLaws.{orders-places, places-stop, places-past, places-end}
 use Rattle.rounds.proofs.own.put_orders.Statement.{statement}
 use Rattle.rounds.proofs.own.put_orders.Tie as tie
 
@@ -36,13 +34,10 @@ returns c =
     let a = c .before .before .before .before .before .args in
     let l = c .before .before .before .before .loop in
     let r = c .before .put-order in
-    putBounds-stop (a .early .now) (a .late .now) (inOrder (l .left - 1) ∷ []) (orders (l .left - 1))
-    (l .weights)
-    (r .result)
-    (r .last .0)
-    (r .ensures)
-    (c .if1 .taken)
-    ∙ sym (l .inv .1 ∙ ap (λ bs. putBounds (a .early .now) (a .late .now) bs (l .weights)) (orders-more (l .left) (omega arith)))
+    sym
+    (l .inv .1
+    ∙ places-stop orders-places (a .early .now) (a .late .now) (l .left) (l .weights) (r .result) (r .last .0) (omega arith) (r .ensures)
+    (c .if1 .taken))
 
 loop-less : tie.Need-loop-less Inv-loop μ-loop
 loop-less c = omega arith
@@ -54,24 +49,15 @@ loop-again c =
     let r = c .before .put-order in (
       let most = l .inv .0 in omega arith,
       l .inv .1
-          ∙ ap (λ bs. putBounds (a .early .now) (a .late .now) bs (l .weights)) (orders-more (l .left) (omega arith))
-          ∙ sym
-          (putBounds-past (a .early .now) (a .late .now) (inOrder (l .left - 1) ∷ []) (orders (l .left - 1))
-          (l .weights)
-          (r .result)
-          (r .last .0)
-          (r .ensures)
-          (c .if1 .left)),
+          ∙ places-past orders-places (a .early .now) (a .late .now) (l .left) (l .weights) (r .result) (r .last .0) (omega arith) (r .ensures)
+          (c .if1 .left),
     )
 
 returns-2 : tie.Need-returns-2 Inv-loop μ-loop
 returns-2 c =
     let a = c .before .before .args in
     let l = c .before .loop in
-    sym
-    (l .inv .1
-    ∙ ap (λ bs. putBounds (a .early .now) (a .late .now) bs (l .weights)) (orders-end (l .left) (omega arith))
-    ∙ putBounds-none (a .early .now) (a .late .now) (l .weights))
+    sym (l .inv .1 ∙ places-end orders-places (a .early .now) (a .late .now) (l .left) (l .weights) (omega arith))
 
 pub put-orders-spec : {M : Type 1} → statement M
 put-orders-spec =
