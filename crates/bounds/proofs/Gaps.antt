@@ -10,24 +10,24 @@ use Rattle.bounds.specs.Spans.{InRange}
 pub in-range-fits : {t : ℤ} → InRange t → SFits w32 t
 in-range-fits h = omega wholes
 
-pub gap-fits : (a b : ℤ) → InRange a → InRange b → SFits w32 (toZ w32 (ofZ w32 a) -ℤ toZ w32 (ofZ w32 b))
-gap-fits a b f g = simp (toZ-ofZ (in-range-fits f), toZ-ofZ (in-range-fits g)) (omega wholes)
+pub gap-fits : {a b : ℤ} → InRange a → InRange b → SFits w32 (toZ w32 (ofZ w32 a) -ℤ toZ w32 (ofZ w32 b))
+gap-fits f g = simp (toZ-ofZ (in-range-fits f), toZ-ofZ (in-range-fits g)) (omega wholes)
 
-pub gap-back : (a b : ℤ) → InRange a → InRange b → toZ w32 (ofZ w32 (toZ w32 (ofZ w32 a) -ℤ toZ w32 (ofZ w32 b))) ≡ a -ℤ b
-gap-back a b f g =
-    toZ-ofZ (gap-fits a b f g) ∙ ap₂ _-ℤ_ (toZ-ofZ (in-range-fits f)) (toZ-ofZ (in-range-fits g))
+pub gap-back : {a b : ℤ} → InRange a → InRange b → toZ w32 (ofZ w32 (toZ w32 (ofZ w32 a) -ℤ toZ w32 (ofZ w32 b))) ≡ a -ℤ b
+gap-back f g =
+    toZ-ofZ (gap-fits f g) ∙ ap₂ _-ℤ_ (toZ-ofZ (in-range-fits f)) (toZ-ofZ (in-range-fits g))
 
-pub total-fits : (a b : ℤ) → InRange a → InRange b → SFits w32 (toZ w32 (ofZ w32 a) +ℤ toZ w32 (ofZ w32 b))
-total-fits a b f g = simp (toZ-ofZ (in-range-fits f), toZ-ofZ (in-range-fits g)) (omega wholes)
+pub total-fits : {a b : ℤ} → InRange a → InRange b → SFits w32 (toZ w32 (ofZ w32 a) +ℤ toZ w32 (ofZ w32 b))
+total-fits f g = simp (toZ-ofZ (in-range-fits f), toZ-ofZ (in-range-fits g)) (omega wholes)
 
-pub total-back : (a b : ℤ) → InRange a → InRange b → toZ w32 (ofZ w32 (toZ w32 (ofZ w32 a) +ℤ toZ w32 (ofZ w32 b))) ≡ a +ℤ b
-total-back a b f g =
-    toZ-ofZ (total-fits a b f g) ∙ ap₂ _+ℤ_ (toZ-ofZ (in-range-fits f)) (toZ-ofZ (in-range-fits g))
+pub total-back : {a b : ℤ} → InRange a → InRange b → toZ w32 (ofZ w32 (toZ w32 (ofZ w32 a) +ℤ toZ w32 (ofZ w32 b))) ≡ a +ℤ b
+total-back f g =
+    toZ-ofZ (total-fits f g) ∙ ap₂ _+ℤ_ (toZ-ofZ (in-range-fits f)) (toZ-ofZ (in-range-fits g))
 
 -- and one more number after what was read back
-pub chain-fits : (x a b : ℤ) → x ≡ a → InRange a → InRange b → SFits w32 (x +ℤ toZ w32 (ofZ w32 b))
-chain-fits x a b e f g =
+pub chain-fits : {x a b : ℤ} → x ≡ a → InRange a → InRange b → SFits w32 (x +ℤ toZ w32 (ofZ w32 b))
+chain-fits {x} {a} {b} e f g =
     subst (λ x. SFits w32 (x +ℤ toZ w32 (ofZ w32 b))) (sym e) (simp (toZ-ofZ (in-range-fits g)) (omega wholes))
 
-pub chain-back : (x a b : ℤ) → x ≡ a → InRange a → InRange b → toZ w32 (ofZ w32 (x +ℤ toZ w32 (ofZ w32 b))) ≡ a +ℤ b
-chain-back x a b e f g = toZ-ofZ (chain-fits x a b e f g) ∙ ap₂ _+ℤ_ e (toZ-ofZ (in-range-fits g))
+pub chain-back : {x a b : ℤ} → x ≡ a → InRange a → InRange b → toZ w32 (ofZ w32 (x +ℤ toZ w32 (ofZ w32 b))) ≡ a +ℤ b
+chain-back e f g = toZ-ofZ (chain-fits e f g) ∙ ap₂ _+ℤ_ e (toZ-ofZ (in-range-fits g))

@@ -2,7 +2,6 @@
 use mathlib.Core.Path.{_∙_, ap}
 use lib.IntN.{ℤ}
 use mir.Facts.{toZ-ofZ}
-use Rattle.bounds.specs.Spans.{timeAt}
 use Rattle.bounds.specs.SpansLaws.{judgedAt-by}
 use Rattle.bounds.proofs.Gaps.{gap-fits, gap-back}
 use borrow.Author.Needs.{needs}
@@ -34,40 +33,16 @@ element-copy-out-latest-z : tie.Need-element-copy-out-latest-z
 element-copy-out-latest-z c = search needs
 
 sub-low : tie.Need-sub-low
-sub-low c =
-    let s = c .before .before .before .before in
-    gap-fits
-    (timeAt (s .args .early .now) (s .args .z))
-    (timeAt (s .args .late .now) (s .args .y))
-    (s .pre .1 .early-in)
-    (s .pre .0 .late-in)
+sub-low c = let s = c .before .before .before .before in gap-fits (s .pre .1 .early-in) (s .pre .0 .late-in)
 
 sub-high : tie.Need-sub-high
-sub-high c =
-    let s = c .before .before .before .before in
-    gap-fits
-    (timeAt (s .args .late .now) (s .args .z))
-    (timeAt (s .args .early .now) (s .args .y))
-    (s .pre .1 .late-in)
-    (s .pre .0 .early-in)
+sub-high c = let s = c .before .before .before .before in gap-fits (s .pre .1 .late-in) (s .pre .0 .early-in)
 
 sub-later : tie.Need-sub-later
-sub-later c =
-    let s = c .before .before .before .before in
-    gap-fits
-    (timeAt (s .args .late .now) (s .args .z))
-    (timeAt (s .args .late .now) (s .args .y))
-    (s .pre .1 .late-in)
-    (s .pre .0 .late-in)
+sub-later c = let s = c .before .before .before .before in gap-fits (s .pre .1 .late-in) (s .pre .0 .late-in)
 
 sub-sooner : tie.Need-sub-sooner
-sub-sooner c =
-    let s = c .before .before .before .before in
-    gap-fits
-    (timeAt (s .args .early .now) (s .args .z))
-    (timeAt (s .args .early .now) (s .args .y))
-    (s .pre .1 .early-in)
-    (s .pre .0 .early-in)
+sub-sooner c = let s = c .before .before .before .before in gap-fits (s .pre .1 .early-in) (s .pre .0 .early-in)
 
 of-requires : tie.Need-of-requires
 of-requires c κs = search needs
@@ -88,26 +63,10 @@ returns c =
     (s .args .y)
     (s .args .z)
     (s .args .w)
-    (gap-back
-    (timeAt (s .args .early .now) (s .args .z))
-    (timeAt (s .args .late .now) (s .args .y))
-    (s .pre .1 .early-in)
-    (s .pre .0 .late-in))
-    (gap-back
-    (timeAt (s .args .late .now) (s .args .z))
-    (timeAt (s .args .early .now) (s .args .y))
-    (s .pre .1 .late-in)
-    (s .pre .0 .early-in))
-    (gap-back
-    (timeAt (s .args .late .now) (s .args .z))
-    (timeAt (s .args .late .now) (s .args .y))
-    (s .pre .1 .late-in)
-    (s .pre .0 .late-in))
-    (gap-back
-    (timeAt (s .args .early .now) (s .args .z))
-    (timeAt (s .args .early .now) (s .args .y))
-    (s .pre .1 .early-in)
-    (s .pre .0 .early-in))
+    (gap-back (s .pre .1 .early-in) (s .pre .0 .late-in))
+    (gap-back (s .pre .1 .late-in) (s .pre .0 .early-in))
+    (gap-back (s .pre .1 .late-in) (s .pre .0 .late-in))
+    (gap-back (s .pre .1 .early-in) (s .pre .0 .early-in))
     (c .before .before .of .ensures)
     (c .before .of2 .ensures)
 

@@ -47,13 +47,13 @@ module _ (s : tie.Start) (p : Plan)
   less-max : less s ≡ negℤ (jobAt p (s .args .k) .max)
   less-max =
       let a = s .args in
-      gap-back (timeAt (a .late .now) (startNode (a .k))) (timeAt (a .late .now) (finishNode (a .k))) (start-timed s .late-in) (finish-timed s .late-in)
+      gap-back (start-timed s .late-in) (finish-timed s .late-in)
       ∙ less-is p (a .early .now) (a .late .now) (g .clocked) (a .k) (a .weights .now) (g .room) (g .fit)
 
   more-min : more s ≡ jobAt p (s .args .k) .min
   more-min =
       let a = s .args in
-      gap-back (timeAt (a .early .now) (finishNode (a .k))) (timeAt (a .early .now) (startNode (a .k))) (finish-timed s .early-in) (start-timed s .early-in)
+      gap-back (finish-timed s .early-in) (start-timed s .early-in)
       ∙ more-is p (a .early .now) (a .late .now) (g .clocked) (a .k) (a .weights .now) (g .room) (g .fit)
 
 mul-s : tie.Need-mul-s
@@ -93,16 +93,10 @@ element-copy-out-earliest-finish : tie.Need-element-copy-out-earliest-finish
 element-copy-out-earliest-finish c = search needs
 
 sub-less : tie.Need-sub-less
-sub-less c =
-    let s = c .before .before .before .before in
-    let a = s .args in
-    gap-fits (timeAt (a .late .now) (startNode (a .k))) (timeAt (a .late .now) (finishNode (a .k))) (start-timed s .late-in) (finish-timed s .late-in)
+sub-less c = let s = c .before .before .before .before in gap-fits (start-timed s .late-in) (finish-timed s .late-in)
 
 sub-more : tie.Need-sub-more
-sub-more c =
-    let s = c .before .before .before .before in
-    let a = s .args in
-    gap-fits (timeAt (a .early .now) (finishNode (a .k))) (timeAt (a .early .now) (startNode (a .k))) (finish-timed s .early-in) (start-timed s .early-in)
+sub-more c = let s = c .before .before .before .before in gap-fits (finish-timed s .early-in) (start-timed s .early-in)
 
 move-nodes-requires : tie.Need-move-nodes-requires
 move-nodes-requires c κs =

@@ -52,51 +52,33 @@ room c = let most = c .before .before .before .before .before .pre .jobs-most in
 
 add-first-start : tie.Need-add-first-start Inv-loop μ-loop
 add-first-start c =
-    let r = c .before .before in
-    let j = r .before .job-at .result in
-    let h = r .shift-at .result in
-    let i = place-in r in
-    total-fits (j .release) h (i .release) (i .later)
+    let i = place-in (c .before .before) in
+    total-fits (i .release) (i .later)
 
 add-first-finish : tie.Need-add-first-finish Inv-loop μ-loop
 add-first-finish c =
-    let r = c .before .before .before .before in
-    let j = r .before .job-at .result in
-    let h = r .shift-at .result in
-    let i = place-in r in
-    total-fits (j .release) (j .min) (i .release) (i .min)
+    let i = place-in (c .before .before .before .before) in
+    total-fits (i .release) (i .min)
 
 add-first-finish-2 : tie.Need-add-first-finish-2 Inv-loop μ-loop
 add-first-finish-2 c =
-    let r = c .before .before .before .before in
-    let j = r .before .job-at .result in
-    let h = r .shift-at .result in
-    let i = place-in r in
-    chain-fits _ (j .release +ℤ j .min) h (total-back (j .release) (j .min) (i .release) (i .min)) (i .first-finish) (i .later)
+    let i = place-in (c .before .before .before .before) in
+    chain-fits (total-back (i .release) (i .min)) (i .first-finish) (i .later)
 
 sub-last-start : tie.Need-sub-last-start Inv-loop μ-loop
 sub-last-start c =
-    let r = c .before .before .before .before .before .before in
-    let j = r .before .job-at .result in
-    let h = r .shift-at .result in
-    let i = place-in r in
-    gap-fits (j .deadline) (j .max) (i .deadline) (i .max)
+    let i = place-in (c .before .before .before .before .before .before) in
+    gap-fits (i .deadline) (i .max)
 
 add-last-start : tie.Need-add-last-start Inv-loop μ-loop
 add-last-start c =
-    let r = c .before .before .before .before .before .before in
-    let j = r .before .job-at .result in
-    let h = r .shift-at .result in
-    let i = place-in r in
-    chain-fits _ (j .deadline -ℤ j .max) h (gap-back (j .deadline) (j .max) (i .deadline) (i .max)) (i .last-start) (i .later)
+    let i = place-in (c .before .before .before .before .before .before) in
+    chain-fits (gap-back (i .deadline) (i .max)) (i .last-start) (i .later)
 
 add-last-finish : tie.Need-add-last-finish Inv-loop μ-loop
 add-last-finish c =
-    let r = c .before .before .before .before .before .before .before .before in
-    let j = r .before .job-at .result in
-    let h = r .shift-at .result in
-    let i = place-in r in
-    total-fits (j .deadline) h (i .deadline) (i .later)
+    let i = place-in (c .before .before .before .before .before .before .before .before) in
+    total-fits (i .deadline) (i .later)
 
 mul-s : tie.Need-mul-s Inv-loop μ-loop
 mul-s c = let low = room (c .before .before .before .before .before .before .before .before) in omega arith
@@ -146,22 +128,20 @@ loop-again c =
     let r = c .before .before .before .before .before .before .before .before in
     let l = c .before .before .before .before .before .before .before .before .before .before .before .loop in
     let p = c .before .before .before .before .before .before .before .before .before .before .before .before .before .args .p in
-    let j = r .before .job-at .result in
-    let h = r .shift-at .result in
     let i = place-in r in
     let low = room r in
     let job = r .before .job-at .ensures in
     let later = r .shift-at .ensures in (
       omega arith,
       filled-place (earliest p) (l .k) (l .early) _ _ (omega arith)
-          (total-back (j .release) h (i .release) (i .later) ∙ ap₂ (λ j h. j .release +ℤ h) job later)
-          (chain-back _ (j .release +ℤ j .min) h (total-back (j .release) (j .min) (i .release) (i .min)) (i .first-finish) (i .later)
+          (total-back (i .release) (i .later) ∙ ap₂ (λ j h. j .release +ℤ h) job later)
+          (chain-back (total-back (i .release) (i .min)) (i .first-finish) (i .later)
           ∙ ap₂ (λ j h. (j .release +ℤ j .min) +ℤ h) job later)
           (l .inv .1),
       filled-place (latest p) (l .k) (l .late) _ _ (omega arith)
-          (chain-back _ (j .deadline -ℤ j .max) h (gap-back (j .deadline) (j .max) (i .deadline) (i .max)) (i .last-start) (i .later)
+          (chain-back (gap-back (i .deadline) (i .max)) (i .last-start) (i .later)
           ∙ ap₂ (λ j h. (j .deadline -ℤ j .max) +ℤ h) job later)
-          (total-back (j .deadline) h (i .deadline) (i .later) ∙ ap₂ (λ j h. j .deadline +ℤ h) job later)
+          (total-back (i .deadline) (i .later) ∙ ap₂ (λ j h. j .deadline +ℤ h) job later)
           (l .inv .2),
     )
 
