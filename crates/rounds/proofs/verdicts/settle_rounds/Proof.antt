@@ -6,7 +6,7 @@ use mathlib.Core.Bool.{false}
 use native.Mathlib.Omega.{arith}
 use lib.ListN.{length}
 use mir.Syntax.{w32}
-use mir.Val.{SFits}
+use mir.Val.{SFits, toZ, ofZ}
 use mir.Facts.{toZ-ofZ}
 use Rattle.whole.specs.Rules.{wholes}
 use Rattle.plan.specs.declared.Plan.{Plan}
@@ -141,11 +141,15 @@ returns-3 : tie.Need-returns-3 Inv-loop μ-loop
 returns-3 c =
     let r = c .before .before .before .before .before .before .before .before .before in
     let n = r .before .before .before in
-    let p = n .before .before .before .before .before .before .before .before .args .p in
+    let a = n .before .before .before .before .before .before .before .before .args in
+    let p = a .p in
     let joined = r .before .before .if1 .left in
     let left = c .before .before .before .before .before .before .before .before .if2 .left in
     let same = sym (c .before .before .before .before .before .same-rows .ensures) ∙ c .before .before .before .before .if3 .taken in
-    let anew : c .put-next2 .last .0 ≡ n .put-next .last .0 = ap (λ f. f .weights) (c .put-next2 .ensures ∙ sym (n .put-next .ensures)) in (
+    let again : flat (c .put-next2 .result) (c .put-next2 .last .0)
+    ≡ nextRows (a .early .now) (a .late .now) (p .jobs) (toZ w32 (ofZ w32 (p .window))) (n .before .before .before .before .before .loop .carried) (a .base .now)
+    = c .put-next2 .ensures in
+    let anew : c .put-next2 .last .0 ≡ n .put-next .last .0 = ap (λ f. f .weights) (again ∙ sym (n .put-next .ensures)) in (
       verdict-settled p (n .before .before .before .before .before .loop .m) _
           (round-settled (carrying (n .before)) (n .put-next .result) (n .put-next .last .0) (put-is n) joined (r .drop-places .result) (r .drop-places .last .0) (remains-is r)
           left
