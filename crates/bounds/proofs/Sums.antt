@@ -1,5 +1,4 @@
 -- What the machine says of a bound: whether it is the mark for no bound, as a test and as a bit, and of a sum that fits, how it is read back and compared.
-use Prim.Native.Nat.{ℕ}
 use mathlib.Core.Path.{_≡_, refl, sym, _∙_, ap, ap₂}
 use mathlib.Core.Bool.{Bool, true, false, cond, not}
 use borrow.Author.Tests.{eq-eqb, ne-eqb}

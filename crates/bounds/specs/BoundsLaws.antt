@@ -1,21 +1,21 @@
 -- A list of bounds put into an array, one after the other: what the array then holds is judged of what it held and of the least weights that the list
 -- gives.
-use Prim.Native.Nat.{ℕ, zero, suc, _+_, _*_, _≤_, _<_}
-use mathlib.Core.Path.{_≡_, refl, sym, ap, ap₂, subst, _∙_}
+use Prim.Native.Nat.{ℕ, _+_, _≤_, _<_}
+use mathlib.Core.Path.{_≡_, refl, sym, ap, ap₂, _∙_}
 use mathlib.Core.Bool.{Bool, true, false, cond, _&&_}
 use mathlib.Core.List.{List, [], _∷_, _++_}
 use native.Mathlib.Omega.{arith}
 use lib.Dec.{eqb}
 use lib.IntN.{ℤ, pos, _+ℤ_}
-use lib.Signed.{_≤ℤ_, _<ℤ_}
-use lib.ListN.{length, getD, replicate, length-replicate, getD-replicate}
+use lib.Signed.{_<ℤ_}
+use lib.ListN.{getD, length-replicate, getD-replicate}
 use borrow.Author.Tests.{eq-eqb, eqb-true}
 use Rattle.whole.specs.Split.{eqZ}
-use Rattle.whole.specs.Rules.{whole, wholes}
+use Rattle.whole.specs.Rules.{wholes}
 use Rattle.plan.specs.declared.Plan.{Plan}
 use Rattle.bounds.specs.Events.{nodeOf}
 use Rattle.bounds.specs.Tables.{Cell, off, upto, least, plus, Between, leastOf, Set, contradiction, bounds, judgedSet}
-use Rattle.bounds.specs.TablesLaws.{least-off, off-least, KeptCell, judgedSet-ext}
+use Rattle.bounds.specs.TablesLaws.{least-off, off-least, judgedSet-ext}
 use Rattle.bounds.specs.Spans.{Times}
 use Rattle.bounds.specs.Flat.{noBound, place, cellOf, cellAt, rowsOf, Flat, flat, putAt, thenFlat, putBounds, noBounds}
 use Rattle.bounds.specs.FlatLaws.{Outcome, thenFlat-outcome, thenFlat-found, thenFlat-next}

@@ -1,18 +1,17 @@
 -- With the times of an accepted plan in two arrays, and a fit table in a third, the code's steps rest on what they must rest on, and what they answer
 -- is the elimination of the event.
-use Prim.Native.Nat.{ℕ, zero, suc, _+_, _*_, _≤_, _<_}
-use mathlib.Core.Path.{_≡_, refl, sym, ap, ap₂, subst, _∙_}
+use Prim.Native.Nat.{ℕ, suc, _+_, _≤_, _<_}
+use mathlib.Core.Path.{_≡_, ap, ap₂, _∙_}
 use mathlib.Core.Bool.{cond}
 use mathlib.Core.List.{List}
 use native.Mathlib.Omega.{arith}
-use lib.IntN.{ℤ, pos, negℤ, _+ℤ_, _-ℤ_}
+use lib.IntN.{ℤ, negℤ, _-ℤ_}
 use lib.ListN.{length}
 use Rattle.whole.specs.SplitLaws.{split-neg}
 use Rattle.whole.specs.Rules.{wholes}
 use Rattle.plan.specs.declared.Plan.{Plan}
 use Rattle.plan.specs.Accepted.{Accepted}
-use Rattle.bounds.specs.declared.Event.the-variants.{Start, Finish}
-use Rattle.bounds.specs.Events.{jobAt, earliest, latest, eventOf, startNode, finishNode, nodes}
+use Rattle.bounds.specs.Events.{jobAt, earliest, latest, startNode, finishNode, nodes}
 use Rattle.bounds.specs.Tables.{contradiction, bounds}
 use Rattle.bounds.specs.Elimination.{withoutStart, withoutFinish}
 use Rattle.bounds.specs.BuildLaws.{eventOf-start, eventOf-finish}

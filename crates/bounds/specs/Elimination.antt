@@ -1,12 +1,12 @@
 -- The elimination of one event (document 01, 'Elimination'). The event is the last node of its table, and what remains is a table on the
 -- nodes before it.
-use Prim.Native.Nat.{ℕ, zero, suc, _+_, _*_, _-_, _/_, _%_}
-use mathlib.Core.Bool.{Bool, true, false, cond}
+use Prim.Native.Nat.{ℕ, zero, suc, _+_}
+use mathlib.Core.Bool.{Bool, true, false}
 use lib.Dec.{eqb}
-use lib.IntN.{ℤ, negℤ}
+use lib.IntN.{negℤ}
 use Rattle.plan.specs.declared.Plan.{Plan}
 use Rattle.bounds.specs.Events.{jobAt, startNode, finishNode}
-use Rattle.bounds.specs.Tables.{Cell, off, upto, least, plus, join, Rows, at, Set, contradiction, bounds, judgedSet}
+use Rattle.bounds.specs.Tables.{Cell, off, least, plus, join, Rows, at, Set, contradiction, bounds, judgedSet}
 
 -- a made bound, where its pair is the one asked for
 abbrev pub onlyIf : Bool → Cell → Cell

@@ -1,12 +1,11 @@
 -- The numbers of an accepted plan that the times of an event are made of lie in range, and so do their sums on the way.
 use Prim.Native.Nat.{ℕ, _+_, _<_}
-use mathlib.Core.Path.{_≡_, sym, subst}
-use lib.IntN.{ℤ, pos, negℤ, _+ℤ_, _-ℤ_}
+use lib.IntN.{ℤ, pos, _+ℤ_, _-ℤ_}
 use lib.Signed.{_≤ℤ_}
 use Rattle.whole.specs.Rules.{wholes}
 use Rattle.plan.specs.declared.Plan.{Plan}
 use Rattle.plan.specs.declared.Job.{Job}
-use Rattle.plan.specs.Accepted.{JobAccepted, Accepted}
+use Rattle.plan.specs.Accepted.{Accepted}
 use Rattle.bounds.specs.Events.{jobAt, shift}
 use Rattle.bounds.specs.Spans.{InRange}
 use Rattle.bounds.specs.FitLaws.{jobAt-accepted, ShiftIn, shift-in, running-least, running-most}

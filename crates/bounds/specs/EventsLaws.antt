@@ -6,13 +6,12 @@ use borrow.Author.Tests.{eq-eqb, ne-eqb}
 use Rattle.bounds.specs.declared.Event.the-variants.{Origin, Start, Finish}
 use Rattle.plan.specs.declared.Plan.{Plan}
 use Rattle.plan.specs.PlanRead.{noJob}
-use lib.Dec.{ltb}
 use lib.ListN.{getD}
 use lib.IntN.{pos}
 use borrow.Author.Tests.{lt-ltb, le-ltb}
 use mathlib.Core.Bool.{cond}
 use Rattle.bounds.specs.BuildLaws.{byNode, eventOf-start, eventOf-finish}
-use Rattle.bounds.specs.Events.{eventOf, nodeOf, startNode, finishNode, jobAt, shift}
+use Rattle.bounds.specs.Events.{eventOf, nodeOf, jobAt, shift}
 
 suc-less : (m : ℕ) → suc m - 1 ≡ m
 suc-less m = omega arith

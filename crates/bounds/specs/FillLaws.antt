@@ -1,13 +1,13 @@
 -- An array that is filled from the front: what is filled has its times, and the rest is 0.
-use Prim.Native.Nat.{ℕ, suc, _+_, _*_, _≤_, _<_}
+use Prim.Native.Nat.{ℕ, _+_, _≤_, _<_}
 use mathlib.Core.Path.{_≡_, refl, sym, ap, subst, _∙_}
 use mathlib.Core.Bool.{Bool, true, false}
-use mathlib.Core.Logic.{_⊎_, inl, inr, ⊎-elim}
+use mathlib.Core.Logic.{_⊎_, ⊎-elim}
 use mathlib.Core.List.{List}
 use native.Mathlib.Omega.{arith}
 use lib.Dec.{ltb}
 use lib.IntN.{ℤ, pos}
-use lib.ListN.{length, getD, set, replicate, length-set, length-replicate, getD-replicate}
+use lib.ListN.{length, set, replicate, length-set, length-replicate, getD-replicate}
 use lib.Seq.{getD-set-same, getD-set-other}
 use borrow.Author.Tests.{ltb-true, ltb-false}
 use Rattle.whole.specs.Rules.{wholes}
@@ -17,7 +17,7 @@ use Rattle.bounds.specs.declared.Event.{Event}
 use Rattle.bounds.specs.declared.Event.the-variants.{Origin, Start, Finish}
 use Rattle.bounds.specs.Events.{earliest, latest, eventOf, startNode, finishNode, nodes}
 use Rattle.bounds.specs.BuildLaws.{eventOf-start, eventOf-finish}
-use Rattle.bounds.specs.Spans.{timeAt, InRange, Timed}
+use Rattle.bounds.specs.Spans.{timeAt, InRange}
 use Rattle.bounds.specs.Fit.{Clocked}
 use Rattle.bounds.specs.FitLaws.{earliest-in, latest-in}
 use Rattle.bounds.specs.StartLaws.{less-or-same}

@@ -1,34 +1,32 @@
 -- The elimination of a finish in an array is its elimination in the table that the array holds. At node y two cells are written, (y, s) and (s, y), of
 -- which neither is written again, and both are made of cells of the finish, which are never written.
-use Prim.Native.Nat.{ℕ, zero, suc, _+_, _*_, _≤_, _<_}
+use Prim.Native.Nat.{ℕ, suc, _+_, _≤_, _<_}
 use mathlib.Core.Path.{_≡_, refl, sym, ap, ap₂, subst, subst₂, _∙_}
-use mathlib.Core.Logic.{_⊎_, inl, inr, ⊎-elim}
+use mathlib.Core.Logic.{_⊎_, ⊎-elim}
 use mathlib.Core.Bool.{Bool, true, false, cond}
 use mathlib.Core.List.{List}
 use native.Mathlib.Omega.{arith}
 use lib.Dec.{eqb}
 use lib.IntN.{ℤ, pos, negℤ, _+ℤ_}
-use lib.Signed.{_≤ℤ_, _<ℤ_, ltZ}
+use lib.Signed.{_≤ℤ_, _<ℤ_}
 use borrow.Author.Tests.{eqb-true, eqb-false, eq-eqb, ne-eqb}
-use lib.ListN.{length, getD}
+use lib.ListN.{length}
 use Rattle.whole.specs.Split.{eqZ}
 use Rattle.whole.specs.Rules.{wholes}
 use Rattle.plan.specs.declared.Plan.{Plan}
-use Rattle.bounds.specs.declared.Judgement.{Judgement}
-use Rattle.bounds.specs.declared.Judgement.the-variants.{Contradiction, LeftOut, Kept}
-use Rattle.bounds.specs.declared.Event.the-variants.{Start, Finish}
+use Rattle.bounds.specs.declared.Judgement.the-variants.{Kept}
 use Rattle.bounds.specs.Events.{startNode, finishNode, eventOf, jobAt}
 use Rattle.bounds.specs.Judgements.{judged}
 use Rattle.bounds.specs.JudgementsLaws.{judged-running, judged-reverse}
-use Rattle.bounds.specs.Tables.{Cell, off, upto, least, plus, at, Set, contradiction, bounds, judgement, isContradiction, judgedSet}
+use Rattle.bounds.specs.Tables.{Cell, off, upto, least, plus, at, contradiction, bounds, judgement, isContradiction, judgedSet}
 use Rattle.bounds.specs.Elimination.{onlyIf, finishCell, withoutFinish}
 use Rattle.bounds.specs.BuildLaws.{at-build, eventOf-start, eventOf-finish}
 use Rattle.bounds.specs.TablesLaws.{least-off, off-least, plus-off, JudgedCell, KeptCell, judged-again, Contradicted, judgedSet-ext}
 use Rattle.bounds.specs.Spans.{Times}
 use Rattle.bounds.specs.SpansLaws.{judgedAt-is}
-use Rattle.bounds.specs.Flat.{noBound, place, weightAt, cellOf, cellAt, rowsOf, Weighed, Moving, Flat, flat, putAt, thenFlat, eachNode, movedAt, movedRows}
+use Rattle.bounds.specs.Flat.{noBound, place, weightAt, cellOf, cellAt, rowsOf, Weighed, Moving, flat, putAt, thenFlat, movedAt, movedRows}
 use Rattle.bounds.specs.FlatLaws.{putAt-none, putAt-same, putAt-length, Outcome, thenFlat-outcome, eachNode-outcome}
-use Rattle.bounds.specs.PutLaws.{cellOf-mark, cellOf-on, mark-of-off, putAt-left}
+use Rattle.bounds.specs.PutLaws.{mark-of-off, putAt-left}
 use Rattle.bounds.specs.StartLaws.{place-one, less-or-same, answer-is}
 
 -- ---- the two bounds of a job with itself are never kept

@@ -8,11 +8,10 @@ use mathlib.Core.List.{List}
 use lib.ListN.{length}
 use Rattle.plan.specs.declared.Plan.{Plan}
 use Rattle.plan.specs.Accepted.{Accepted}
-use Rattle.bounds.specs.declared.Judgement.{Judgement}
 use Rattle.bounds.specs.declared.Judgement.the-variants.{Kept}
 use Rattle.bounds.specs.Events.{earliest, latest, eventOf, nodes}
 use Rattle.bounds.specs.Judgements.{judged}
-use Rattle.bounds.specs.Tables.{Cell, off, upto, Rows, at}
+use Rattle.bounds.specs.Tables.{Cell, upto, Rows, at}
 use Rattle.bounds.specs.Spans.{Times}
 use Rattle.bounds.specs.Flat.{AllTimed, rowsOf}
 

@@ -1,33 +1,30 @@
 -- Tables that are fit: their weights lie in range, and the elimination of an event leaves a fit table. A judged set is fit where its bounds with the
 -- origin were there before it was judged.
-use Prim.Native.Nat.{ℕ, zero, suc, _+_, _*_, _-_, _≤_, _<_}
-use mathlib.Core.Path.{_≡_, refl, sym, ap, ap₂, subst, subst₂, _∙_}
+use Prim.Native.Nat.{ℕ, zero, suc, _+_, _-_, _≤_, _<_}
+use mathlib.Core.Path.{_≡_, refl, sym, ap, subst, subst₂, _∙_}
 use mathlib.Core.Bool.{Bool, true, false, cond}
 use mathlib.Core.List.{List}
 use native.Mathlib.Omega.{arith}
-use lib.Dec.{eqb}
 use lib.IntN.{ℤ, pos, negℤ, _+ℤ_, _-ℤ_}
-use lib.Signed.{_≤ℤ_, ltZ, leZ}
+use lib.Signed.{_≤ℤ_, leZ}
 use lib.ListN.{getD}
 use borrow.Author.Tests.{ltb-true, ltb-false}
-use Rattle.whole.specs.Split.{eqZ}
-use Rattle.whole.specs.SplitLaws.{split-neg, split-add, split-sub}
+use Rattle.whole.specs.SplitLaws.{split-neg}
 use Rattle.whole.specs.Rules.{whole, wholes}
 use Rattle.plan.specs.declared.Plan.{Plan}
 use Rattle.plan.specs.declared.Job.{Job}
 use Rattle.plan.specs.PlanRead.{noJob}
 use Rattle.plan.specs.Accepted.{JobAccepted, Accepted}
 use Rattle.bounds.specs.declared.Judgement.{Judgement}
-use Rattle.bounds.specs.declared.Judgement.the-variants.{Contradiction, LeftOut, Kept}
-use Rattle.bounds.specs.declared.Event.{Event}
+use Rattle.bounds.specs.declared.Judgement.the-variants.{Kept}
 use Rattle.bounds.specs.declared.Event.the-variants.{Origin, Start, Finish}
 use Rattle.bounds.specs.Events.{isThis, jobAt, shift, earliest, latest, eventOf, startNode, finishNode, nodes}
-use Rattle.bounds.specs.Judgements.{judged, atLeast, fromOrigin, apart}
-use Rattle.bounds.specs.Tables.{Cell, off, upto, least, Rows, at, build, judgement, isContradiction, keptCell, Set, contradiction, bounds, contradicts, keptRows, judgedSet}
+use Rattle.bounds.specs.Judgements.{judged}
+use Rattle.bounds.specs.Tables.{Cell, off, upto, least, Rows, at, judgement, isContradiction, keptCell, bounds, judgedSet}
 use Rattle.bounds.specs.Elimination.{startCell, withoutStart, finishCell, withoutFinish}
-use Rattle.bounds.specs.BuildLaws.{at-build, anyBelow-none, byNode, eventOf-start, eventOf-finish}
+use Rattle.bounds.specs.BuildLaws.{at-build, byNode, eventOf-start, eventOf-finish}
 use Rattle.bounds.specs.TablesLaws.{JudgedCell, KeptCell, judged-kept, judgedSet-back}
-use Rattle.bounds.specs.Flat.{noBound, weightAt, cellOf, cellAt, rowsOf, Weighed}
+use Rattle.bounds.specs.Flat.{weightAt, cellAt, rowsOf, Weighed}
 use Rattle.bounds.specs.PutLaws.{cellOf-on}
 use Rattle.bounds.specs.JudgementsLaws.{judged-least, judged-most, judged-origin, judged-from-origin, judged-to-origin}
 use Rattle.bounds.specs.Fit.{AtMost, Fit}

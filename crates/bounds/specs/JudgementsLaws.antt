@@ -2,7 +2,7 @@
 -- latest(z) - earliest(y). A bound with the origin is kept unless it is a contradiction. A bound of an event with itself, or of a job's start with
 -- its finish, is never kept. What is left out stays left out where it is greater, and what is a contradiction stays one where it is less.
 use Prim.Native.Nat.{ℕ}
-use mathlib.Core.Path.{_≡_, refl, sym, ap}
+use mathlib.Core.Path.{_≡_, refl}
 use mathlib.Core.Bool.{Bool, true, false, cond}
 use native.Mathlib.Omega.{arith}
 use lib.Dec.{eqb}

@@ -6,10 +6,10 @@ use mathlib.Core.List.{List}
 use native.Mathlib.Omega.{arith}
 use lib.IntN.{ℤ, pos, _+ℤ_}
 use lib.Signed.{leZ, _<ℤ_}
-use lib.ListN.{length, getD, set}
+use lib.ListN.{length}
 use lib.Seq.{getD-set-same}
 use Rattle.whole.specs.Split.{eqZ}
-use Rattle.whole.specs.Rules.{whole, wholes}
+use Rattle.whole.specs.Rules.{whole}
 use Rattle.plan.specs.declared.Plan.{Plan}
 use Rattle.bounds.specs.declared.Judgement.{Judgement}
 use Rattle.bounds.specs.declared.Judgement.the-variants.{Contradiction, LeftOut, Kept}

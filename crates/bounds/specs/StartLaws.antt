@@ -1,13 +1,13 @@
 -- The elimination of a start in an array is its elimination in the table that the array holds. The cells are written in the order of their places,
 -- and each is made of cells that are not written yet: so up to a place every cell is what is left of its made cell, and from there on nothing has
 -- changed.
-use Prim.Native.Nat.{ℕ, zero, suc, _+_, _*_, _≤_, _<_}
+use Prim.Native.Nat.{ℕ, suc, _+_, _≤_, _<_}
 use mathlib.Core.Path.{_≡_, refl, sym, ap, ap₂, subst, subst₂, _∙_}
 use mathlib.Core.Logic.{_⊎_, inl, inr, ⊎-elim}
 use mathlib.Core.Bool.{Bool, true, false, cond}
 use mathlib.Core.List.{List}
 use native.Mathlib.Omega.{arith}
-use lib.IntN.{ℤ, pos, negℤ, _+ℤ_}
+use lib.IntN.{ℤ, pos, _+ℤ_}
 use lib.Signed.{_≤ℤ_, _<ℤ_}
 use lib.Dec.{ltb}
 use borrow.Author.Tests.{ltb-true, ltb-false}
@@ -16,13 +16,13 @@ use Rattle.whole.specs.Split.{eqZ}
 use Rattle.whole.specs.Rules.{wholes}
 use Rattle.plan.specs.declared.Plan.{Plan}
 use Rattle.bounds.specs.Events.{startNode}
-use Rattle.bounds.specs.Tables.{Cell, off, upto, least, plus, join, at, Set, contradiction, bounds, judgement, isContradiction, judgedSet}
+use Rattle.bounds.specs.Tables.{Cell, least, plus, join, at, contradiction, bounds, judgement, isContradiction, judgedSet}
 use Rattle.bounds.specs.Elimination.{startCell, withoutStart}
 use Rattle.bounds.specs.BuildLaws.{at-build}
 use Rattle.bounds.specs.TablesLaws.{least-off, join-off, join-plus, JudgedCell, KeptCell, judged-again, Contradicted, judgedSet-none, judgedSet-kept, judgedSet-ext}
 use Rattle.bounds.specs.Spans.{Times}
 use Rattle.bounds.specs.SpansLaws.{judgedAt-is}
-use Rattle.bounds.specs.Flat.{noBound, place, weightAt, cellOf, cellAt, rowsOf, Weighed, Flat, flat, putAt, eachNode, joinedAt, joinedCells, joinedRow, joinedRows}
+use Rattle.bounds.specs.Flat.{noBound, place, weightAt, cellOf, cellAt, rowsOf, Weighed, Flat, flat, joinedAt, joinedCells, joinedRow, joinedRows}
 use Rattle.bounds.specs.FlatLaws.{putAt-same, putAt-length, Outcome, eachNode-outcome}
 use Rattle.bounds.specs.PutLaws.{cellOf-mark, cellOf-on, putAt-left}
 

@@ -3,39 +3,16 @@
 use Prim.Native.Nat.{ℕ, zero, suc, _<_}
 use mathlib.Core.Path.{_≡_, refl, sym, ap, ap₂, _∙_}
 use mathlib.Core.Bool.{Bool, true, false, cond, _||_}
-use mathlib.Core.List.{List, [], _∷_}
+use mathlib.Core.List.{_∷_}
 use native.Mathlib.Omega.{arith}
 use lib.IntN.{ℤ, _+ℤ_}
-use lib.Signed.{leZ}
 use Rattle.whole.specs.Rules.{wholes}
 use Rattle.plan.specs.declared.Plan.{Plan}
 use Rattle.bounds.specs.declared.Judgement.{Judgement}
 use Rattle.bounds.specs.declared.Judgement.the-variants.{Contradiction, LeftOut, Kept}
 use Rattle.bounds.specs.Events.{eventOf}
 use Rattle.bounds.specs.Judgements.{judged}
-use Rattle.bounds.specs.Tables.{
-  Cell,
-  off,
-  upto,
-  least,
-  plus,
-  join,
-  Rows,
-  at,
-  listed,
-  build,
-  anyBelow,
-  judgement,
-  isContradiction,
-  keptCell,
-  Set,
-  contradiction,
-  bounds,
-  contradicts,
-  keptRows,
-  judgedRows,
-  judgedSet,
-}
+use Rattle.bounds.specs.Tables.{Cell, off, upto, least, plus, join, Rows, at, listed, build, anyBelow, judgement, isContradiction, keptCell, contradiction, bounds, contradicts, keptRows, judgedRows, judgedSet}
 use Rattle.bounds.specs.BuildLaws.{at-build, anyBelow-none}
 
 -- ---- cells

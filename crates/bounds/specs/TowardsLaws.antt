@@ -1,29 +1,29 @@
 -- Bounds put one after the other lead to a judged set. An array with judged cells, and the cells that are still to be put, stand for the set that is
 -- judged of both together. A put moves one bound from the one to the other, and the set stays the same.
-use Prim.Native.Nat.{ℕ, zero, suc, _+_, _*_, _≤_, _<_}
+use Prim.Native.Nat.{ℕ, _+_, _≤_, _<_}
 use mathlib.Core.Path.{_≡_, refl, sym, ap, ap₂, subst, subst₂, _∙_}
-use mathlib.Core.Bool.{Bool, true, false, cond, _||_}
-use mathlib.Core.List.{List, [], _∷_}
+use mathlib.Core.Bool.{Bool, true, false, cond}
+use mathlib.Core.List.{List}
 use native.Mathlib.Omega.{arith}
 use lib.Dec.{eqb}
 use lib.IntN.{ℤ, pos, _+ℤ_}
-use lib.Signed.{_≤ℤ_, _<ℤ_, leZ}
+use lib.Signed.{_<ℤ_, leZ}
 use lib.ListN.{length}
 use borrow.Author.Tests.{eqb-true, eqb-false}
 use Rattle.whole.specs.Split.{eqZ}
-use Rattle.whole.specs.Rules.{whole, wholes}
+use Rattle.whole.specs.Rules.{whole}
 use Rattle.plan.specs.declared.Plan.{Plan}
 use Rattle.bounds.specs.declared.Judgement.{Judgement}
 use Rattle.bounds.specs.declared.Judgement.the-variants.{Contradiction, LeftOut, Kept}
 use Rattle.bounds.specs.Events.{eventOf}
 use Rattle.bounds.specs.Judgements.{judged}
 use Rattle.bounds.specs.JudgementsLaws.{judged-left-out, judged-none}
-use Rattle.bounds.specs.Tables.{Cell, off, upto, least, plus, Rows, at, build, anyBelow, judgement, isContradiction, keptCell, Set, contradiction, bounds, contradicts, keptRows, judgedSet}
+use Rattle.bounds.specs.Tables.{Cell, off, upto, least, plus, at, build, judgement, isContradiction, keptCell, Set, contradiction, bounds, contradicts, keptRows, judgedSet}
 use Rattle.bounds.specs.BuildLaws.{at-build}
-use Rattle.bounds.specs.TablesLaws.{least-off, anyBelow-ext, build-ext, JudgedCell, KeptCell, judged-again, judged-kept, Contradicted, judgedSet-none, judgedSet-kept}
+use Rattle.bounds.specs.TablesLaws.{least-off, anyBelow-ext, build-ext, JudgedCell, KeptCell, judged-again, judged-kept, judgedSet-none, judgedSet-kept}
 use Rattle.bounds.specs.Spans.{Times}
 use Rattle.bounds.specs.SpansLaws.{judgedAt-is}
-use Rattle.bounds.specs.Flat.{noBound, place, weightAt, cellOf, cellAt, rowsOf, Flat, flat, putAt}
+use Rattle.bounds.specs.Flat.{noBound, place, cellOf, cellAt, rowsOf, putAt}
 use Rattle.bounds.specs.FlatLaws.{putAt-same, putAt-length, Outcome}
 use Rattle.bounds.specs.PutLaws.{putAt-left}
 use Rattle.bounds.specs.StartLaws.{place-one}

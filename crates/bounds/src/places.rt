@@ -3,7 +3,7 @@ use super::Table;
 use super::eliminate::join_rows;
 use super::eliminate::move_nodes;
 ghost use mathlib.Core.Path.{_≡_};
-ghost use Prim.Native.Nat.{ℕ, suc, _+_};
+ghost use Prim.Native.Nat.{suc, _+_};
 ghost use lib.ListN.{length};
 ghost use Rattle.plan.specs.declared.Plan.{Plan};
 ghost use Rattle.bounds.specs.Events.{startNode, finishNode, nodes};

@@ -1,8 +1,8 @@
 -- The bounds of a plan before they are judged (document 01, 'Elimination').
 use Prim.Native.Nat.{ℕ, zero, suc, _+_, _-_}
-use mathlib.Core.Bool.{Bool, true, false, not, cond, _||_}
+use mathlib.Core.Bool.{Bool, true, false, cond, _||_}
 use mathlib.Core.List.{List, [], _∷_, _++_}
-use lib.IntN.{ℤ, pos, negℤ}
+use lib.IntN.{pos, negℤ}
 use Rattle.plan.specs.declared.Letter.{Letter}
 use Rattle.plan.specs.declared.Letter.the-variants.{This, Next}
 use Rattle.plan.specs.declared.Kind.{Kind}

@@ -1,7 +1,7 @@
 -- A window's own bounds as the code puts them, with the times from two arrays: in the order of `ranges` and `orders`.
 use Prim.Native.Nat.{ℕ, zero, suc}
 use mathlib.Core.List.{List, [], _∷_, _++_}
-use lib.IntN.{ℤ, pos, negℤ}
+use lib.IntN.{ℤ, negℤ}
 use Rattle.bounds.specs.declared.Event.{Event}
 use Rattle.bounds.specs.declared.Event.the-variants.{Origin, Start, Finish}
 use Rattle.bounds.specs.Events.{nodeOf}

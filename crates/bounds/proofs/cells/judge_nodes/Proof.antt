@@ -1,6 +1,5 @@
 -- `bounds::cells::judge_nodes` meets its contract: the four differences fit, and `judge` answers by them.
-use mathlib.Core.Path.{_∙_, ap}
-use lib.IntN.{ℤ}
+use mathlib.Core.Path.{_∙_}
 use mir.Facts.{toZ-ofZ}
 use Rattle.bounds.specs.SpansLaws.{judgedAt-by}
 use Rattle.bounds.proofs.Gaps.{gap-fits, gap-back}

@@ -1,15 +1,13 @@
 -- `bounds::eliminate::join_cells` meets its contract. The loop's invariant: what remains to be done from node e on gives the whole answer, the
 -- bits that are left are those of row s from node e on, and from the place of (y, s) on nothing has changed, so that row s still has its weights.
-use Prim.Native.Nat.{ℕ, _≤_, _<_, _+_, _-_}
+use Prim.Native.Nat.{ℕ, _≤_, _+_, _-_}
 use mathlib.Core.Path.{_≡_, refl, sym, _∙_, ap, subst}
-use mathlib.Core.Bool.{Bool, true, false}
-use mathlib.Core.List.{List}
 use native.Mathlib.Omega.{arith}
 use lib.Count.{trailingZeros, trailing-le}
-use lib.IntN.{ℤ, pos}
+use lib.IntN.{pos}
 use lib.ListN.{getD}
 use mir.Syntax.{w32}
-use mir.Val.{SFits, toZ, ofZ}
+use mir.Val.{toZ, ofZ}
 use mir.Facts.{toZ-ofZ}
 use Rattle.whole.specs.SplitLaws.{told-fits}
 use Rattle.bounds.specs.Flat.{place, weightAt, Weighed, flat, putAt, eachNode, bitsFrom, isBounded, joinedAt, joinedCells}

@@ -1,7 +1,6 @@
 -- `bounds::eliminate::join_row` meets its contract: the two cases of `joinedRow`.
 use borrow.Author.Needs.{needs}
-use mathlib.Core.Path.{_≡_, sym, _∙_, ap, subst}
-use lib.IntN.{ℤ}
+use mathlib.Core.Path.{sym, _∙_, ap, subst}
 use mir.Syntax.{w32}
 use mir.Facts.{toZ-ofZ}
 use Rattle.whole.specs.SplitLaws.{told-fits}

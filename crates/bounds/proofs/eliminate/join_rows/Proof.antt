@@ -3,9 +3,9 @@
 use Prim.Native.Nat.{ℕ, _≤_, _<_, _-_}
 use mathlib.Core.Path.{_≡_, refl, sym, _∙_, ap, subst}
 use native.Mathlib.Omega.{arith}
-use lib.IntN.{ℤ, pos}
+use lib.IntN.{pos}
 use lib.ListN.{getD}
-use Rattle.bounds.specs.Flat.{place, weightAt, Weighed, eachNode, joinedRow, joinedRows}
+use Rattle.bounds.specs.Flat.{place, Weighed, eachNode, joinedRow, joinedRows}
 use Rattle.bounds.specs.FlatLaws.{eachNode-stop, eachNode-past, eachNode-end, boundedBits-same, joinedRow-same}
 use Rattle.bounds.proofs.eliminate.join_rows.Statement.{statement}
 use Rattle.bounds.proofs.eliminate.join_rows.Tie as tie

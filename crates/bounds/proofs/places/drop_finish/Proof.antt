@@ -1,5 +1,5 @@
 -- `bounds::places::drop_finish` meets its contract: the nodes are moved by -max and by min, which the times tell, and `finish-is` says what that comes to.
-use Prim.Native.Nat.{suc, _<_}
+use Prim.Native.Nat.{suc}
 use mathlib.Core.Path.{_≡_, sym, _∙_, ap, ap₂, subst₂}
 use native.Mathlib.Omega.{arith}
 use lib.IntN.{ℤ, negℤ, _-ℤ_}

@@ -1,5 +1,5 @@
 -- `bounds::places::drop_place` meets its contract: its finish, and then its start, by the laws of `StandingLaws`.
-use mathlib.Core.Path.{_≡_, sym, _∙_}
+use mathlib.Core.Path.{sym, _∙_}
 use Rattle.bounds.specs.StandingLaws.{finish-standing, start-standing, place-found, place-left}
 use Rattle.bounds.proofs.places.drop_place.Statement.{statement}
 use Rattle.bounds.proofs.places.drop_place.Tie as tie

@@ -1,6 +1,6 @@
 -- `bounds::places::drop_places` meets its contract. The loop's invariant: of each plan for which the array stood, the places that are left give the whole
 -- answer, and the array stands still.
-use Prim.Native.Nat.{ℕ, _+_, _-_, _≤_, _<_}
+use Prim.Native.Nat.{_+_, _-_, _≤_}
 use mathlib.Core.Path.{_≡_, refl, sym, _∙_, ap}
 use native.Mathlib.Omega.{arith}
 use lib.ListN.{length}

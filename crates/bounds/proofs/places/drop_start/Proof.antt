@@ -1,6 +1,6 @@
 -- `bounds::places::drop_start` meets its contract: the rows are joined, and `start-is` says what that comes to.
 use borrow.Author.Needs.{needs}
-use mathlib.Core.Path.{_≡_, _∙_, ap}
+use mathlib.Core.Path.{_∙_, ap}
 use lib.ListN.{length}
 use Rattle.bounds.specs.Events.{startNode}
 use Rattle.bounds.specs.Flat.{setIn}

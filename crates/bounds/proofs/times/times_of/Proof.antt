@@ -1,11 +1,11 @@
 -- `bounds::times::times_of` meets its contract. The loop's invariant: both arrays are filled with the times of the places below k. The sums of a place lie in
 -- range (`job-in`).
-use Prim.Native.Nat.{ℕ, _+_, _*_, _-_, _≤_, _<_}
+use Prim.Native.Nat.{_+_, _-_, _≤_, _<_}
 use mathlib.Core.Path.{_≡_, refl, sym, _∙_, ap₂, subst, subst₂}
 use native.Mathlib.Omega.{arith}
 use lib.IntN.{ℤ, pos, _+ℤ_, _-ℤ_}
 use Rattle.plan.specs.declared.Plan.{Plan}
-use Rattle.bounds.specs.declared.Event.the-variants.{Origin, Start, Finish}
+use Rattle.bounds.specs.declared.Event.the-variants.{Origin}
 use Rattle.bounds.specs.Events.{nodes, earliest, latest}
 use Rattle.bounds.specs.EventTimesLaws.{JobIn, job-in}
 use Rattle.bounds.specs.FillLaws.{Filled, filled-origin, filled-place, filled-clocked}

@@ -1,9 +1,6 @@
 -- `rounds::own::put_place` meets its contract: the start's bounds, and then the finish's.
-use Prim.Native.Nat.{ℕ, _+_, _*_}
-use mathlib.Core.Path.{_≡_, sym, _∙_, ap}
-use native.Mathlib.Omega.{arith}
+use mathlib.Core.Path.{_≡_, _∙_, ap}
 use Rattle.bounds.specs.declared.Event.the-variants.{Start, Finish}
-use Rattle.bounds.specs.Events.{startNode, finishNode}
 use Rattle.bounds.specs.BuildLaws.{eventOf-start, eventOf-finish}
 use Rattle.bounds.specs.Flat.{flat, putBounds}
 use Rattle.bounds.specs.BoundsLaws.{putBounds-stop, putBounds-past}
