@@ -1,6 +1,10 @@
 -- `bounds::cells::judge_nodes` meets its contract: the four differences fit, and `judge` answers by them.
-use mathlib.Core.Path.{_∙_}
+use mathlib.Core.Path.{_≡_, _∙_}
+use lib.IntN.{ℤ, _-ℤ_}
+use mir.Syntax.{w32}
+use mir.Val.{toZ, ofZ}
 use mir.Facts.{toZ-ofZ}
+use Rattle.bounds.specs.Spans.{timeAt, judgedBy}
 use Rattle.bounds.specs.SpansLaws.{judgedAt-by}
 use Rattle.bounds.proofs.Gaps.{gap-fits, gap-back}
 use borrow.Author.Needs.{needs}
@@ -32,16 +36,16 @@ element-copy-out-latest-z : tie.Need-element-copy-out-latest-z
 element-copy-out-latest-z c = search needs
 
 sub-low : tie.Need-sub-low
-sub-low c = let s = c .before .before .before .before in gap-fits (s .pre .1 .early-in) (s .pre .0 .late-in)
+sub-low c = search gap-fits
 
 sub-high : tie.Need-sub-high
-sub-high c = let s = c .before .before .before .before in gap-fits (s .pre .1 .late-in) (s .pre .0 .early-in)
+sub-high c = search gap-fits
 
 sub-later : tie.Need-sub-later
-sub-later c = let s = c .before .before .before .before in gap-fits (s .pre .1 .late-in) (s .pre .0 .late-in)
+sub-later c = search gap-fits
 
 sub-sooner : tie.Need-sub-sooner
-sub-sooner c = let s = c .before .before .before .before in gap-fits (s .pre .1 .early-in) (s .pre .0 .early-in)
+sub-sooner c = search gap-fits
 
 of-requires : tie.Need-of-requires
 of-requires c κs = search needs
@@ -52,17 +56,24 @@ of-requires-2 c κs = search needs
 judge-requires : tie.Need-judge-requires
 judge-requires c κs = search needs
 
+-- what lies between two times, as the code has it
+abbrev between : ℤ → ℤ → ℤ
+between t u = toZ w32 (ofZ w32 (toZ w32 (ofZ w32 t) -ℤ toZ w32 (ofZ w32 u)))
+
 returns : tie.Need-returns
 returns c =
     let s = c .before .before .before .before .before .before .before in
-    simp (toZ-ofZ (s .fits .w)) at (c .judge .ensures)
-    ∙ judgedAt-by
-    (s .args .early .now)
-    (s .args .late .now)
-    (s .args .y)
-    (s .args .z)
-    (s .args .w)
-    (gap-back (s .pre .1 .early-in) (s .pre .0 .late-in))
+    let a = s .args in
+    let early = timeAt (a .early .now) in
+    let late = timeAt (a .late .now) in
+    let answer : c .judge .result
+    ≡ judgedBy (between (early (a .z)) (late (a .y))) (between (late (a .z)) (early (a .y))) (between (late (a .z)) (late (a .y))) (between (early (a .z)) (early (a .y)))
+    (c .before .before .of .result)
+    (c .before .of2 .result)
+    (toZ w32 (ofZ w32 (a .w)))
+    = c .judge .ensures in
+    simp (toZ-ofZ (s .fits .w)) at answer
+    ∙ judgedAt-by (a .early .now) (a .late .now) (a .y) (a .z) (a .w) (gap-back (s .pre .1 .early-in) (s .pre .0 .late-in))
     (gap-back (s .pre .1 .late-in) (s .pre .0 .early-in))
     (gap-back (s .pre .1 .late-in) (s .pre .0 .late-in))
     (gap-back (s .pre .1 .early-in) (s .pre .0 .early-in))

@@ -73,9 +73,11 @@ put-requires c κs =
     let l = c .before .before .before .loop in
     let z = l .e + trailingZeros 64 (l .rest) in
     let low = next (c .before .before) .within in
-    let same : weightAt (l .weights) (a .s) z ≡ weightAt (a .weights .now) (a .s) z = l .inv .3 (place (a .s) z) (omega (arith, s .pre .before)) in (
-      s .pre .times (a .y) (omega (arith, s .pre .before, s .pre .node)),
-      s .pre .times z (omega (arith, low, s .pre .node)),
+    let same : weightAt (l .weights) (a .s) z ≡ weightAt (a .weights .now) (a .s) z = l .inv .3 (place (a .s) z) (omega (arith, s .pre .before)) in
+    let y-timed = s .pre .times (a .y) (omega (arith, s .pre .before, s .pre .node)) in
+    let z-timed = s .pre .times z (omega (arith, low, s .pre .node)) in (
+      search,
+      search,
       weights-fit (told-fits w32 (weightAt (l .weights) (a .s) z) (c .before .v .given)) (s .fits .w) (subst Weighed (sym same) (s .pre .row z low)) (s .pre .weighed) (s .pre .on),
     )
 
@@ -90,7 +92,10 @@ put-is c =
     let a = c .before .before .before .before .before .args in
     let l = c .before .before .before .before .loop in
     let z = l .e + trailingZeros 64 (l .rest) in
-    c .put .ensures
+    let answer : flat (c .put .result) (c .put .last .0)
+    ≡ putAt (a .early .now) (a .late .now) (a .y) z (toZ w32 (ofZ w32 (weightAt (l .weights) (a .s) z))) (toZ w32 (ofZ w32 (a .w))) (l .weights)
+    = c .put .ensures in
+    answer
     ∙ ap (λ v. putAt (a .early .now) (a .late .now) (a .y) z v (toZ w32 (ofZ w32 (a .w))) (l .weights))
     (toZ-ofZ (told-fits w32 (weightAt (l .weights) (a .s) z) (c .before .before .v .given)))
 
@@ -129,7 +134,7 @@ loop-again c =
     let n = next (c .before .before .before .before) in
     let same : (i : ℕ) → place (a .y) (a .s) ≤ i → getD (c .before .put .last .0) i (pos 0) ≡ getD (l .weights) i (pos 0)
     = λ i h.
-    ap (λ f. getD (f .weights) i (pos 0)) (c .before .put .ensures)
+    ap (λ f. getD (f .weights) i (pos 0)) (put-is (c .before))
     ∙ putAt-same (a .early .now) (a .late .now) (a .y) z _ _ (l .weights) i (pos 0) (λ e. omega (arith, n .within)) in (
       omega (arith, n .within),
       n .rest

@@ -93,10 +93,18 @@ element-copy-out-earliest-finish : tie.Need-element-copy-out-earliest-finish
 element-copy-out-earliest-finish c = search needs
 
 sub-less : tie.Need-sub-less
-sub-less c = let s = c .before .before .before .before in gap-fits (start-timed s .late-in) (finish-timed s .late-in)
+sub-less c =
+    let s = c .before .before .before .before in
+    let start = start-timed s in
+    let finish = finish-timed s in
+    search gap-fits
 
 sub-more : tie.Need-sub-more
-sub-more c = let s = c .before .before .before .before in gap-fits (finish-timed s .early-in) (start-timed s .early-in)
+sub-more c =
+    let s = c .before .before .before .before in
+    let start = start-timed s in
+    let finish = finish-timed s in
+    search gap-fits
 
 move-nodes-requires : tie.Need-move-nodes-requires
 move-nodes-requires c κs =
