@@ -14,6 +14,7 @@ use Rattle.plan.specs.PlanRead.{noJob}
 use Rattle.calendars.specs.declared.Calendar.{Calendar}
 use Rattle.calendars.specs.Calendars.{noTerms}
 use Rattle.runs.specs.declared.Due.{Due}
+use Rattle.runs.specs.declared.Phase.{Phase}
 use Rattle.runs.specs.declared.Phase.the-variants.{Waiting, Running}
 use Rattle.runs.specs.declared.Run.{Run}
 use Rattle.runs.specs.ValueLimits.{lastTime, jobOfPhase}
@@ -63,10 +64,10 @@ pub record FinishInside (d : Due) (j i : ℕ) (t : RunTime) : Type 0 where
   pub max : Near (d .job .max)
 
 -- of a finish, whatever the phase
-pub record FinishReady (d : Due) (r : Run) : Type 0 where
-  pub running : (j i : ℕ) (t : RunTime) → r .phase ≡ Running j i t → FinishInside d j i t
+pub record FinishReady (d : Due) (f : Phase) : Type 0 where
+  pub running : (j i : ℕ) (t : RunTime) → f ≡ Running j i t → FinishInside d j i t
 
 -- of a step, whatever the phase
 pub record StepInside (d : Due) (cs ds : List ℤ) (r : Run) : Type 0 where
   pub waiting : (j i : ℕ) → r .phase ≡ Waiting j i → j ≤ d .last → OfferInside d cs ds r j i
-  pub finish : FinishReady d r
+  pub finish : FinishReady d (r .phase)

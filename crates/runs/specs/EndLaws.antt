@@ -25,8 +25,8 @@ use Rattle.calendars.specs.Calendars.{eventsBefore}
 use Rattle.runs.specs.declared.Probe.{Probe}
 use Rattle.runs.specs.declared.Run.{Run}
 use Rattle.runs.specs.TestLaws.{and-with-true, and-with-false, or-with-true}
-use Rattle.runs.specs.Offers.{noProbe, timeIn, timeOf, isInForce, endFrom}
-use Rattle.runs.specs.Ends.{pickOf, pickedTime, timeOn, termIn, endIn, endOf, TermsFit}
+use Rattle.runs.specs.Offers.{timeIn, timeOf, isInForce, endFrom}
+use Rattle.runs.specs.Ends.{pickOf, pickedTime, termIn, endIn, endOf, TermsFit}
 
 -- ---- the lowest bit
 
@@ -50,17 +50,10 @@ half-less {s} {t} h n = omega (arith, pos-of-ne-zero n)
 
 -- ---- one window
 
-pick-time : (b : Bool) (t u : RunTime) → cond b t u .0 ≡ cond b (t .0) (u .0)
-pick-time true t u = refl
-pick-time false t u = refl
-
-pub timeOn-is : (qs : List Probe) (e : ℕ) → timeOn (getD qs (e / 2) noProbe) e .0 ≡ timeIn qs e
-timeOn-is qs e = pick-time (eqb (e % 2) 0) _ _
-
 -- the term that the code makes of what it reads, and what it picks
-module _ (qs : List Probe) (cs : List ℤ) (at k : ℕ) (t : RunTime) (e : t ≡ timeOn (getD qs (k / 2) noProbe) k) (f : SFits w32 (getD cs (at + k) (pos 0))) where
+module _ (qs : List Probe) (cs : List ℤ) (at k : ℕ) (t : RunTime) (e : t .0 ≡ timeIn qs k) (f : SFits w32 (getD cs (at + k) (pos 0))) where
   pub termIn-read : t .0 +ℤ toZ w32 (ofZ w32 (getD cs (at + k) (pos 0))) ≡ termIn qs cs at k
-  termIn-read = rw (toZ-ofZ f, e, timeOn-is)
+  termIn-read = rw (toZ-ofZ f, e)
 
   pub pickedTime-read : (upper : Bool) (end u v : RunTime) → v ≡ pickedTime upper end u
       → u ≡ movedBy t (toZ w32 (ofZ w32 (getD cs (at + k) (pos 0)))) → v .0 ≡ pickOf upper (end .0) (termIn qs cs at k)

@@ -22,10 +22,6 @@ pickOf upper a b = cond upper (lesser a b) (greater a b)
 abbrev pub pickedTime : Bool → RunTime → RunTime → RunTime
 pickedTime upper a b = record { 0 = pickOf upper (a .0) (b .0) }
 
--- the time of event e of one window, whose job is done by the probe: its start, or its finish
-abbrev pub timeOn : Probe → ℕ → RunTime
-timeOn q e = cond (eqb (e % 2) 0) (q .start) (q .finish)
-
 -- the term of event e of one window, whose c stands at a place
 abbrev pub termIn : List Probe → List ℤ → ℕ → ℕ → ℤ
 termIn qs cs at e = timeIn qs e +ℤ getD cs (at + e) (pos 0)

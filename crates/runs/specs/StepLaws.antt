@@ -1,12 +1,11 @@
 -- The clauses of the steps as equations, each under the tests that lead to it; a step of the code ends in one of them.
-use Prim.Native.Nat.{ℕ, _+_, _-_, _≤_, _<_}
+use Prim.Native.Nat.{ℕ, _-_, _≤_}
 use mathlib.Core.Path.{_≡_, refl, sym, ap, ap₂, _∙_}
 use mathlib.Core.Bool.{Bool, true, false, _&&_}
 use mathlib.Core.Option.{Option, none, some}
 use native.Mathlib.Omega.{arith}
 use lib.IntN.{ℤ, _+ℤ_}
-use lib.ListN.{getD, set, replicate, getD-replicate}
-use borrow.Author.Tests.{lt-ltb, le-ltb}
+use lib.ListN.{getD, replicate, getD-replicate}
 use mir.Syntax.{w64}
 use mir.Val.{SFits}
 use Rattle.whole.specs.Rules.{wholes}
@@ -28,14 +27,12 @@ use Rattle.runs.specs.declared.Answer.the-variants.{Final}
 use Rattle.runs.specs.declared.Due.{Due}
 use Rattle.runs.specs.declared.Phase.{Phase}
 use Rattle.runs.specs.declared.Phase.the-variants.{Waiting, Running}
-use Rattle.runs.specs.declared.Probe.{Probe}
 use Rattle.runs.specs.declared.Run.{Run}
 use Rattle.runs.specs.declared.Choice.{Choice}
 use Rattle.runs.specs.declared.Step.{Step}
 use Rattle.runs.specs.declared.Step.the-variants.{Ask, Start, Finish}
 use Rattle.runs.specs.ValueLimits.{isRun, isCalendar}
 use Rattle.runs.specs.Steps.{
-  noProbes,
   refusedWith,
   asked,
   started,
@@ -51,18 +48,6 @@ use Rattle.runs.specs.TestLaws.{and-true}
 use Rattle.runs.specs.Inside.{stepAccepted}
 use Rattle.runs.specs.Offers.{opening}
 use Rattle.runs.specs.Due.{duePlan, FinishInside}
-
-module _ (p : Plan) (r : Run) (j i : ℕ) (q : Probe) where
-  pub closed-next : i < p .jobs
-      → record { phase = Waiting j (i + 1); «has_previous» = r .«has_previous»; previous = r .previous; present = set (r .present) (i - 1) q }
-      ≡ closed p r j i q
-  unfolding closed
-  closed-next h = rw (lt-ltb i (p .jobs) h)
-
-  pub closed-last : p .jobs ≤ i
-      → record { phase = Waiting (j + 1) 1; «has_previous» = true; previous = set (r .present) (i - 1) q; present = noProbes } ≡ closed p r j i q
-  unfolding closed
-  closed-last h = rw (le-ltb i (p .jobs) h)
 
 pub finish-fits : {d : Due} {j i : ℕ} {s : RunTime} → FinishInside d j i s → (c : ℤ) → Near c → SFits w64 (s .0 +ℤ c)
 finish-fits h c n = omega wholes

@@ -1,5 +1,6 @@
 -- No two answers meet the promise of a public operation: each promise is an equation, and `only` of the crate `text` says the rest.
 use mathlib.Core.Path.{_≡_}
+use mathlib.Core.Bool.{Bool}
 use mathlib.Core.List.{List}
 use Prim.Native.Nat.{ℕ, _-_}
 use lib.IntN.{ℤ}
@@ -12,11 +13,16 @@ use Rattle.runs.specs.declared.Run.{Run}
 use Rattle.runs.specs.declared.Choice.the-variants.{At, Auto}
 use Rattle.runs.specs.declared.Step.{Step}
 use Rattle.runs.specs.declared.Step.the-variants.{Ask, Start, Finish}
+use Rattle.runs.specs.declared.Answer.{Answer}
 use Rattle.runs.specs.declared.Answered.{Answered}
+use Rattle.runs.specs.declared.Move.{Move}
+use Rattle.runs.specs.declared.Probe.{Probe}
 use Rattle.runs.specs.declared.Due.{Due}
 use Rattle.runs.specs.ValueLimits.{jobOfPhase}
 use Rattle.runs.specs.Steps.{newRun, stepped, step}
 use Rattle.runs.specs.Due.{duePlan, dueCalendar}
+use Rattle.runs.specs.Seen.{probePut, runOf}
+use Rattle.runs.specs.Moves.{moveOf}
 
 pub new-run-unique : {r q : Run} → r ≡ newRun → q ≡ newRun → r ≡ q
 new-run-unique = only
@@ -44,6 +50,14 @@ module _ (p : Plan) (c : Calendar) (run : Run) where
 pub jobs-done-unique : (f : Phase) {r q : ℕ} → r ≡ jobOfPhase f - 1 → q ≡ jobOfPhase f - 1 → r ≡ q
 jobs-done-unique f = only
 
-pub step-due-unique : (d : Due) (least most : List ℤ) (run : Run) (st : Step) {r q : Answered}
-    → r ≡ stepped (duePlan d) (dueCalendar d least most) run st → q ≡ stepped (duePlan d) (dueCalendar d least most) run st → r ≡ q
-step-due-unique d least most run st = only
+pub answer-due-unique : (d : Due) (least most : List ℤ) (f : Phase) (has : Bool) (previous present : List ℤ) (st : Step) {r q : Answer}
+    → r ≡ stepped (duePlan d) (dueCalendar d least most) (runOf f has previous present) st .answer
+    → q ≡ stepped (duePlan d) (dueCalendar d least most) (runOf f has previous present) st .answer
+    → r ≡ q
+answer-due-unique d least most f has previous present st = only
+
+pub move-of-unique : (jobs : ℕ) (f : Phase) (a : Answer) {r q : Move} → r ≡ moveOf jobs f a → q ≡ moveOf jobs f a → r ≡ q
+move-of-unique jobs f a = only
+
+pub put-probe-unique : (ts : List ℤ) (k : ℕ) (p : Probe) {r q : List ℤ} → r ≡ probePut ts k p → q ≡ probePut ts k p → r ≡ q
+put-probe-unique ts k p = only

@@ -1,14 +1,14 @@
 // The two ends of an offer, worked out along the bits of the events that bound a start.
 
+use crate::MOST_SEEN;
 use crate::MOST_TERMS;
-use crate::Probe;
 use calendars::MOST_EVENTS;
 use clock::RunTime;
-use plan::MOST_JOBS;
 ghost use mathlib.Core.Path.{_≡_};
 ghost use Prim.Native.Nat.{_+_, _*_, _≤_, _<_};
 ghost use Rattle.calendars.specs.Calendars.{mostEvents};
-ghost use Rattle.runs.specs.Ends.{pickOf, pickedTime, timeOn, endIn, endOf, TermsFit, EndFits};
+ghost use Rattle.runs.specs.Ends.{pickOf, pickedTime, endIn, endOf, TermsFit, EndFits};
+ghost use Rattle.runs.specs.Seen.{probesOf};
 
 // The earlier of two times at the upper end, the later one at the lower end.
 fn picked(upper: bool, t: RunTime, u: RunTime) -> RunTime
@@ -26,32 +26,20 @@ fn picked(upper: bool, t: RunTime, u: RunTime) -> RunTime
     t
 }
 
-// The time of an event of the job that a probe has done: its start, or its finish.
-fn time_on(q: Probe, e: usize) -> RunTime
-    ensures { λ r. ⌜ r ≡ timeOn q e ⌝ }
-{
-    if e % 2 == 0 {
-        let start = q.start;
-        return start;
-    }
-    let finish = q.finish;
-    finish
-}
-
-// An end and the terms of one window's first count events, those of the set; the c of event e stands at place row + e. Only members cost a turn.
-fn end_in(
+// An end and the terms of one window's first count events, those of the set; the time of event e stands at place e, and its c at place row + e. Only members cost a turn.
+fn end_in<'a>(
     upper: bool,
-    seen: [Probe; MOST_JOBS],
+    seen: &'a [i64; MOST_SEEN],
     set: u64,
-    cs: &[i32; MOST_TERMS],
+    cs: &'a [i32; MOST_TERMS],
     row: usize,
     end: RunTime,
     count: usize,
 ) -> RunTime
     requires { ⌜ count ≤ 18 ⌝ }
     requires { ⌜ row + count ≤ 324 ⌝ }
-    requires { ⌜ TermsFit seen set (now cs) row 0 count ⌝ }
-    ensures { λ r. ⌜ r .0 ≡ endIn (pickOf upper) seen set (now (cs .entry)) row (end .0) 0 count ⌝ }
+    requires { ⌜ TermsFit (probesOf (now seen)) set (now cs) row 0 count ⌝ }
+    ensures { λ r. ⌜ r .0 ≡ endIn (pickOf upper) (probesOf (now (seen .entry))) set (now (cs .entry)) row (end .0) 0 count ⌝ }
 {
     let mut end = end;
     let mut rest = set;
@@ -62,12 +50,10 @@ fn end_in(
         if count <= k {
             return end;
         }
-        let job = k / 2;
         let place = row + k;
-        let q = seen[job];
+        let t = seen[k];
         let c = cs[place];
-        let t = time_on(q, k);
-        let term = clock::moved_by(t, c);
+        let term = clock::moved_by(RunTime(t), c);
         end = picked(upper, end, term);
         rest = rest >> gap;
         rest = rest >> 1;
@@ -77,21 +63,21 @@ fn end_in(
 }
 
 // An end and the terms of both windows: those of the previous one, if there is one, and those of the present window's jobs before the one at place i.
-pub fn end_of(
+pub fn end_of<'a>(
     upper: bool,
     jobs: usize,
     i: usize,
     has_previous: bool,
-    previous: [Probe; MOST_JOBS],
-    present: [Probe; MOST_JOBS],
+    previous: &'a [i64; MOST_SEEN],
+    present: &'a [i64; MOST_SEEN],
     set: u64,
-    cs: &[i32; MOST_TERMS],
+    cs: &'a [i32; MOST_TERMS],
     end: RunTime,
 ) -> RunTime
     requires { ⌜ jobs ≤ 9 ⌝ }
     requires { ⌜ i < 9 ⌝ }
-    requires { ⌜ EndFits jobs i «has_previous» previous present set (now cs) ⌝ }
-    ensures { λ r. ⌜ r .0 ≡ endOf (pickOf upper) jobs i «has_previous» previous present set (now (cs .entry)) (i * mostEvents) (end .0) ⌝ }
+    requires { ⌜ EndFits jobs i «has_previous» (probesOf (now previous)) (probesOf (now present)) set (now cs) ⌝ }
+    ensures { λ r. ⌜ r .0 ≡ endOf (pickOf upper) jobs i «has_previous» (probesOf (now (previous .entry))) (probesOf (now (present .entry))) set (now (cs .entry)) (i * mostEvents) (end .0) ⌝ }
 {
     let own = 2 * jobs;
     let before = 2 * i;

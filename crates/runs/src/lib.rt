@@ -2,6 +2,7 @@
 
 mod ends;
 mod limits;
+mod moves;
 mod offers;
 mod on_values;
 mod steps;
@@ -9,6 +10,9 @@ mod steps;
 use calendars::Terms;
 use clock::RunTime;
 pub use limits::jobs_done;
+pub use moves::move_of;
+pub use moves::new_run;
+pub use moves::put_probe;
 pub use on_values::ask;
 pub use on_values::finish_at;
 pub use on_values::start_at;
@@ -16,11 +20,13 @@ pub use on_values::start_auto;
 pub use on_values::take_step;
 use plan::MOST_JOBS;
 use plan::Refusal;
-pub use steps::new_run;
-pub use steps::step_due;
+pub use steps::answer_due;
 
 // The places of a calendar's c on one side: a row of calendars::MOST_EVENTS for each job.
 const MOST_TERMS: usize = 324;
+
+// The times of one window: a start and a finish for each job.
+pub const MOST_SEEN: usize = 18;
 
 // The last time that a run or a step can name.
 const LAST_TIME: i64 = 100_000_000_000_000_000;
@@ -97,6 +103,22 @@ pub enum Answer {
         finish: RunTime,
     },
     Refused(Refusal),
+}
+
+// What an answer makes of a run: nothing, or another phase, or a finish recorded and another phase, in this window or in the next one.
+pub enum Move {
+    Stay,
+    Begin(Phase),
+    Next {
+        place: usize,
+        probe: Probe,
+        phase: Phase,
+    },
+    Close {
+        place: usize,
+        probe: Probe,
+        phase: Phase,
+    },
 }
 
 // The answer to a step and the run after it; where the step is refused, the run as it came in.

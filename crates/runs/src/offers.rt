@@ -1,28 +1,32 @@
 // The offer for the job that is due, and whether there is one.
 
 use crate::Due;
+use crate::MOST_SEEN;
 use crate::MOST_TERMS;
 use crate::Offer;
 use crate::Opening;
 use crate::Phase;
-use crate::Run;
 use crate::ends::end_of;
 use plan::Refusal;
 ghost use mathlib.Core.Path.{_≡_};
 ghost use Rattle.runs.specs.Offers as offers;
+ghost use Rattle.runs.specs.declared.Phase.the-variants.{Waiting};
+ghost use Rattle.runs.specs.Seen.{runOf};
 ghost use Rattle.runs.specs.Due.{duePlan, dueCalendar, OfferInside, StepInside};
 
 // The offer for job i in window j.
-pub fn offer_of(
+pub fn offer_of<'a>(
     d: Due,
-    least: &[i32; MOST_TERMS],
-    most: &[i32; MOST_TERMS],
-    run: Run,
+    least: &'a [i32; MOST_TERMS],
+    most: &'a [i32; MOST_TERMS],
+    has_previous: bool,
+    previous: &'a [i64; MOST_SEEN],
+    present: &'a [i64; MOST_SEEN],
     j: u64,
     i: usize,
 ) -> Offer
-    requires { ⌜ OfferInside d (now least) (now most) run j i ⌝ }
-    ensures { λ r. ⌜ r ≡ offers.offerOf (duePlan d) (dueCalendar d (now (least .entry)) (now (most .entry))) run j i ⌝ }
+    requires { ⌜ OfferInside d (now least) (now most) (runOf (Waiting j i) «has_previous» (now previous) (now present)) j i ⌝ }
+    ensures { λ r. ⌜ r ≡ offers.offerOf (duePlan d) (dueCalendar d (now (least .entry)) (now (most .entry))) (runOf (Waiting j i) «has_previous» (now (previous .entry)) (now (present .entry))) j i ⌝ }
 {
     let window = d.window;
     let jobs = d.jobs;
@@ -32,9 +36,6 @@ pub fn offer_of(
     let below = terms.below;
     let above = terms.above;
     let place = i - 1;
-    let has_previous = run.has_previous;
-    let previous = run.previous;
-    let present = run.present;
     let earliest = clock::on_run(window, j, low);
     let latest = clock::on_run(window, j, high);
     let from = end_of(
@@ -79,17 +80,24 @@ fn opened(j: u64, i: usize, offer: Offer) -> Opening
 }
 
 // What there is for an ask or a start: 10 once the run is over, 6 while a job runs, 11 where the offer is empty, or the offer.
-pub fn opening(d: Due, least: &[i32; MOST_TERMS], most: &[i32; MOST_TERMS], run: Run) -> Opening
-    requires { ⌜ StepInside d (now least) (now most) run ⌝ }
-    ensures { λ r. ⌜ r ≡ offers.opening (duePlan d) (dueCalendar d (now (least .entry)) (now (most .entry))) run ⌝ }
+pub fn opening<'a>(
+    d: Due,
+    least: &'a [i32; MOST_TERMS],
+    most: &'a [i32; MOST_TERMS],
+    phase: Phase,
+    has_previous: bool,
+    previous: &'a [i64; MOST_SEEN],
+    present: &'a [i64; MOST_SEEN],
+) -> Opening
+    requires { ⌜ StepInside d (now least) (now most) (runOf phase «has_previous» (now previous) (now present)) ⌝ }
+    ensures { λ r. ⌜ r ≡ offers.opening (duePlan d) (dueCalendar d (now (least .entry)) (now (most .entry))) (runOf phase «has_previous» (now (previous .entry)) (now (present .entry))) ⌝ }
 {
-    let phase = run.phase;
     match phase {
         Phase::Waiting { window, job } => {
             if d.last < window {
                 return Opening::Shut(Refusal::Over);
             }
-            let offer = offer_of(d, least, most, run, window, job);
+            let offer = offer_of(d, least, most, has_previous, previous, present, window, job);
             opened(window, job, offer)
         }
         Phase::Running {

@@ -4,11 +4,11 @@ use crate::Answer;
 use crate::Answered;
 use crate::Choice;
 use crate::Due;
+use crate::MOST_SEEN;
 use crate::MOST_TERMS;
 use crate::Offer;
 use crate::Opening;
 use crate::Phase;
-use crate::Probe;
 use crate::Run;
 use crate::Step;
 use crate::limits::is_calendar;
@@ -16,19 +16,22 @@ use crate::limits::is_run;
 use crate::limits::is_step;
 use crate::limits::is_time;
 use crate::limits::jobs_done;
+use crate::moves::move_of;
+use crate::moves::moved;
+use crate::moves::times_seen;
 use crate::offers::opening;
 use calendars::Calendar;
 use clock::RunTime;
-use plan::MOST_JOBS;
 use plan::Plan;
 use plan::Refusal;
 ghost use mathlib.Core.Path.{_≡_};
-ghost use Prim.Native.Nat.{_≤_};
 ghost use Rattle.runs.specs.Steps as steps;
 ghost use Rattle.runs.specs.Due.{duePlan, dueCalendar, FinishInside, FinishReady, StepInside};
 ghost use Rattle.runs.specs.Inside.{Inside, stepAccepted};
 ghost use Rattle.plan.specs.Accepted.{Accepted};
 ghost use Rattle.runs.specs.declared.Phase.the-variants.{Running};
+ghost use Rattle.runs.specs.declared.Run.{Run};
+ghost use Rattle.runs.specs.Seen.{runOf};
 
 // A refusal, with the run as it came in.
 pub fn refused_with(run: Run, x: Refusal) -> Answered
@@ -42,197 +45,109 @@ pub fn refused_with(run: Run, x: Refusal) -> Answered
 }
 
 // An ask's answer: the offer.
-fn asked(run: Run, at: Opening) -> Answered
-    ensures { λ r. ⌜ r ≡ steps.asked run at ⌝ }
+fn asked(at: Opening) -> Answer
+    ensures { λ r. ⌜ ((run : Run) → r ≡ steps.asked run at .answer) ⌝ }
 {
     match at {
         Opening::Open {
             window: _,
             job: _,
             offer,
-        } => Answered {
-            answer: Answer::Offered(offer),
-            run: run,
-        },
-        Opening::Shut(x) => refused_with(run, x),
-    }
-}
-
-// Job i of window j runs from t on.
-fn started_at(run: Run, j: u64, i: usize, t: RunTime) -> Answered
-    ensures { λ r. ⌜ r ≡ steps.startedAt run j i t ⌝ }
-{
-    let previous = run.previous;
-    let present = run.present;
-    let phase = Phase::Running {
-        window: j,
-        job: i,
-        start: t,
-    };
-    let next = Run {
-        phase: phase,
-        has_previous: run.has_previous,
-        previous: previous,
-        present: present,
-    };
-    Answered {
-        answer: Answer::Started {
-            window: j,
-            job: i,
-            start: t,
-        },
-        run: next,
+        } => Answer::Offered(offer),
+        Opening::Shut(x) => Answer::Refused(x),
     }
 }
 
 // A start at a time of one's own, which the offer must have, 8; or at the offer's lower end, which must be a time, 2,0.
-fn started_by(run: Run, j: u64, i: usize, o: Offer, choice: Choice) -> Answered
-    ensures { λ r. ⌜ r ≡ steps.startedBy run j i o choice ⌝ }
+fn started_by(j: u64, i: usize, o: Offer, choice: Choice) -> Answer
+    ensures { λ r. ⌜ ((run : Run) → r ≡ steps.startedBy run j i o choice .answer) ⌝ }
 {
     let from = o.from;
     let to = o.to;
     match choice {
         Choice::At(t) => {
             if clock::is_between(from, to, t) {
-                return started_at(run, j, i, t);
+                return Answer::Started {
+                    window: j,
+                    job: i,
+                    start: t,
+                };
             }
-            refused_with(run, Refusal::OutsideOffer)
+            Answer::Refused(Refusal::OutsideOffer)
         }
         Choice::Auto => {
             if is_time(from) {
-                return started_at(run, j, i, from);
+                return Answer::Started {
+                    window: j,
+                    job: i,
+                    start: from,
+                };
             }
-            refused_with(run, Refusal::Range(0))
+            Answer::Refused(Refusal::Range(0))
         }
     }
 }
 
 // A start's answer.
-fn started(run: Run, choice: Choice, at: Opening) -> Answered
-    ensures { λ r. ⌜ r ≡ steps.started run choice at ⌝ }
+fn started(choice: Choice, at: Opening) -> Answer
+    ensures { λ r. ⌜ ((run : Run) → r ≡ steps.started run choice at .answer) ⌝ }
 {
     match at {
-        Opening::Open { window, job, offer } => started_by(run, window, job, offer, choice),
-        Opening::Shut(x) => refused_with(run, x),
-    }
-}
-
-// The times of a window of which nothing has been seen.
-fn no_probes() -> [Probe; MOST_JOBS]
-    ensures { λ r. ⌜ r ≡ steps.noProbes ⌝ }
-{
-    let q = Probe {
-        start: RunTime(0),
-        finish: RunTime(0),
-    };
-    [q; MOST_JOBS]
-}
-
-// A run at its beginning.
-pub fn new_run() -> Run
-    ensures { λ r. ⌜ r ≡ steps.newRun ⌝ }
-{
-    let phase = Phase::Waiting { window: 1, job: 1 };
-    let none = no_probes();
-    Run {
-        phase: phase,
-        has_previous: false,
-        previous: none,
-        present: none,
-    }
-}
-
-// A finish is recorded, and the run moves on: to the window's next job, or to the next window.
-fn closed(d: Due, run: Run, j: u64, i: usize, q: Probe) -> Run
-    requires { ⌜ j ≤ 1000000000 ⌝ }
-    requires { ⌜ 1 ≤ i ⌝ }
-    requires { ⌜ i ≤ 9 ⌝ }
-    ensures { λ r. ⌜ r ≡ steps.closed (duePlan d) run j i q ⌝ }
-{
-    let place = i - 1;
-    let previous = run.previous;
-    let mut present = run.present;
-    present[place] = q;
-    if i < d.jobs {
-        let after = i + 1;
-        let waiting = Phase::Waiting {
-            window: j,
-            job: after,
-        };
-        return Run {
-            phase: waiting,
-            has_previous: run.has_previous,
-            previous: previous,
-            present: present,
-        };
-    }
-    let next = j + 1;
-    let beginning = Phase::Waiting {
-        window: next,
-        job: 1,
-    };
-    let fresh = no_probes();
-    Run {
-        phase: beginning,
-        has_previous: true,
-        previous: present,
-        present: fresh,
+        Opening::Open { window, job, offer } => started_by(window, job, offer, choice),
+        Opening::Shut(x) => Answer::Refused(x),
     }
 }
 
 // The answer to a finish at t of job i of window j, which runs since some start: 9 before start + min or after start + max.
-fn finished_since(d: Due, run: Run, j: u64, i: usize, start: RunTime, t: RunTime) -> Answered
+fn finished_since(d: Due, j: u64, i: usize, start: RunTime, t: RunTime) -> Answer
     requires { ⌜ FinishInside d j i start ⌝ }
-    ensures { λ r. ⌜ r ≡ steps.finished (duePlan d) run t (Running j i start) ⌝ }
+    ensures { λ r. ⌜ ((run : Run) → r ≡ steps.finished (duePlan d) run t (Running j i start) .answer) ⌝ }
 {
     let limits = d.job;
     let from = clock::moved_by(start, limits.min);
     let to = clock::moved_by(start, limits.max);
     if clock::is_between(from, to, t) {
-        let q = Probe {
-            start: start,
+        return Answer::Final {
+            window: j,
+            job: i,
             finish: t,
         };
-        let next = closed(d, run, j, i, q);
-        return Answered {
-            answer: Answer::Final {
-                window: j,
-                job: i,
-                finish: t,
-            },
-            run: next,
-        };
     }
-    refused_with(run, Refusal::OutsideTimes)
+    Answer::Refused(Refusal::OutsideTimes)
 }
 
 // A finish's answer: 7 while no job runs.
-fn finished(d: Due, run: Run, t: RunTime) -> Answered
-    requires { ⌜ FinishReady d run ⌝ }
-    ensures { λ r. ⌜ r ≡ steps.finished (duePlan d) run t (run .phase) ⌝ }
+fn finished(d: Due, phase: Phase, t: RunTime) -> Answer
+    requires { ⌜ FinishReady d phase ⌝ }
+    ensures { λ r. ⌜ ((run : Run) → r ≡ steps.finished (duePlan d) run t phase .answer) ⌝ }
 {
-    let phase = run.phase;
     match phase {
-        Phase::Waiting { window: _, job: _ } => refused_with(run, Refusal::Idle),
-        Phase::Running { window, job, start } => finished_since(d, run, window, job, start, t),
+        Phase::Waiting { window: _, job: _ } => Answer::Refused(Refusal::Idle),
+        Phase::Running { window, job, start } => finished_since(d, window, job, start, t),
     }
 }
 
-// A step's answer.
-pub fn step_due(
+// A step's answer, with what was seen of the previous and of the present window.
+pub fn answer_due<'a>(
     d: Due,
-    least: &[i32; MOST_TERMS],
-    most: &[i32; MOST_TERMS],
-    run: Run,
+    least: &'a [i32; MOST_TERMS],
+    most: &'a [i32; MOST_TERMS],
+    phase: Phase,
+    has_previous: bool,
+    previous: &'a [i64; MOST_SEEN],
+    present: &'a [i64; MOST_SEEN],
     st: Step,
-) -> Answered
-    requires { ⌜ StepInside d (now least) (now most) run ⌝ }
-    ensures { λ r. ⌜ r ≡ steps.stepped (duePlan d) (dueCalendar d (now (least .entry)) (now (most .entry))) run st ⌝ }
+) -> Answer
+    requires { ⌜ StepInside d (now least) (now most) (runOf phase «has_previous» (now previous) (now present)) ⌝ }
+    ensures { λ r. ⌜ r ≡ steps.stepped (duePlan d) (dueCalendar d (now (least .entry)) (now (most .entry))) (runOf phase «has_previous» (now (previous .entry)) (now (present .entry))) st .answer ⌝ }
 {
     match st {
-        Step::Ask => asked(run, opening(d, least, most, run)),
-        Step::Start(choice) => started(run, choice, opening(d, least, most, run)),
-        Step::Finish(t) => finished(d, run, t),
+        Step::Ask => asked(opening(d, least, most, phase, has_previous, previous, present)),
+        Step::Start(choice) => started(
+            choice,
+            opening(d, least, most, phase, has_previous, previous, present),
+        ),
+        Step::Finish(t) => finished(d, phase, t),
     }
 }
 
@@ -254,7 +169,25 @@ pub fn step_inside(p: Plan, c: Calendar, run: Run, st: Step) -> Answered
         job: job,
         terms: terms,
     };
-    step_due(d, &least, &most, run, st)
+    let seen_before = run.previous;
+    let seen_now = run.present;
+    let previous = times_seen(seen_before);
+    let present = times_seen(seen_now);
+    let answer = answer_due(
+        d,
+        &least,
+        &most,
+        phase,
+        run.has_previous,
+        &previous,
+        &present,
+        st,
+    );
+    let next = moved(run, move_of(p.jobs, phase, answer));
+    Answered {
+        answer: answer,
+        run: next,
+    }
 }
 
 // A step's answer, with a plan that is accepted: 2,0 for a run, a calendar or a time outside its limits.

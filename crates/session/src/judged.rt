@@ -38,10 +38,7 @@ fn put_session(
     ensures { λ r. ⌜ r + 7 * from ≤ 7 * length (now (text .entry)) + 56 ⌝ }
 {
     match v {
-        Verdict::Settled(_) => {
-            let run = runs::new_run();
-            put_answers(text, from, line, p, c, run, out, 0)
-        }
+        Verdict::Settled(_) => { put_answers(text, from, line, p, c, out, 0) }
         Verdict::NoStrategy(windows) => put_refused(out, 0, Refusal::NoStrategy(windows)),
         Verdict::Unsettled(rounds) => put_refused(out, 0, Refusal::Unsettled(rounds)),
     }

@@ -7,22 +7,25 @@ use calendars::Calendar;
 use plan::Plan;
 use plan::put_refused;
 use runs::Due;
-use runs::Run;
+use runs::MOST_SEEN;
+use runs::Move;
+use runs::Phase;
 ghost use mathlib.Core.Path.{_≡_};
 ghost use Prim.Native.Nat.{_+_, _*_, _-_, _≤_};
 ghost use lib.ListN.{length, drop};
 ghost use Rattle.text.specs.Lent.{Stored};
 ghost use Rattle.runs.specs.Inside.{Inside};
+ghost use Rattle.runs.specs.Steps.{newRun};
 ghost use Rattle.session.specs.Sessions.{answers};
 
-// The answers to the steps of a text from a place on, whose line has number line, written from a place of out on; the run goes on from there.
+// The answers to the steps of a text from a place on, whose line has number line, written from a place of out on; the run is at its beginning. It is held in
+// parts, its times as `MOST_SEEN` of each window, so that no step copies it.
 pub fn put_answers(
     text: &[u8],
     from: usize,
     line: usize,
     p: Plan,
     c: Calendar,
-    run: Run,
     out: &mut [u8],
     at: usize,
 ) -> usize
@@ -30,13 +33,16 @@ pub fn put_answers(
     requires { ⌜ length (now text) ≤ 65536 ⌝ }
     requires { ⌜ line ≤ 65537 ⌝ }
     requires { ⌜ at ≤ 65536 ⌝ }
-    requires { ⌜ Inside p c run ⌝ }
-    ensures { λ r. ⌜ Stored (now (out .entry)) at (answers p c run (drop from (now (text .entry))) line) (now (out .exit)) r ⌝ }
+    requires { ⌜ Inside p c newRun ⌝ }
+    ensures { λ r. ⌜ Stored (now (out .entry)) at (answers p c newRun (drop from (now (text .entry))) line) (now (out .exit)) r ⌝ }
     ensures { λ r. ⌜ r + 7 * from ≤ at + 7 * length (now (text .entry)) + 56 ⌝ }
 {
     let least = c.at_least;
     let most = c.at_most;
-    let mut run = run;
+    let mut phase = Phase::Waiting { window: 1, job: 1 };
+    let mut has_previous = false;
+    let mut previous = [0i64; MOST_SEEN];
+    let mut present = [0i64; MOST_SEEN];
     let mut place = from;
     let mut number = line;
     let mut end = at;
@@ -47,7 +53,6 @@ pub fn put_answers(
                 return put_refused(out, end, x);
             }
             StepAt::Value(st, next) => {
-                let phase = run.phase;
                 let due = runs::jobs_done(phase);
                 let job = p.job[due];
                 let terms = c.terms[due];
@@ -58,15 +63,48 @@ pub fn put_answers(
                     job: job,
                     terms: terms,
                 };
-                let got = runs::step_due(d, &least, &most, run, st);
-                let answer = got.answer;
-                run = got.run;
+                let answer = runs::answer_due(
+                    d,
+                    &least,
+                    &most,
+                    phase,
+                    has_previous,
+                    &previous,
+                    &present,
+                    st,
+                );
                 end = put_answer(out, end, answer);
                 if ends_session(answer) {
                     return end;
                 }
                 place = next;
                 number += 1;
+                let step = runs::move_of(p.jobs, phase, answer);
+                match step {
+                    Move::Stay => {}
+                    Move::Begin(after) => {
+                        phase = after;
+                    }
+                    Move::Next {
+                        place: done,
+                        probe,
+                        phase: after,
+                    } => {
+                        runs::put_probe(&mut present, done, probe);
+                        phase = after;
+                    }
+                    Move::Close {
+                        place: done,
+                        probe,
+                        phase: after,
+                    } => {
+                        runs::put_probe(&mut present, done, probe);
+                        previous = present;
+                        present = [0i64; MOST_SEEN];
+                        has_previous = true;
+                        phase = after;
+                    }
+                }
             }
         }
     }

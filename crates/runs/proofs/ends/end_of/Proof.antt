@@ -6,6 +6,7 @@ use denote.Ref.{now}
 use borrow.Author.Needs.{needs}
 use Rattle.calendars.specs.Calendars.{mostEvents}
 use Rattle.runs.specs.Ends.{pickOf}
+use Rattle.runs.specs.Seen.{probesOf}
 use Rattle.runs.specs.EndLaws.{endOf-later, endOf-first}
 use Rattle.runs.proofs.ends.end_of.Statement.{statement}
 use Rattle.runs.proofs.ends.end_of.Tie as tie
@@ -35,7 +36,7 @@ returns : tie.Need-returns
 returns c =
     let a = c .before .before .before .args in
     c .end-in2 .ensures
-    ∙ endOf-later (pickOf (a .upper)) (a .jobs) (a .i) (a .has-previous) (a .previous) (a .present) (a .set) (now (a .cs)) (a .i * mostEvents) (a .end .0) (c .before .before .if1 .taken)
+    ∙ endOf-later (pickOf (a .upper)) (a .jobs) (a .i) (a .has-previous) (probesOf (now (a .previous))) (probesOf (now (a .present))) (a .set) (now (a .cs)) (a .i * mostEvents) (a .end .0) (c .before .before .if1 .taken)
     _ (c .before .end-in .ensures)
 
 end-in-requires-3 : tie.Need-end-in-requires-3
@@ -45,7 +46,7 @@ returns-2 : tie.Need-returns-2
 returns-2 c =
     let a = c .before .before .args in
     c .end-in3 .ensures
-    ∙ endOf-first (pickOf (a .upper)) (a .jobs) (a .i) (a .has-previous) (a .previous) (a .present) (a .set) (now (a .cs)) (a .i * mostEvents) (a .end .0) (c .before .if1 .left)
+    ∙ endOf-first (pickOf (a .upper)) (a .jobs) (a .i) (a .has-previous) (probesOf (now (a .previous))) (probesOf (now (a .present))) (a .set) (now (a .cs)) (a .i * mostEvents) (a .end .0) (c .before .if1 .left)
 
 pub end-of-spec : {M : Type 1} → statement M
 end-of-spec =

@@ -10,17 +10,13 @@ enum-known-at c = search needs
 enum-known-at-2 : tie.Need-enum-known-at-2
 enum-known-at-2 c = search needs
 
-refused-with-requires : tie.Need-refused-with-requires
-refused-with-requires c κs = search needs
-
 returns : tie.Need-returns
 unfolding asked
-returns c = rw (c .before .at .given .1)
+returns c = λ run. rw (c .before .at .given .1)
 
 returns-2 : tie.Need-returns-2
 unfolding asked
-returns-2 c = rw (c .before .before .at2 .given .1) (c .refused-with .ensures)
+returns-2 c = λ run. rw (c .before .at2 .given .1)
 
 pub asked-spec : {M : Type 1} → statement M
-asked-spec =
-    tie.close (tie.spec enum-known-at enum-known-at-2 refused-with-requires returns returns-2)
+asked-spec = tie.close (tie.spec enum-known-at enum-known-at-2 returns returns-2)

@@ -1,17 +1,15 @@
 -- `finished` meets its contract, case by case of the phase.
 use mathlib.Core.Path.{sym, ap, _∙_}
+use Rattle.runs.specs.declared.Answered.{Answered}
+use Rattle.runs.specs.declared.Phase.{Phase}
 use Rattle.runs.specs.Steps.{finished}
 use Rattle.runs.specs.Due.{duePlan}
-use Rattle.runs.specs.StepLaws.{finished-idle}
 use borrow.Author.Needs.{needs}
 use Rattle.runs.proofs.steps.finished.Statement.{statement}
 use Rattle.runs.proofs.steps.finished.Tie as tie
 
 enum-told : tie.Need-enum-told
 enum-told c = search needs
-
-refused-with-requires : tie.Need-refused-with-requires
-refused-with-requires c κs = search needs
 
 enum-known-phase : tie.Need-enum-known-phase
 enum-known-phase c = search needs
@@ -20,22 +18,14 @@ finished-since-requires : tie.Need-finished-since-requires
 finished-since-requires c κs = c .before .before .before .pre .running _ _ _ (c .before .phase .given .1)
 
 returns : tie.Need-returns
-returns c =
-    let a = c .before .before .before .args in
-    c .refused-with .ensures ∙ finished-idle (duePlan (a .d)) (a .run) (a .t) _ _ _ (c .before .enum-told .given .1)
+unfolding finished
+returns c = λ run. rw (c .enum-told .given .1)
 
 returns-2 : tie.Need-returns-2
 returns-2 c =
     let a = c .before .before .before .before .args in
-    c .finished-since .ensures ∙ sym (ap (finished (duePlan (a .d)) (a .run) (a .t)) (c .before .before .phase .given .1))
+    λ run. rw (c .before .before .phase .given .1) (c .finished-since .ensures run)
 
 pub finished-spec : {M : Type 1} → statement M
 finished-spec =
-    tie.close
-    (tie.spec
-    enum-told
-    refused-with-requires
-    enum-known-phase
-    finished-since-requires
-    returns
-    returns-2)
+    tie.close (tie.spec enum-told enum-known-phase finished-since-requires returns returns-2)

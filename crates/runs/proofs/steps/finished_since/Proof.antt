@@ -5,8 +5,7 @@ use mir.Syntax.{w32}
 use mir.Val.{SFits}
 use mir.Facts.{toZ-ofZ}
 use Rattle.clock.specs.Clock.{movedBy}
-use Rattle.runs.specs.declared.Answer.the-variants.{Final}
-use Rattle.runs.specs.declared.Run.{Run}
+use Rattle.runs.specs.declared.Answered.{Answered}
 use Rattle.runs.specs.StepLaws.{finish-fits, finished-on, finished-off}
 use borrow.Author.Needs.{needs}
 use Rattle.runs.proofs.steps.finished_since.Statement.{statement}
@@ -26,9 +25,6 @@ moved-by-requires-2 c κs =
 is-between-requires : tie.Need-is-between-requires
 is-between-requires c κs = search needs
 
-closed-requires : tie.Need-closed-requires
-closed-requires c κs = search needs
-
 ends : (c : tie.After-moved-by2)
     → (c .before .before .moved-by .result ≡ movedBy (c .before .before .before .before .before .args .start) (c .before .before .before .before .before .args .d .job .min))
     × (c .moved-by2 .result ≡ movedBy (c .before .before .before .before .before .args .start) (c .before .before .before .before .before .args .d .job .max))
@@ -40,22 +36,21 @@ ends c =
 
 returns : tie.Need-returns
 returns c =
-    let m = c .before .before .before in
+    let m = c .before .before in
     let a = m .before .before .before .before .before .args in
-    ap (λ (r : Run). record { answer = Final (a .j) (a .i) (a .t); run = r }) (c .closed .ensures)
-    ∙ finished-on (a .d) (a .run) (a .j) (a .i) (a .start) (a .t) _ _ (omega arith) (ends m .0) (ends m .1)
-    (sym (c .before .before .is-between .ensures) ∙ c .before .if1 .taken)
-
-refused-with-requires : tie.Need-refused-with-requires
-refused-with-requires c κs = search needs
+    let p = m .before .before .before .before .before .pre in
+    λ run.
+    ap (λ (r : Answered). r .answer)
+    (finished-on (a .d) run (a .j) (a .i) (a .start) (a .t) _ _ (omega arith) (ends m .0) (ends m .1) (sym (c .before .is-between .ensures) ∙ c .if1 .taken))
 
 returns-2 : tie.Need-returns-2
 returns-2 c =
-    let m = c .before .before .before in
+    let m = c .before .before in
     let a = m .before .before .before .before .before .args in
-    c .refused-with .ensures
-    ∙ finished-off (a .d) (a .run) (a .j) (a .i) (a .start) (a .t) _ _ (omega arith) (ends m .0) (ends m .1)
-    (sym (c .before .before .is-between .ensures) ∙ c .before .if1 .left)
+    let p = m .before .before .before .before .before .pre in
+    λ run.
+    ap (λ (r : Answered). r .answer)
+    (finished-off (a .d) run (a .j) (a .i) (a .start) (a .t) _ _ (omega arith) (ends m .0) (ends m .1) (sym (c .before .is-between .ensures) ∙ c .if1 .left))
 
 pub finished-since-spec : {M : Type 1} → statement M
 finished-since-spec =
@@ -64,7 +59,5 @@ finished-since-spec =
     moved-by-requires
     moved-by-requires-2
     is-between-requires
-    closed-requires
     returns
-    refused-with-requires
     returns-2)

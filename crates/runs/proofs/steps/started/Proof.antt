@@ -13,24 +13,14 @@ started-by-requires c κs = search needs
 enum-known-at-2 : tie.Need-enum-known-at-2
 enum-known-at-2 c = search needs
 
-refused-with-requires : tie.Need-refused-with-requires
-refused-with-requires c κs = search needs
-
 returns : tie.Need-returns
 unfolding started
-returns c = rw (c .before .before .at .given .1) (c .started-by .ensures)
+returns c = λ run. rw (c .before .before .at .given .1) (c .started-by .ensures run)
 
 returns-2 : tie.Need-returns-2
 unfolding started
-returns-2 c = rw (c .before .before .at2 .given .1) (c .refused-with .ensures)
+returns-2 c = λ run. rw (c .before .at2 .given .1)
 
 pub started-spec : {M : Type 1} → statement M
 started-spec =
-    tie.close
-    (tie.spec
-    enum-known-at
-    started-by-requires
-    enum-known-at-2
-    refused-with-requires
-    returns
-    returns-2)
+    tie.close (tie.spec enum-known-at started-by-requires enum-known-at-2 returns returns-2)

@@ -1,11 +1,7 @@
 -- `put_session`: verdict by verdict, `judged-settled`, `judged-refused`, `judged-unsettled`.
-use mathlib.Core.Path.{sym, ap, subst, _∙_}
 use native.Mathlib.Omega.{arith}
 use denote.Ref.{now}
 use lib.ListN.{drop}
-use Rattle.runs.specs.declared.Run.{Run}
-use Rattle.runs.specs.Inside.{Inside}
-use Rattle.session.specs.Sessions.{answers}
 use Rattle.session.specs.JudgedLaws.{judged-inside, judged-settled, judged-refused, judged-unsettled}
 use Rattle.plan.specs.WrittenLaws.{stored-as}
 use borrow.Author.Needs.{needs}
@@ -15,12 +11,9 @@ use Rattle.session.proofs.judged.put_session.Tie as tie
 enum-told : tie.Need-enum-told
 enum-told c = search needs
 
-new-run-requires : tie.Need-new-run-requires
-new-run-requires c κs = search needs
-
 put-answers-requires : tie.Need-put-answers-requires
 put-answers-requires c κs =
-    let s = c .before .before .before .before .before .before in
+    let s = c .before .before .before .before .before in
     let j = s .pre .1 .1 .1 in (
       s .pre .0,
       (
@@ -29,8 +22,7 @@ put-answers-requires c κs =
           s .pre .1 .1 .0,
           (
             omega arith,
-            subst (λ (r : Run). Inside (s .args .p) (s .args .c) r) (sym (c .before .new-run .ensures))
-                (judged-inside (s .args .p) (s .args .v) (s .args .c) j _ (c .before .before .enum-told .given .1)),
+            judged-inside (s .args .p) (s .args .v) (s .args .c) j _ (c .before .enum-told .given .1),
           ),
         ),
       ),
@@ -53,11 +45,11 @@ same-length c = search needs
 
 returns : tie.Need-returns
 returns c =
-    let s = c .before .before .before .before .before .before .before .before .before in
+    let s = c .before .before .before .before .before .before .before .before in
     let a = s .args in
     let w = c .before .before .put-answers .ensures in
-    let j = judged-settled (a .p) (a .v) (a .c) (s .pre .1 .1 .1) (drop (a .from) (now (a .text))) (a .line) _ (c .before .before .before .before .before .enum-told .given .1) in
-    (stored-as (ap (λ (r : Run). answers (a .p) (a .c) r (drop (a .from) (now (a .text))) (a .line)) (c .before .before .before .before .new-run .ensures) ∙ j) (w .0), omega (arith, w .1, s .pre .0))
+    let j = judged-settled (a .p) (a .v) (a .c) (s .pre .1 .1 .1) (drop (a .from) (now (a .text))) (a .line) _ (c .before .before .before .before .enum-told .given .1) in
+    (stored-as j (w .0), omega (arith, w .1, s .pre .0))
 
 same-length-2 : tie.Need-same-length-2
 same-length-2 c = search needs
@@ -86,7 +78,6 @@ put-session-spec =
     tie.close
     (tie.spec
     enum-told
-    new-run-requires
     put-answers-requires
     enum-known-v
     put-refused-requires

@@ -1,23 +1,46 @@
 -- `put_answers`: the invariant is `Going`, that whatever writes the answers that are left has written all of them; one law a way, `going-..`. What is due,
--- read off the plan and the calendar, is all that a step reads (`stepped-due`).
+-- read off the plan and the calendar, is all that an answer asks for (`due-answer`), and its move is what it makes of the run (`stepped-moved`).
 use Prim.Native.Nat.{_+_, _-_, _≤_, _<_}
-use mathlib.Core.Path.{_≡_, sym, ap, subst, _∙_}
+use mathlib.Core.Path.{_≡_, refl, sym, ap, subst, _∙_}
+use mathlib.Core.Bool.{false}
 use native.Mathlib.Omega.{arith}
 use denote.Ref.{now}
-use lib.ListN.{length, drop}
+use lib.ListN.{length, drop, getD}
 use mir.Syntax.{w32}
-use mir.Val.{SFits}
+use mir.Val.{SFits, toZ, ofZ}
 use mir.Facts.{toZ-ofZ}
+use Rattle.text.specs.Lent.{Stored}
 use Rattle.plan.specs.Reading.{read}
+use Rattle.plan.specs.PlanRead.{noJob}
+use Rattle.plan.specs.WrittenLaws.{stored-as}
+use Rattle.calendars.specs.Calendars.{noTerms}
+use Rattle.runs.specs.declared.Answer.{Answer}
 use Rattle.runs.specs.declared.Answered.{Answered}
 use Rattle.runs.specs.declared.Due.{Due}
-use Rattle.runs.specs.Steps.{stepped}
-use Rattle.runs.specs.Due.{duePlan, dueCalendar, StepInside}
-use Rattle.runs.specs.DueLaws.{dueOf-made, stepped-due}
-use Rattle.runs.specs.InsideLaws.{inside-step, inside-job}
+use Rattle.runs.specs.declared.Run.{Run}
+use Rattle.runs.specs.declared.Step.{Step}
+use Rattle.runs.specs.Steps.{newRun, stepped}
+use Rattle.runs.specs.Seen.{runOf}
+use Rattle.runs.specs.Moves.{moveOf, moved, Placed}
+use Rattle.runs.specs.Due.{dueOf}
+use Rattle.runs.specs.DueLaws.{dueOf-made}
+use Rattle.runs.specs.InsideLaws.{inside-job}
+use Rattle.runs.specs.SeenLaws.{put-length}
+use Rattle.runs.specs.MoveLaws.{
+  stepped-moved,
+  due-inside,
+  due-answer,
+  inside-moving,
+  move-placed,
+  newRun-seen,
+  moved-stay,
+  moved-begin,
+  moved-next,
+  moved-close,
+}
 use Rattle.session.specs.StepRead.{stepLine}
 use Rattle.session.specs.StepAt.{stepTold}
-use Rattle.session.specs.AnswerText.{answerJob}
+use Rattle.session.specs.AnswerText.{answerJob, answerLine, endsSession}
 use Rattle.session.specs.AnswerJobLaws.{stepped-job}
 use Rattle.session.specs.GoingLaws.{Going, going-start, going-end, going-refused, going-last, going-more}
 use borrow.Author.Needs.{needs}
@@ -25,16 +48,21 @@ use Rattle.session.proofs.steps.put_answers.Statement.{statement}
 use Rattle.session.proofs.steps.put_answers.Tie as tie
 
 abbrev Inv-loop : tie.InvT-loop
-Inv-loop text from line out₀ at p c least most run₀ place₀ number₀ end₀ out run place number end =
-    Going p c text out₀ from line at run₀ out run place number end
+Inv-loop text from line out₀ at p c least most phase₀ has₀ previous₀ present₀ place₀ number₀ end₀ out phase has previous present place number end =
+    Going p c text out₀ from line at newRun out (runOf phase has previous present) place number end × (length present ≡ 18)
 
 abbrev μ-loop : tie.MeasureT-loop
-μ-loop text from line out₀ at p c least most run₀ place₀ number₀ end₀ out run place number end = length text - place
+μ-loop text from line out₀ at p c least most phase₀ has₀ previous₀ present₀ place₀ number₀ end₀ out phase has previous present place number end =
+    length text - place
 
 loop-holds : tie.Need-loop-holds Inv-loop μ-loop
 loop-holds c =
     let s = c .before .before .before .before in
-    going-start (s .args .t4) (s .args .t5) (now (s .args .text)) (now (s .args .out)) (s .args .from) (s .args .line) (s .args .at) (s .args .run) (s .pre .0) (s .pre .1 .1 .1 .1)
+    let a = s .args in (
+      subst (λ (r : Run). Going (a .t4) (a .t5) (now (a .text)) (now (a .out)) (a .from) (a .line) (a .at) newRun (now (a .out)) r (a .from) (a .line) (a .at)) newRun-seen
+          (going-start (a .t4) (a .t5) (now (a .text)) (now (a .out)) (a .from) (a .line) (a .at) newRun (s .pre .0) (s .pre .1 .1 .1 .1)),
+      refl,
+    )
 
 read-step-at-requires : tie.Need-read-step-at-requires Inv-loop μ-loop
 read-step-at-requires c κs = omega arith
@@ -43,17 +71,17 @@ enum-known-read : tie.Need-enum-known-read Inv-loop μ-loop
 enum-known-read c = search needs
 
 put-refused-requires : tie.Need-put-refused-requires Inv-loop μ-loop
-put-refused-requires c κs = omega (arith, c .before .before .before .before .before .before .loop .inv .near, c .before .before .before .before .before .before .loop .inv .placed, c .before .before .before .before .before .before .before .before .before .before .before .pre)
+put-refused-requires c κs = omega (arith, c .before .before .before .before .before .before .loop .inv .0 .near, c .before .before .before .before .before .before .loop .inv .0 .placed, c .before .before .before .before .before .before .before .before .before .before .before .pre)
 
 same-length : tie.Need-same-length Inv-loop μ-loop
-same-length c = c .before .before .put-refused .kept .0 ∙ c .before .before .before .before .before .before .before .before .before .loop .inv .same
+same-length c = c .before .before .put-refused .kept .0 ∙ c .before .before .before .before .before .before .before .before .before .loop .inv .0 .same
 
 returns : tie.Need-returns Inv-loop μ-loop
 returns c =
     let l = c .before .before .before .before .before .before .before .before .before in
     let a = c .before .before .before .before .before .before .before .before .before .before .before .before .before .before .args in
     let d =
-    going-refused (a .t4) (a .t5) (now (a .text)) (now (a .out)) (a .from) (a .line) (a .at) (a .run) (l .loop .out) (l .loop .run) (l .loop .place) (l .loop .number) (l .loop .end) (l .loop .inv)
+    going-refused (a .t4) (a .t5) (now (a .text)) (now (a .out)) (a .from) (a .line) (a .at) newRun (l .loop .out) _ (l .loop .place) (l .loop .number) (l .loop .end) (l .loop .inv .0)
     (c .before .before .before .before .before .before .before .before .loop-test .taken) (c .before .before .put-refused .last .0) (c .before .before .put-refused .result) (omega (arith, c .before .before .put-refused .ensures .1)) _ (c .before .before .before .before .before .before .before .read-step-at .ensures .0 ∙ ap (stepTold _ _ _) (c .before .before .before .before .before .read .given .1)) (c .before .before .put-refused .ensures .0) in
     (d .stored, d .short)
 
@@ -63,13 +91,40 @@ enum-known-read-2 c = search needs
 jobs-done-requires : tie.Need-jobs-done-requires Inv-loop μ-loop
 jobs-done-requires c κs = search needs
 
--- what is due, read off the plan and the calendar, is all that a step reads
+-- what is due, read off the plan and the calendar
 module _ (c : tie.After-jobs-done Inv-loop μ-loop) where
   abbrev at-loop : tie.At-loop Inv-loop μ-loop
   at-loop = c .before .before .before .before .before .before
 
+  abbrev start : tie.Start Inv-loop μ-loop
+  start = c .before .before .before .before .before .before .before .before .before .before .before
+
+  abbrev run : Run
+  run = runOf (at-loop .loop .phase) (at-loop .loop .has-previous) (at-loop .loop .previous) (at-loop .loop .present)
+
   job-most : c .jobs-done .result < 9
-  job-most = omega (arith, c .jobs-done .ensures, inside-job _ _ _ (at-loop .loop .inv .inside))
+  job-most = omega (arith, c .jobs-done .ensures, inside-job _ _ _ (at-loop .loop .inv .0 .inside))
+
+  abbrev due : Due
+  due =
+      record {
+        window = toZ w32 (ofZ w32 (start .args .t4 .window));
+        last = start .args .t4 .last;
+        jobs = start .args .t4 .jobs;
+        job = getD (start .args .t4 .job) (c .jobs-done .result) noJob;
+        terms = getD (start .args .t5 .terms) (c .jobs-done .result) noTerms;
+      }
+
+  -- the step that was read, and its answer
+  abbrev step : Step
+  step = c .before .before .read2 .given .0 .0
+
+  abbrev answered : Answered
+  answered = stepped (start .args .t4) (start .args .t5) run step
+
+  step-read : stepLine (drop (at-loop .loop .place) (now (start .args .text))) (at-loop .loop .number)
+      ≡ read step (drop (c .before .before .read2 .given .0 .1 .0) (now (start .args .text))) (at-loop .loop .number + 1)
+  step-read = c .before .before .before .before .read-step-at .ensures .0 ∙ ap (stepTold _ _ _) (c .before .before .read2 .given .1)
 
 mul-job : tie.Need-mul-job Inv-loop μ-loop
 mul-job c = let j = job-most c in omega arith
@@ -83,87 +138,179 @@ mul-terms c = let j = job-most (c .before) in omega arith
 element-copy-out-terms : tie.Need-element-copy-out-terms Inv-loop μ-loop
 element-copy-out-terms c = job-most (c .before)
 
-step-due-requires : tie.Need-step-due-requires Inv-loop μ-loop
-step-due-requires c κs =
-    let l = c .before .before .before .before .before .before .before .before .before .before .before in
-    let a = c .before .before .before .before .before .before .before .before .before .before .before .before .before .before .before .before .args in
-    let w : SFits w32 (a .t4 .window) = record { sfits = c .before .before .struct-told .given .0 .1 } in
-    subst (λ (d : Due). StepInside d (a .t5 .«at_least») (a .t5 .«at_most») (l .loop .run))
-    (sym (dueOf-made (a .t4) (a .t5) (l .loop .run) _ _ (toZ-ofZ w) (c .before .before .before .before .before .jobs-done .ensures))) (inside-step (a .t4) (a .t5) (l .loop .run) (l .loop .inv .inside))
+module _ (c : tie.After-present Inv-loop μ-loop) where
+  abbrev done : tie.After-jobs-done Inv-loop μ-loop
+  done = c .before .before .before .before .before .before .before
 
-module _ (c : tie.After-step-due Inv-loop μ-loop) where
-  abbrev a : tie.Start Inv-loop μ-loop
-  a = c .before .before .before .before .before .before .before .before .before .before .before .before .before .before .before .before .before
+  due-made : due done ≡ dueOf (start done .args .t4) (start done .args .t5) (run done)
+  due-made =
+      let w : SFits w32 (start done .args .t4 .window) = record { sfits = c .before .before .before .before .struct-told .given .0 .1 } in
+      dueOf-made (start done .args .t4) (start done .args .t5) (run done) _ _ (toZ-ofZ w) (done .jobs-done .ensures)
 
-  abbrev l : tie.At-loop Inv-loop μ-loop
-  l = c .before .before .before .before .before .before .before .before .before .before .before .before
+answer-due-requires : tie.Need-answer-due-requires Inv-loop μ-loop
+answer-due-requires c κs =
+    let d = done c in
+    due-inside (start d .args .t4) (start d .args .t5) (run d) (at-loop d .loop .inv .0 .inside) (due d) (due-made c)
 
-  step-read : stepLine (drop (l .loop .place) (now (a .args .text))) (l .loop .number)
-      ≡ read (c .before .before .before .before .before .before .before .before .read2 .given .0 .0) (drop (c .before .before .before .before .before .before .before .before .read2 .given .0 .1 .0) (now (a .args .text))) (l .loop .number + 1)
-  step-read = c .before .before .before .before .before .before .before .before .before .before .read-step-at .ensures .0 ∙ ap (stepTold _ _ _) (c .before .before .before .before .before .before .before .before .read2 .given .1)
+module _ (c : tie.After-answer-due Inv-loop μ-loop) where
+  abbrev d : tie.After-jobs-done Inv-loop μ-loop
+  d = done (c .before)
 
-  stepped-there : c .step-due .result ≡ stepped (a .args .t4) (a .args .t5) (l .loop .run) (c .before .before .before .before .before .before .before .before .read2 .given .0 .0)
-  stepped-there =
-      let w : SFits w32 (a .args .t4 .window) = record { sfits = c .before .before .before .struct-told .given .0 .1 } in
-      c .step-due .ensures
-      ∙ ap (λ (d : Due). stepped (duePlan d) (dueCalendar d (a .args .t5 .«at_least») (a .args .t5 .«at_most»)) (l .loop .run) (c .before .before .before .before .before .before .before .before .read2 .given .0 .0))
-      (dueOf-made (a .args .t4) (a .args .t5) (l .loop .run) _ _ (toZ-ofZ w) (c .before .before .before .before .before .before .jobs-done .ensures))
-      ∙ stepped-due (a .args .t4) (a .args .t5) (l .loop .run) (inside-job (a .args .t4) (a .args .t5) (l .loop .run) (l .loop .inv .inside)) (c .before .before .before .before .before .before .before .before .read2 .given .0 .0)
+  answer-is : c .answer-due .result ≡ answered d .answer
+  answer-is =
+      c .answer-due .ensures
+      ∙ ap (λ (x : Answered). x .answer)
+      (due-answer (start d .args .t4) (start d .args .t5) (run d) (at-loop d .loop .inv .0 .inside) (due d) (due-made (c .before)) (step d))
 
-  answer-job : answerJob (c .step-due .result .answer) ≤ 9
+  answer-job : answerJob (c .answer-due .result) ≤ 9
   answer-job =
-      let i = inside-job (a .args .t4) (a .args .t5) (l .loop .run) (l .loop .inv .inside) in
-      let h = stepped-job (a .args .t4) (a .args .t5) (l .loop .run) (c .before .before .before .before .before .before .before .before .read2 .given .0 .0) in
-      subst (λ (x : Answered). answerJob (x .answer) ≤ 9) (sym stepped-there) (omega (arith, i, h))
+      let i = inside-job (start d .args .t4) (start d .args .t5) (run d) (at-loop d .loop .inv .0 .inside) in
+      let h = stepped-job (start d .args .t4) (start d .args .t5) (run d) (step d) in
+      subst (λ (x : Answer). answerJob x ≤ 9) (sym answer-is) (omega (arith, i, h))
 
 put-answer-requires : tie.Need-put-answer-requires Inv-loop μ-loop
 put-answer-requires c κs = (
-  omega (arith, c .before .before .before .before .before .before .before .before .before .before .before .before .before .before .loop .inv .near, c .before .before .before .before .before .before .before .before .before .before .before .before .before .before .loop .inv .placed, c .before .before .before .before .before .before .before .before .before .before .before .before .before .before .before .before .before .before .before .pre),
-  answer-job (c .before .before),
+  omega (arith, c .before .before .before .before .before .before .before .before .before .before .before .before .before .before .before .loop .inv .0 .near, c .before .before .before .before .before .before .before .before .before .before .before .before .before .before .before .loop .inv .0 .placed, c .before .before .before .before .before .before .before .before .before .before .before .before .before .before .before .before .before .before .before .before .pre),
+  answer-job (c .before),
 )
 
 ends-session-requires : tie.Need-ends-session-requires Inv-loop μ-loop
 ends-session-requires c κs = search needs
 
 same-length-2 : tie.Need-same-length-2 Inv-loop μ-loop
-same-length-2 c = c .before .before .before .before .put-answer .kept .0 ∙ c .before .before .before .before .before .before .before .before .before .before .before .before .before .before .before .before .before .before .before .loop .inv .same
+same-length-2 c = c .before .before .before .before .put-answer .kept .0 ∙ c .before .before .before .before .before .before .before .before .before .before .before .before .before .before .before .before .before .before .before .before .loop .inv .0 .same
+
+-- the answer that was written
+answer-stored : (c : tie.After-put-answer Inv-loop μ-loop)
+    → Stored (at-loop (d (c .before .before)) .loop .out) (at-loop (d (c .before .before)) .loop .end) (answerLine (answered (d (c .before .before)) .answer)) (c .put-answer .last .0) (c .put-answer .result)
+answer-stored c = stored-as (ap answerLine (answer-is (c .before .before))) (c .put-answer .ensures .0)
 
 returns-2 : tie.Need-returns-2 Inv-loop μ-loop
 returns-2 c =
-    let s = c .before .before .before .before .before .before .before in
-    let l = s .before .before .before .before .before .before .before .before .before .before .before .before in
-    let a = c .before .before .before .before .before .before .before .before .before .before .before .before .before .before .before .before .before .before .before .before .before .before .before .before .args in
-    let d =
-    going-last (a .t4) (a .t5) (now (a .text)) (now (a .out)) (a .from) (a .line) (a .at) (a .run) (l .loop .out) (l .loop .run) (l .loop .place) (l .loop .number) (l .loop .end) (l .loop .inv)
-    (c .before .before .before .before .before .before .before .before .before .before .before .before .before .before .before .before .before .before .loop-test .taken) _ _ (c .before .before .before .before .put-answer .ensures .1) _ (s .before .before .before .before .before .before .before .before .read2 .given .0 .1 .0) (s .step-due .result) (step-read s) (stepped-there s) (c .before .before .before .before .put-answer .ensures .0) (sym (c .before .ends-session .ensures) ∙ c .if1 .taken) in
-    (d .stored, d .short)
+    let e = c .before .before .before .before .before .before in
+    let j = d e in
+    let a = start j .args in
+    let l = at-loop j in
+    let w =
+    going-last (a .t4) (a .t5) (now (a .text)) (now (a .out)) (a .from) (a .line) (a .at) newRun (l .loop .out) (run j) (l .loop .place) (l .loop .number) (l .loop .end) (l .loop .inv .0)
+    (c .before .before .before .before .before .before .before .before .before .before .before .before .before .before .before .before .before .before .before .loop-test .taken) _ _ (c .before .before .before .before .put-answer .ensures .1) (step j) (j .before .before .read2 .given .0 .1 .0) (answered j) (step-read j) refl (answer-stored (c .before .before .before .before)) (sym (ap endsSession (answer-is e)) ∙ sym (c .before .ends-session .ensures) ∙ c .if1 .taken) in
+    (w .stored, w .short)
 
 add-number : tie.Need-add-number Inv-loop μ-loop
-add-number c = omega (arith, c .before .before .before .before .before .before .before .before .before .before .before .before .before .before .before .before .before .before .before .loop .inv .numbered, c .before .before .before .before .before .before .before .before .before .before .before .before .before .before .before .before .before .before .before .loop .inv .placed, c .before .before .before .before .before .before .before .before .before .before .before .before .before .before .before .before .before .before .before .before .before .before .before .before .pre)
+add-number c = omega (arith, c .before .before .before .before .before .before .before .before .before .before .before .before .before .before .before .before .before .before .before .before .loop .inv .0 .numbered, c .before .before .before .before .before .before .before .before .before .before .before .before .before .before .before .before .before .before .before .before .loop .inv .0 .placed, c .before .before .before .before .before .before .before .before .before .before .before .before .before .before .before .before .before .before .before .before .before .before .before .before .before .pre)
+
+move-of-requires : tie.Need-move-of-requires Inv-loop μ-loop
+move-of-requires c κs =
+    let j = d (c .before .before .before .before .before .before) in inside-moving (start j .args .t4) (start j .args .t5) (run j) (at-loop j .loop .inv .0 .inside)
+
+-- the loop goes on with the run after its move
+module _ (c : tie.After-move-of Inv-loop μ-loop) where
+  abbrev e : tie.After-answer-due Inv-loop μ-loop
+  e = c .before .before .before .before .before .before .before
+
+  abbrev j : tie.After-jobs-done Inv-loop μ-loop
+  j = d e
+
+  shorter : length (now (start j .args .text)) - j .before .before .read2 .given .0 .1 .0 < length (now (start j .args .text)) - at-loop j .loop .place
+  shorter =
+      let ends = c .before .before .before .before .before .before .before .before .before .before .before .before .before .before .before .before .before .before .before .read-step-at .ensures .1 in
+      let v = j .before .before .read2 .given .1 in
+      omega (arith, ends .least _ _ v, ends .most _ _ v)
+
+  move-is : answered j .run ≡ moved (run j) (c .move-of .result)
+  move-is =
+      stepped-moved (start j .args .t4) (run j) (start j .args .t5) (step j)
+      ∙ ap (λ (x : Answer). moved (run j) (moveOf (start j .args .t4 .jobs) (run j .phase) x)) (sym (answer-is e))
+      ∙ ap (moved (run j)) (sym (c .move-of .ensures))
+
+  abbrev GoesOn : Run → Type 0
+  GoesOn r =
+      Going (start j .args .t4) (start j .args .t5) (now (start j .args .text)) (now (start j .args .out)) (start j .args .from) (start j .args .line) (start j .args .at) newRun (c .before .before .before .before .before .put-answer .last .0) r (j .before .before .read2 .given .0 .1 .0) (at-loop j .loop .number + 1) (c .before .before .before .before .before .put-answer .result)
+
+  goes-on : GoesOn (moved (run j) (c .move-of .result))
+  goes-on =
+      let a = start j .args in
+      let l = at-loop j in
+      subst GoesOn move-is
+      (going-more (a .t4) (a .t5) (now (a .text)) (now (a .out)) (a .from) (a .line) (a .at) newRun (l .loop .out) (run j) (l .loop .place) (l .loop .number) (l .loop .end) (l .loop .inv .0)
+      (c .before .before .before .before .before .before .before .before .before .before .before .before .before .before .before .before .before .before .before .before .loop-test .taken) _ _ (c .before .before .before .before .before .put-answer .ensures .1) (step j) (j .before .before .read2 .given .0 .1 .0) (answered j) (step-read j) refl (answer-stored (c .before .before .before .before .before)) (sym (ap endsSession (answer-is e)) ∙ sym (c .before .before .ends-session .ensures) ∙ c .before .if1 .left)
+      (j .before .before .read2 .given .1) (c .before .before .before .before .before .before .before .before .before .before .before .before .before .before .before .before .before .before .before .read-step-at .ensures .1))
+
+enum-told : tie.Need-enum-told Inv-loop μ-loop
+enum-told c = search needs
 
 loop-less : tie.Need-loop-less Inv-loop μ-loop
-loop-less c = omega (arith, c .before .before .before .before .before .before .before .before .before .before .before .before .before .before .before .before .before .read-step-at .ensures .1 .least _ _ (c .before .before .before .before .before .before .before .before .before .before .before .before .before .before .before .read2 .given .1), c .before .before .before .before .before .before .before .before .before .before .before .before .before .before .before .before .before .read-step-at .ensures .1 .most _ _ (c .before .before .before .before .before .before .before .before .before .before .before .before .before .before .before .read2 .given .1))
+loop-less c = shorter (c .before .before)
 
 loop-again : tie.Need-loop-again Inv-loop μ-loop
 loop-again c =
-    let s = c .before .before .before .before .before .before .before in
-    let l = s .before .before .before .before .before .before .before .before .before .before .before .before in
-    let a = c .before .before .before .before .before .before .before .before .before .before .before .before .before .before .before .before .before .before .before .before .before .before .before .before .args in
-    going-more (a .t4) (a .t5) (now (a .text)) (now (a .out)) (a .from) (a .line) (a .at) (a .run) (l .loop .out) (l .loop .run) (l .loop .place) (l .loop .number) (l .loop .end) (l .loop .inv)
-    (c .before .before .before .before .before .before .before .before .before .before .before .before .before .before .before .before .before .before .loop-test .taken) _ _ (c .before .before .before .before .put-answer .ensures .1) _ (s .before .before .before .before .before .before .before .before .read2 .given .0 .1 .0) (s .step-due .result) (step-read s) (stepped-there s) (c .before .before .before .before .put-answer .ensures .0) (sym (c .before .ends-session .ensures) ∙ c .if1 .left)
-    (c .before .before .before .before .before .before .before .before .before .before .before .before .before .before .before .read2 .given .1) (c .before .before .before .before .before .before .before .before .before .before .before .before .before .before .before .before .before .read-step-at .ensures .1)
+    let m = c .before .before in
+    (subst (GoesOn m) (moved-stay _ _ _ _ _ (c .enum-told .given .1)) (goes-on m), at-loop (j m) .loop .inv .1)
+
+enum-known-step : tie.Need-enum-known-step Inv-loop μ-loop
+enum-known-step c = search needs
+
+loop-less-2 : tie.Need-loop-less-2 Inv-loop μ-loop
+loop-less-2 c = shorter (c .before .before .before)
+
+loop-again-2 : tie.Need-loop-again-2 Inv-loop μ-loop
+loop-again-2 c =
+    let m = c .before .before .before in
+    (subst (GoesOn m) (moved-begin _ _ _ _ _ (c .before .step .given .1)) (goes-on m), at-loop (j m) .loop .inv .1)
+
+enum-known-step-2 : tie.Need-enum-known-step-2 Inv-loop μ-loop
+enum-known-step-2 c = search needs
+
+-- a move is at a place of the window
+module _ (c : tie.After-move-of Inv-loop μ-loop) where
+  placed : Placed (c .move-of .result)
+  placed = move-placed _ _ _ _ (c .move-of .ensures) (inside-moving (start (j c) .args .t4) (start (j c) .args .t5) (run (j c)) (at-loop (j c) .loop .inv .0 .inside))
+
+put-probe-requires : tie.Need-put-probe-requires Inv-loop μ-loop
+put-probe-requires c κs =
+    let m = c .before .before .before .before in placed m .next _ _ _ (c .before .before .step2 .given .1)
+
+loop-less-3 : tie.Need-loop-less-3 Inv-loop μ-loop
+loop-less-3 c = shorter (c .before .before .before .before .before)
+
+loop-again-3 : tie.Need-loop-again-3 Inv-loop μ-loop
+loop-again-3 c =
+    let m = c .before .before .before .before .before in
+    let e = c .before .before .before .step2 .given .1 in
+    let long = at-loop (j m) .loop .inv .1 in
+    let h = placed m .next _ _ _ e in
+    rw (c .put-probe .ensures)
+    (subst (GoesOn m) (moved-next _ _ _ _ _ long h e) (goes-on m), put-length (at-loop (j m) .loop .present) long (c .before .before .before .step2 .given .0 .0) h (c .before .before .before .step2 .given .0 .1 .0))
+
+enum-known-step-3 : tie.Need-enum-known-step-3 Inv-loop μ-loop
+enum-known-step-3 c = search needs
+
+put-probe-requires-2 : tie.Need-put-probe-requires-2 Inv-loop μ-loop
+put-probe-requires-2 c κs =
+    let m = c .before .before .before .before in placed m .close _ _ _ (c .before .before .step3 .given .1)
+
+loop-less-4 : tie.Need-loop-less-4 Inv-loop μ-loop
+loop-less-4 c = shorter (c .before .before .before .before .before)
+
+loop-again-4 : tie.Need-loop-again-4 Inv-loop μ-loop
+loop-again-4 c =
+    let m = c .before .before .before .before .before in
+    let e = c .before .before .before .step3 .given .1 in
+    let long = at-loop (j m) .loop .inv .1 in
+    rw (c .put-probe2 .ensures)
+    (subst (GoesOn m) (moved-close _ _ _ _ _ long (placed m .close _ _ _ e) e) (goes-on m), refl)
 
 same-length-3 : tie.Need-same-length-3 Inv-loop μ-loop
-same-length-3 c = c .before .loop .inv .same
+same-length-3 c = c .before .loop .inv .0 .same
 
 returns-3 : tie.Need-returns-3 Inv-loop μ-loop
 returns-3 c =
     let l = c .before in
     let a = c .before .before .before .before .before .before .args in
-    let d =
-    going-end (a .t4) (a .t5) (now (a .text)) (now (a .out)) (a .from) (a .line) (a .at) (a .run) (l .loop .out) (l .loop .run) (l .loop .place) (l .loop .number) (l .loop .end) (l .loop .inv)
+    let w =
+    going-end (a .t4) (a .t5) (now (a .text)) (now (a .out)) (a .from) (a .line) (a .at) newRun (l .loop .out) _ (l .loop .place) (l .loop .number) (l .loop .end) (l .loop .inv .0)
     (c .loop-test .left) in
-    (d .stored, d .short)
+    (w .stored, w .short)
 
 pub put-answers-spec : {M : Type 1} → statement M
 put-answers-spec =
@@ -183,13 +330,26 @@ put-answers-spec =
     element-copy-out-job
     mul-terms
     element-copy-out-terms
-    step-due-requires
+    answer-due-requires
     put-answer-requires
     ends-session-requires
     same-length-2
     returns-2
     add-number
+    move-of-requires
+    enum-told
     loop-less
     loop-again
+    enum-known-step
+    loop-less-2
+    loop-again-2
+    enum-known-step-2
+    put-probe-requires
+    loop-less-3
+    loop-again-3
+    enum-known-step-3
+    put-probe-requires-2
+    loop-less-4
+    loop-again-4
     same-length-3
     returns-3)

@@ -1,7 +1,7 @@
 -- `new_run` meets its contract: of both windows nothing has been seen.
 use borrow.Author.Needs.{needs}
-use Rattle.runs.proofs.steps.new_run.Statement.{statement}
-use Rattle.runs.proofs.steps.new_run.Tie as tie
+use Rattle.runs.proofs.moves.new_run.Statement.{statement}
+use Rattle.runs.proofs.moves.new_run.Tie as tie
 
 no-probes-requires : tie.Need-no-probes-requires
 no-probes-requires c κs = search needs
