@@ -20,11 +20,11 @@ pub fn decide(p: Plan) -> Decision
     let times = bounds::times_of(p);
     let early = times.early;
     let late = times.late;
-    let mut joined = [Table::NO_BOUND; Table::SIZE];
-    let verdict = settle(p, &early, &late, &mut joined);
+    let mut joined = Table::empty();
+    let verdict = settle(p, &early, &late, &mut joined.weights);
     match verdict {
         Verdict::Settled(_) => {
-            let calendar = calendar_of(p, &joined, &early, &late);
+            let calendar = calendar_of(p, &joined.weights, &early, &late);
             Decision { verdict, calendar }
         }
         Verdict::NoStrategy(_) => {

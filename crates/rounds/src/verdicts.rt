@@ -13,7 +13,7 @@ ghost use Prim.Native.Nat.{_+_, _≤_};
 ghost use lib.ListN.{length};
 ghost use Rattle.plan.specs.Limits.{mostRounds};
 ghost use Rattle.bounds.specs.Events.{nodes};
-ghost use Rattle.bounds.specs.Flat.{rowsOf};
+ghost use Rattle.bounds.specs.Flat.{rowsOf, noBounds};
 ghost use Rattle.bounds.specs.Fit.{Clocked, StandingOf};
 ghost use Rattle.rounds.specs.declared.Verdict.the-variants.{NoStrategy};
 ghost use Rattle.rounds.specs.Rounds.{failsAlone, verdict};
@@ -52,17 +52,16 @@ fn contradicted<'a>(
     Verdict::NoStrategy(next)
 }
 
-// The rounds from the first on: `own` is C(0), and `base` has the bounds between windows put into it. The joined table of the round that settles is made
-// anew in `joined`, so that no other round copies its table.
+// The rounds from the first on: `carried` is C(0), and `joined` has the bounds between windows put into it. What is carried goes from round to round; the
+// round that settles puts it on `joined`.
 fn settle_rounds<'a>(
     p: Plan,
     early: &'a [i32; Table::SIDE],
     late: &'a [i32; Table::SIDE],
-    own: &'a [i32; Table::SIZE],
-    base: &'a [i32; Table::SIZE],
+    carried: &mut [i32; Table::SIZE],
     joined: &mut [i32; Table::SIZE],
 ) -> Verdict
-    requires { ⌜ (Clocked p (now early) (now late)) × (Based p (now early) (now late) (now own) (now base)) × (length (now joined) ≡ 1369) ⌝ }
+    requires { ⌜ (Clocked p (now early) (now late)) × (Based p (now early) (now late) (now carried) (now joined)) × (length (now joined) ≡ 1369) ⌝ }
     ensures { λ r. ⌜ r ≡ verdict p ⌝ }
     ensures { λ r. ⌜ SettledOn p (rowsOf (nodes (p .jobs + p .jobs)) (now (joined .exit))) ⌝ }
     ensures { λ r. ⌜ length (now (joined .exit)) ≡ 1369 ⌝ }
@@ -71,48 +70,44 @@ fn settle_rounds<'a>(
     let window = p.window;
     let rounds = p.rounds;
     let count = 1 + 2 * jobs;
-    let mut carried = *own;
     let mut m: u64 = 1;
     while m <= rounds {
-        let mut weights = *base;
-        if put_next(&mut weights, early, late, jobs, window, &carried) {
-            return contradicted(p, early, late, &carried, m);
+        let mut weights = *joined;
+        if put_next(&mut weights, early, late, jobs, window, carried) {
+            return contradicted(p, early, late, carried, m);
         }
         if drop_places(&mut weights, early, late, jobs, jobs) {
-            return contradicted(p, early, late, &carried, m);
+            return contradicted(p, early, late, carried, m);
         }
-        if same_rows(&carried, &weights, count) {
-            *joined = *base;
-            put_next(joined, early, late, jobs, window, &carried);
+        if same_rows(carried, &weights, count) {
+            put_next(joined, early, late, jobs, window, carried);
             return Verdict::Settled(m);
         }
-        carried = weights;
+        *carried = weights;
         m += 1;
     }
     Verdict::Unsettled(rounds)
 }
 
-// The verdict on a plan; where it is settled, `joined` holds the joined table of the round that settled it, before its elimination, of which the calendar is
-// made.
+// The verdict on a plan, worked out in a table without a bound; where it is settled, `joined` holds the joined table of the round that settled it, before its
+// elimination, of which the calendar is made.
 pub fn settle<'a>(
     p: Plan,
     early: &'a [i32; Table::SIDE],
     late: &'a [i32; Table::SIDE],
     joined: &mut [i32; Table::SIZE],
 ) -> Verdict
-    requires { ⌜ (Clocked p (now early) (now late)) × (length (now joined) ≡ 1369) ⌝ }
+    requires { ⌜ (Clocked p (now early) (now late)) × (now joined ≡ noBounds) ⌝ }
     ensures { λ r. ⌜ r ≡ verdict p ⌝ }
     ensures { λ r. ⌜ SettledOn p (rowsOf (nodes (p .jobs + p .jobs)) (now (joined .exit))) ⌝ }
     ensures { λ r. ⌜ length (now (joined .exit)) ≡ 1369 ⌝ }
 {
-    let empty = Table::empty();
-    let mut weights = empty.weights;
-    if put_own(&mut weights, early, late, p) {
+    if put_own(joined, early, late, p) {
         return Verdict::NoStrategy(1);
     }
-    let own = weights;
-    if put_between(&mut weights, early, late, p) {
-        return contradicted(p, early, late, &own, 1);
+    let mut carried = *joined;
+    if put_between(joined, early, late, p) {
+        return contradicted(p, early, late, &carried, 1);
     }
-    settle_rounds(p, early, late, &own, &weights, joined)
+    settle_rounds(p, early, late, &mut carried, joined)
 }
