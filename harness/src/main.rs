@@ -186,8 +186,8 @@ it eliminates two events for each job, and a start joins each bound to it with e
 over. A verdict is its rounds, one more walk for the calendar, and a table for C(0). A session is its plan's verdict once and then the same for
 each step, whatever came before it. The stack does not grow.
 
-What is left in a round: the judgement of each bound that is made or put, and three copies of the table (5,476 bytes each). What is left in a
-step: its line and its answer, and copies of the run, which goes by value into and out of a step.";
+What is left in a round: the judgement of each bound that is made or put, and two copies of the table (5,476 bytes each). What is left in a
+step: its line and its answer, and the two ends of the offer; no step copies the run.";
 
 const FIGURES: &str = "\
 # Figures

@@ -114,10 +114,6 @@ module _ (p : Plan) (sound : Sound p) (t : Rows) (k rest : ℕ) (two : suc k + r
       (start-choice-back p sound k (omega arith) (stage .after) after-tidy u n (stage .before) (stage .before-is) x (turn p (length u) .min)
       (λ e lo hi. rest-after (ranFor u x e) (size-more x e) (f e lo hi)))
 
-  pub some-allowed : Rest (suc rest) u → (x : ℤ) × Allowed (stage .before) k (λ y. when u (eventOf y)) x
-  unfolding Forced
-  some-allowed (x, f) = (x, rest-allowed x f)
-
 -- ---- the stages of two windows and of one alone
 
 pub record Stages (p : Plan) (A B : Rows) (count i : ℕ) : Type 0 where
