@@ -79,8 +79,8 @@ pub fn put_answers(
                 }
                 place = next;
                 number += 1;
-                let step = runs::move_of(p.jobs, phase, answer);
-                match step {
+                let change = runs::move_of(p.jobs, phase, answer);
+                match change {
                     Move::Stay => {}
                     Move::Begin(after) => {
                         phase = after;

@@ -247,8 +247,8 @@ loop-again c =
     let m = c .before .before in
     (subst (GoesOn m) (moved-stay _ _ _ _ _ (c .enum-told .given .1)) (goes-on m), at-loop (j m) .loop .inv .1)
 
-enum-known-step : tie.Need-enum-known-step Inv-loop μ-loop
-enum-known-step c = search needs
+enum-known-change : tie.Need-enum-known-change Inv-loop μ-loop
+enum-known-change c = search needs
 
 loop-less-2 : tie.Need-loop-less-2 Inv-loop μ-loop
 loop-less-2 c = shorter (c .before .before .before)
@@ -256,10 +256,10 @@ loop-less-2 c = shorter (c .before .before .before)
 loop-again-2 : tie.Need-loop-again-2 Inv-loop μ-loop
 loop-again-2 c =
     let m = c .before .before .before in
-    (subst (GoesOn m) (moved-begin _ _ _ _ _ (c .before .step .given .1)) (goes-on m), at-loop (j m) .loop .inv .1)
+    (subst (GoesOn m) (moved-begin _ _ _ _ _ (c .before .change .given .1)) (goes-on m), at-loop (j m) .loop .inv .1)
 
-enum-known-step-2 : tie.Need-enum-known-step-2 Inv-loop μ-loop
-enum-known-step-2 c = search needs
+enum-known-change-2 : tie.Need-enum-known-change-2 Inv-loop μ-loop
+enum-known-change-2 c = search needs
 
 -- a move is at a place of the window
 module _ (c : tie.After-move-of Inv-loop μ-loop) where
@@ -268,7 +268,7 @@ module _ (c : tie.After-move-of Inv-loop μ-loop) where
 
 put-probe-requires : tie.Need-put-probe-requires Inv-loop μ-loop
 put-probe-requires c κs =
-    let m = c .before .before .before .before in placed m .next _ _ _ (c .before .before .step2 .given .1)
+    let m = c .before .before .before .before in placed m .next _ _ _ (c .before .before .change2 .given .1)
 
 loop-less-3 : tie.Need-loop-less-3 Inv-loop μ-loop
 loop-less-3 c = shorter (c .before .before .before .before .before)
@@ -276,18 +276,18 @@ loop-less-3 c = shorter (c .before .before .before .before .before)
 loop-again-3 : tie.Need-loop-again-3 Inv-loop μ-loop
 loop-again-3 c =
     let m = c .before .before .before .before .before in
-    let e = c .before .before .before .step2 .given .1 in
+    let e = c .before .before .before .change2 .given .1 in
     let long = at-loop (j m) .loop .inv .1 in
     let h = placed m .next _ _ _ e in
     rw (c .put-probe .ensures)
-    (subst (GoesOn m) (moved-next _ _ _ _ _ long h e) (goes-on m), put-length (at-loop (j m) .loop .present) long (c .before .before .before .step2 .given .0 .0) h (c .before .before .before .step2 .given .0 .1 .0))
+    (subst (GoesOn m) (moved-next _ _ _ _ _ long h e) (goes-on m), put-length (at-loop (j m) .loop .present) long (c .before .before .before .change2 .given .0 .0) h (c .before .before .before .change2 .given .0 .1 .0))
 
-enum-known-step-3 : tie.Need-enum-known-step-3 Inv-loop μ-loop
-enum-known-step-3 c = search needs
+enum-known-change-3 : tie.Need-enum-known-change-3 Inv-loop μ-loop
+enum-known-change-3 c = search needs
 
 put-probe-requires-2 : tie.Need-put-probe-requires-2 Inv-loop μ-loop
 put-probe-requires-2 c κs =
-    let m = c .before .before .before .before in placed m .close _ _ _ (c .before .before .step3 .given .1)
+    let m = c .before .before .before .before in placed m .close _ _ _ (c .before .before .change3 .given .1)
 
 loop-less-4 : tie.Need-loop-less-4 Inv-loop μ-loop
 loop-less-4 c = shorter (c .before .before .before .before .before)
@@ -295,7 +295,7 @@ loop-less-4 c = shorter (c .before .before .before .before .before)
 loop-again-4 : tie.Need-loop-again-4 Inv-loop μ-loop
 loop-again-4 c =
     let m = c .before .before .before .before .before in
-    let e = c .before .before .before .step3 .given .1 in
+    let e = c .before .before .before .change3 .given .1 in
     let long = at-loop (j m) .loop .inv .1 in
     rw (c .put-probe2 .ensures)
     (subst (GoesOn m) (moved-close _ _ _ _ _ long (placed m .close _ _ _ e) e) (goes-on m), refl)
@@ -340,14 +340,14 @@ put-answers-spec =
     enum-told
     loop-less
     loop-again
-    enum-known-step
+    enum-known-change
     loop-less-2
     loop-again-2
-    enum-known-step-2
+    enum-known-change-2
     put-probe-requires
     loop-less-3
     loop-again-3
-    enum-known-step-3
+    enum-known-change-3
     put-probe-requires-2
     loop-less-4
     loop-again-4
