@@ -11,6 +11,7 @@ use lib.Signed.{_≤ℤ_, leZ}
 use mir.Syntax.{w32, w64}
 use mir.Val.{SFits, toZ, ofZ}
 use mir.Facts.{toZ-ofZ}
+use Rattle.whole.specs.Widths.{i32-widened}
 use Rattle.whole.specs.Split.{up, dn}
 use Rattle.whole.specs.SplitLaws.{split-one, split-mul}
 use Rattle.whole.specs.Rules.{whole, wholes}
@@ -42,14 +43,8 @@ module _ (window : ℤ) (j : ℕ) (s : Spanned window j) where
 
 -- ---- sums of the machine
 
-pub widened-fits : {c : ℤ} → SFits w32 c → SFits w64 c
-widened-fits f = record { sfits = omega (arith, f .sfits) }
-
-pub widened-back : {c : ℤ} → SFits w32 c → toZ w64 (ofZ w64 (toZ w32 (ofZ w32 c))) ≡ c
-widened-back f = rw (toZ-ofZ f) (toZ-ofZ (widened-fits f))
-
 pub sum-back : (t c : ℤ) → SFits w64 t → SFits w32 c → toZ w64 (ofZ w64 t) +ℤ toZ w64 (ofZ w64 (toZ w32 (ofZ w32 c))) ≡ t +ℤ c
-sum-back t c f g = rw (widened-back g, toZ-ofZ f)
+sum-back t c f g = rw (i32-widened g, toZ-ofZ f)
 
 -- ---- comparisons
 

@@ -15,7 +15,7 @@ use Rattle.plan.specs.declared.Bound.{Bound}
 use Rattle.plan.specs.declared.Plan.{Plan}
 use Rattle.plan.specs.ListLaws.{All, All-take}
 use Rattle.values.specs.JudgedLength.{JobFits, BoundFits, PlanFits}
-use Rattle.plan.proofs.Widths.{i32-wide}
+use Rattle.whole.specs.Widths.{i32-wide}
 use Rattle.plan.proofs.Job as job
 use Rattle.plan.proofs.Bound as bound
 use Rattle.plan.proofs.Plan as plan

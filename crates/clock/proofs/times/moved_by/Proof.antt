@@ -4,7 +4,8 @@ use lib.IntN.{_+ℤ_}
 use mir.Syntax.{w32, w64}
 use mir.Val.{toZ, ofZ}
 use mir.Facts.{toZ-ofZ}
-use Rattle.clock.specs.ClockLaws.{widened-fits, sum-back}
+use Rattle.whole.specs.Widths.{i32-wide}
+use Rattle.clock.specs.ClockLaws.{sum-back}
 use Rattle.clock.proofs.times.moved_by.Statement.{statement}
 use Rattle.clock.proofs.times.moved_by.Tie as tie
 
@@ -14,7 +15,7 @@ sum : (c : tie.After-struct-told)
 sum c = sum-back (c .before .args .t .0) (c .before .args .c) (record { sfits = c .struct-told .given .0 .1 }) (c .before .fits .c)
 
 cast-after : tie.Need-cast-after
-cast-after c = rw (toZ-ofZ (c .before .fits .c)) (widened-fits (c .before .fits .c))
+cast-after c = rw (toZ-ofZ (c .before .fits .c)) (i32-wide (c .before .fits .c))
 
 add-t5 : tie.Need-add-t5
 add-t5 c = rw (sum c) (c .before .pre)

@@ -3,7 +3,7 @@ use mathlib.Core.Path.{sym, _∙_}
 use mir.Syntax.{w32}
 use Rattle.whole.specs.SplitLaws.{told-fits, cast-wide}
 use borrow.Author.Tests.{not-true, not-false}
-use Rattle.plan.proofs.Widths.{i32-widened}
+use Rattle.whole.specs.Widths.{i32-widened}
 use Rattle.plan.proofs.bound_line.has_range.Statement.{statement}
 use Rattle.plan.proofs.bound_line.has_range.Tie as tie
 

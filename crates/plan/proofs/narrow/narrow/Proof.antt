@@ -3,7 +3,7 @@ use mathlib.Core.Path.{_∙_, ap}
 use mir.Facts.{toZ-ofZ}
 use mir.Syntax.{w32}
 use mir.Val.{toZ, ofZ}
-use Rattle.plan.proofs.Widths.{i32-fits}
+use Rattle.whole.specs.Widths.{i32-fits}
 use Rattle.plan.proofs.narrow.narrow.Statement.{statement}
 use Rattle.plan.proofs.narrow.narrow.Tie as tie
 

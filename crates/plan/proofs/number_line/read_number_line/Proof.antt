@@ -17,7 +17,7 @@ use Rattle.text.specs.declared.Number.the-variants as number
 use Rattle.plan.specs.Reading.{refused, linedNumber}
 use Rattle.plan.specs.ReadAtLaws.{lineTo-bare, lineTo-value, lineTo-fault}
 use borrow.Author.Needs.{needs}
-use Rattle.plan.proofs.Widths.{i32-least, i32-most, i32-wide, i32-widened}
+use Rattle.whole.specs.Widths.{i32-least, i32-most, i32-wide, i32-widened}
 use Rattle.plan.proofs.number_line.read_number_line.Statement.{statement}
 use Rattle.plan.proofs.number_line.read_number_line.Tie as tie
 

@@ -1,2 +1,0 @@
--- The laws that several proofs cite.
-pub mod Widths
