@@ -3,10 +3,9 @@
 -- is told case by case (`told-settled`, `told-refused`, `told-unsettled`).
 
 use Prim.Native.Nat.{ℕ}
-use mathlib.Core.Path.{_≡_, refl, sym, ap, _∙_}
+use mathlib.Core.Path.{_≡_, sym, ap, _∙_}
 use mathlib.Core.List.{List}
-use mathlib.Core.Option.{Option, none, some}
-use native.Mathlib.Omega.{arith}
+use mathlib.Core.Option.{none, some}
 use Rattle.plan.specs.declared.Plan.{Plan}
 use Rattle.plan.specs.declared.PlanAnswer.{PlanAnswer}
 use Rattle.plan.specs.declared.PlanAnswer.the-variants as planAnswer
@@ -15,6 +14,7 @@ use Rattle.plan.specs.declared.Refusal.the-variants as refusal
 use Rattle.plan.specs.Refusals.{refusedLine}
 use Rattle.plan.specs.PlanWritten.{judgedPlan}
 use Rattle.values.specs.PlanJudged.{judgedAnswer}
+use Rattle.values.specs.JudgedLaws.{judgedAnswer-none, judgedAnswer-some}
 use Rattle.rounds.specs.declared.Verdict.{Verdict}
 use Rattle.rounds.specs.declared.Verdict.the-variants.{Settled, NoStrategy, Unsettled}
 use Rattle.rounds.specs.Rounds.{outcome, verdict}
@@ -40,18 +40,10 @@ module _ (v : Verdict) where
 
 module _ (p : Plan) (a : PlanAnswer) (d : a ≡ judgedAnswer (judgedPlan p)) where
   judged-good : a ≡ planAnswer.Accepted → judgedPlan p ≡ none
-  judged-good e = of (judgedPlan p) (sym e ∙ d)
-    where
-      of : (o : Option Refusal) → planAnswer.Accepted ≡ judgedAnswer o → o ≡ none
-      of none f = refl
-      of (some x) f = absurd (let z : _≡_ {A = ℕ} 0 1 = cc in omega arith)
+  judged-good e = judgedAnswer-none (judgedPlan p) (sym d ∙ e)
 
   judged-bad : (x : Refusal) → a ≡ planAnswer.Refused x → judgedPlan p ≡ some x
-  judged-bad x e = of (judgedPlan p) (sym e ∙ d)
-    where
-      of : (o : Option Refusal) → planAnswer.Refused x ≡ judgedAnswer o → o ≡ some x
-      of none f = absurd (let z : _≡_ {A = ℕ} 0 1 = cc in omega arith)
-      of (some y) f = let same : y ≡ x = cc in ap some same
+  judged-bad x e = judgedAnswer-some (judgedPlan p) x (sym d ∙ e)
 
   module _ (e : a ≡ planAnswer.Accepted) where
     pub value-verdict : (v : Verdict) → v ≡ verdict p → verdictTold v ≡ valueVerdict p (judgedPlan p)

@@ -2,7 +2,6 @@
 use Prim.Native.Nat.{ℕ, _-_, _≤_}
 use mathlib.Core.Path.{_≡_, refl, sym, ap, ap₂, _∙_}
 use mathlib.Core.Bool.{Bool, true, false, _&&_}
-use mathlib.Core.Option.{Option, none, some}
 use native.Mathlib.Omega.{arith}
 use lib.IntN.{ℤ, _+ℤ_}
 use lib.ListN.{getD, replicate, getD-replicate}
@@ -21,6 +20,7 @@ use Rattle.plan.specs.Refusals.{outsideLimits}
 use Rattle.plan.specs.Limits.{mostJobs}
 use Rattle.plan.specs.PlanWritten.{judgedPlan}
 use Rattle.values.specs.PlanJudged.{judgedAnswer}
+use Rattle.values.specs.JudgedLaws.{judgedAnswer-none, judgedAnswer-some}
 use Rattle.plan.specs.PlanRead.{noJob}
 use Rattle.calendars.specs.declared.Calendar.{Calendar}
 use Rattle.runs.specs.declared.Answer.the-variants.{Final}
@@ -118,20 +118,12 @@ module _ (p : Plan) (c : Calendar) (r : Run) (st : Step) where
 
 -- ---- a step on values: the plan is judged first
 
-judged-good : (o : Option Refusal) → judgedAnswer o ≡ planAnswer.Accepted → o ≡ none
-judged-good none e = refl
-judged-good (some x) e = absurd (let z : _≡_ {A = ℕ} 0 1 = cc in omega arith)
-
-judged-bad : (o : Option Refusal) (x : Refusal) → judgedAnswer o ≡ planAnswer.Refused x → some x ≡ o
-judged-bad none x e = absurd (let z : _≡_ {A = ℕ} 0 1 = cc in omega arith)
-judged-bad (some y) x e = cc
-
 -- with the answer a to its plan
 module _ (p : Plan) (c : Calendar) (r : Run) (st : Step) (a : PlanAnswer) (judged : a ≡ judgedAnswer (judgedPlan p)) where
   pub step-refused : (x : Refusal) → a ≡ planAnswer.Refused x → refusedWith r x ≡ step p c r st
   unfolding step valuesRefused unlessRefused
-  step-refused x e = rw (← judged-bad (judgedPlan p) x (sym judged ∙ e))
+  step-refused x e = rw (judgedAnswer-some (judgedPlan p) x (sym judged ∙ e))
 
   pub step-accepted : a ≡ planAnswer.Accepted → stepAccepted p c r st ≡ step p c r st
   unfolding step
-  step-accepted e = rw (judged-good (judgedPlan p) (sym judged ∙ e))
+  step-accepted e = rw (judgedAnswer-none (judgedPlan p) (sym judged ∙ e))
