@@ -20,7 +20,8 @@ pub struct Terms {
 // The most events before a start: a start and a finish for each job of two windows.
 pub const MOST_EVENTS: usize = 36;
 
-const MOST_TERMS: usize = 324;
+// The places of a calendar's c on one side: a row of MOST_EVENTS for each job.
+pub const MOST_TERMS: usize = 324;
 
 // A calendar. The c of event e for the job at place i stands at i * MOST_EVENTS + e, of `at_least` in start >= E + c and of `at_most` in
 // start <= E + c; places that no bit names are no part of the calendar, and hold zeros where the calendar was made here.

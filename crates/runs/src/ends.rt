@@ -1,8 +1,8 @@
 // The two ends of an offer, worked out along the bits of the events that bound a start.
 
 use crate::MOST_SEEN;
-use crate::MOST_TERMS;
 use calendars::MOST_EVENTS;
+use calendars::MOST_TERMS;
 use clock::RunTime;
 ghost use mathlib.Core.Path.{_≡_};
 ghost use Prim.Native.Nat.{_+_, _*_, _≤_, _<_};

@@ -22,14 +22,11 @@ use plan::MOST_JOBS;
 use plan::Refusal;
 pub use steps::answer_due;
 
-// The places of a calendar's c on one side: a row of calendars::MOST_EVENTS for each job.
-const MOST_TERMS: usize = 324;
-
 // The times of one window: a start and a finish for each job.
 pub const MOST_SEEN: usize = 18;
 
 // The last time that a run or a step can name.
-const LAST_TIME: i64 = 100_000_000_000_000_000;
+pub const LAST_TIME: i64 = 100_000_000_000_000_000;
 
 // A probe that has finished: when it started and when it finished.
 pub struct Probe {

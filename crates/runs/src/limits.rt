@@ -1,13 +1,13 @@
 // The limits of a time, a run and a calendar that are handed over as values.
 
 use crate::LAST_TIME;
-use crate::MOST_TERMS;
 use crate::Phase;
 use crate::Probe;
 use crate::Run;
 use crate::Step;
 use calendars::Calendar;
 use calendars::MOST_EVENTS;
+use calendars::MOST_TERMS;
 use calendars::Terms;
 use clock::RunTime;
 use plan::MOST_JOBS;

@@ -2,11 +2,11 @@
 
 use crate::Due;
 use crate::MOST_SEEN;
-use crate::MOST_TERMS;
 use crate::Offer;
 use crate::Opening;
 use crate::Phase;
 use crate::ends::end_of;
+use calendars::MOST_TERMS;
 use plan::Refusal;
 ghost use mathlib.Core.Path.{_≡_};
 ghost use Rattle.runs.specs.Offers as offers;

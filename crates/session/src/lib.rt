@@ -4,9 +4,6 @@ use plan::Refusal;
 use runs::Step;
 use text::Fault;
 
-// The last time that a step can name.
-const LAST_TIME: i64 = 100_000_000_000_000_000;
-
 // A step line as it was read: the step, or what the line lacks.
 pub enum StepLine {
     Value(Step),

@@ -1,10 +1,10 @@
 // A step line, read.
-use crate::LAST_TIME;
 use crate::StepAt;
 use crate::StepLine;
 use clock::RunTime;
 use plan::Refusal;
 use runs::Choice;
+use runs::LAST_TIME;
 use runs::Step;
 use text::Fault;
 use text::Number;
