@@ -113,6 +113,31 @@ module _ (p : Plan) (early late : List ℤ) (s f : ℕ) (less more : ℤ) (ws : 
         other = g .other;
       }
 
+  -- A cell (y, z) is put where it, and the cell (a, b) that moves by m, are still as at the beginning: the made cell is judged.
+  put-moved : (y z a b : ℕ) (m : ℤ) (us : List ℤ)
+      → y < f
+      → z < f
+      → a < suc f
+      → b < suc f
+      → Moving m
+      → length us ≡ 1369
+      → cellAt us y z ≡ cellAt ws y z
+      → weightAt us a b ≡ weightAt ws a b
+      → made y z ≡ least (cellAt ws y z) (plus (cellAt ws a b) m)
+      → Outcome (λ vs. JudgedCell p y z (made y z) (cellAt vs y z)) (isContradiction (judgement p y z (made y z)) ≡ true)
+      (putAt early late y z (weightAt us a b) m us)
+  put-moved y z a b m us i j k l moves len here there cell =
+      subst
+      (λ c.
+      Outcome (λ vs. JudgedCell p y z c (cellAt vs y z)) (isContradiction (judgement p y z c) ≡ true) (putAt early late y z (weightAt us a b) m us))
+      (ap₂ least here (ap (λ v. plus (cellOf v) m) there) ∙ sym cell)
+      (putAt-left p early late y z us (judgedAt-is p (suc f) early late times y z (omega arith) (omega arith))
+      (omega (arith, len))
+      (subst (λ c. KeptCell p y z c) (sym here) (kept y z (omega arith) (omega arith)))
+      (weightAt us a b)
+      m
+      (λ e. moved-low (weightAt us a b) m (subst Weighed (sym there) (weighed a b k l) .greatest e) (moves .greatest)))
+
   -- between the two cells of node y: the first is written
   record Half (y : ℕ) (us vs : List ℤ) : Type 0 where
     len : length vs ≡ 1369
@@ -122,18 +147,11 @@ module _ (p : Plan) (early late : List ℤ) (s f : ℕ) (less more : ℤ) (ws : 
   first-half : (y : ℕ) (us : List ℤ) → y < f → (y ≡ s → ⊥) → Stage y us
       → Outcome (Half y us) (Contradicted p f made) (putAt early late y s (weightAt us y f) less us)
   first-half y us l n g =
-      let here : cellAt us y s ≡ cellAt ws y s = ap cellOf (g .rest-column y (omega arith) (omega arith)) in
-      let there : weightAt us y f ≡ weightAt ws y f = g .other y f n (λ e. omega arith) node in
-      let cell : least (cellAt us y s) (plus (cellOf (weightAt us y f)) less) ≡ made y s
-      = ap₂ least here (ap (λ v. plus (cellOf v) less) there) ∙ sym (made-column y n) in
-      let r = putAt early late y s (weightAt us y f) less us in
-      let o = subst (λ c. Outcome (λ vs. JudgedCell p y s c (cellAt vs y s)) (isContradiction (judgement p y s c) ≡ true) r) cell
-      (putAt-left p early late y s us (judgedAt-is p (suc f) early late times y s (omega arith) (omega arith))
-      (omega (arith, g .len))
-      (subst (λ c. KeptCell p y s c) (sym here) (kept y s (omega arith) (omega arith)))
-      (weightAt us y f)
-      less
-      (λ e. moved-low (weightAt us y f) less (subst Weighed (sym there) (weighed y f (omega arith) (omega arith)) .greatest e) (less-moves .greatest))) in
+      let o =
+      put-moved y s y f less us l order (omega arith) (omega arith) less-moves (g .len)
+      (ap cellOf (g .rest-column y (omega arith) (omega arith)))
+      (g .other y f n (λ e. omega arith) node)
+      (made-column y n) in
       record {
         fails = λ q. record { y = y; z = s; y-node = l; z-node = order; found = o .fails q };
         keeps = λ q.
@@ -151,20 +169,12 @@ module _ (p : Plan) (early late : List ℤ) (s f : ℕ) (less more : ℤ) (ws : 
       let start-low : s < 37 = omega arith in
       let f≢s : f ≡ s → ⊥ = λ e. omega arith in
       let s≢y : s ≡ y → ⊥ = λ e. n (sym e) in
-      let here : cellAt vs s y ≡ cellAt ws s y
-      = ap cellOf (h .same s y low (row-apart s y y s low start-low s≢y) ∙ g .rest-row y (omega arith) (omega arith)) in
-      let there : weightAt vs f y ≡ weightAt ws f y
-      = h .same f y low (column-apart f y y s low start-low n) ∙ g .other f y f≢s n low in
-      let cell : least (cellAt vs s y) (plus (cellOf (weightAt vs f y)) more) ≡ made s y
-      = ap₂ least here (ap (λ v. plus (cellOf v) more) there) ∙ sym (made-row y n) in
       let r = putAt early late s y (weightAt vs f y) more vs in
-      let o = subst (λ c. Outcome (λ us. JudgedCell p s y c (cellAt us s y)) (isContradiction (judgement p s y c) ≡ true) r) cell
-      (putAt-left p early late s y vs (judgedAt-is p (suc f) early late times s y (omega arith) (omega arith))
-      (omega (arith, h .len))
-      (subst (λ c. KeptCell p s y c) (sym here) (kept s y (omega arith) (omega arith)))
-      (weightAt vs f y)
-      more
-      (λ e. moved-low (weightAt vs f y) more (subst Weighed (sym there) (weighed f y (omega arith) (omega arith)) .greatest e) (more-moves .greatest))) in
+      let o =
+      put-moved s y f y more vs order l (omega arith) (omega arith) more-moves (h .len)
+      (ap cellOf (h .same s y low (row-apart s y y s low start-low s≢y) ∙ g .rest-row y (omega arith) (omega arith)))
+      (h .same f y low (column-apart f y y s low start-low n) ∙ g .other f y f≢s n low)
+      (made-row y n) in
       let same : (u x : ℕ) → (place u x ≡ place s y → ⊥) → weightAt (r .weights) u x ≡ weightAt vs u x
       = λ u x d. putAt-same early late s y (weightAt vs f y) more vs (place u x) (pos 0) d in
       let in-column : (u : ℕ) → weightAt (r .weights) u s ≡ weightAt vs u s
