@@ -15,24 +15,28 @@ archive = target/staticlib/libagent.a
 sources := crates.txt $(shell find crates -type f -not -path '*/must-fail/*')
 tree = $(DESTDIR)$(abspath $(PREFIX))
 
-.PHONY: all demo test install lint figures picture kit
+.PHONY: all demo test install lint figures picture
 all: $(programs) $(archive)
 
+# Said where something is to be proved and there is no kit.
+define kit
+@command -v rt >/dev/null || { printf '%s\n' \
+    'rt, the command of the Rattle kit, is not on the path. It proves and compiles the programs.' \
+    'Without it, the second implementation gives the same answers, unproved:' \
+    '    cd harness && cargo run --release --offline -- calendar < ../examples/p.plan' \
+    '    cd harness && cargo run --release --offline -- dispatch < ../examples/p.session' >&2; exit 1; }
+endef
+
 # `rt` proves again only what has changed; nothing is made where something is not proved.
-$(programs) &: $(sources) | kit
+$(programs) &: $(sources)
+	$(kit)
 	rt check calendar dispatch
 	touch -c $(programs)
 
-$(archive): $(sources) | kit
+$(archive): $(sources)
+	$(kit)
 	rt staticlib agent
 	touch -c $(archive)
-
-kit:
-	@command -v rt >/dev/null || { printf '%s\n' \
-	    'rt, the command of the Rattle kit, is not on the path. It proves and compiles the programs.' \
-	    'Without it, the second implementation gives the same answers, unproved:' \
-	    '    cd harness && cargo run --release --offline -- calendar < ../examples/p.plan' \
-	    '    cd harness && cargo run --release --offline -- dispatch < ../examples/p.session' >&2; exit 1; }
 
 demo: $(programs)
 	@for name in p tables drift rounds; do \
@@ -49,6 +53,7 @@ test:
 	.ci/run
 
 install: $(programs) $(archive)
+	$(if $(word 2,$(tree)),$(error PREFIX and DESTDIR must be without spaces))
 	install -d $(tree)/bin $(tree)/lib/pkgconfig $(tree)/include $(tree)/share/man/man1 $(tree)/share/man/man3
 	install $(programs) $(tree)/bin
 	install -m 644 $(archive) $(tree)/lib/libgekumosari.a
@@ -67,4 +72,6 @@ figures: $(archive)
 	mv target/figures docs/FIGURES.md
 
 picture:
-	cd harness && cargo run --release --offline --quiet -- picture ../examples/tables.session ../examples/tables.answers 2 > ../docs/window.svg
+	mkdir -p target
+	cd harness && cargo run --release --offline --quiet -- picture ../examples/tables.session ../examples/tables.answers 2 > ../target/window.svg
+	mv target/window.svg docs/window.svg
