@@ -8,9 +8,10 @@
  *     int64_t gekumosari_session(const uint8_t *text, size_t length,
  *                                uint8_t *out, size_t room);
  *
- *     cc agent.c target/staticlib/libagent.a
+ *     cc agent.c $(pkg-config --cflags --libs gekumosari)       installed
+ *     cc -Iinclude agent.c target/staticlib/libagent.a          in the source tree, after `make`
  *
- * `rt staticlib agent` proves the library and writes the archive. It needs no other library.
+ * Of the C library the archive needs memcpy and memset alone. It is made for x86-64 Linux.
  *
  * WHAT GOES IN
  *
@@ -38,13 +39,15 @@
  *
  * HOW MUCH ROOM
  *
- * An answer has at most 9 bytes for each byte of the text, and 71 more. A text of more than 65,536
- * bytes is answered by `refused=1,0`, so GEKUMOSARI_MOST_BYTES are enough for every text.
+ * An answer has at most 7 bytes for each byte of the text, and 56 more. A text of more than 65,536
+ * bytes is answered by `refused=1,0`, so GEKUMOSARI_MOST_BYTES are enough for every text. In a
+ * shorter slice the answer is measured before it is written, and the steps take twice the time.
  *
  * THREADS
  *
  * The entry has no state, takes no lock, allocates nothing and reads no clock. Calls from several
- * threads at once are safe, as long as no slice that one of them lends is used by another.
+ * threads at once are safe, as long as nothing else uses the slice out of one of them, or writes to
+ * its text, during the call.
  */
 #ifndef GEKUMOSARI_H
 #define GEKUMOSARI_H
@@ -62,8 +65,8 @@ extern "C" {
 /* The longest text that is no fault in itself. */
 #define GEKUMOSARI_LONGEST_TEXT 65536
 
-/* No answer is longer: 9 bytes for each of the longest text's, and 71 more. */
-#define GEKUMOSARI_MOST_BYTES 589895
+/* No answer is longer: 7 bytes for each of the longest text's, and 56 more. */
+#define GEKUMOSARI_MOST_BYTES 458808
 
 /* The answer to a session. */
 int64_t gekumosari_session(const uint8_t *text, size_t length, uint8_t *out, size_t room);

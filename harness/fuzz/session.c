@@ -9,7 +9,7 @@
 int64_t gekumosari_session(const uint8_t *text, size_t len, uint8_t *out, size_t room);
 int64_t harness_session(const uint8_t *text, size_t len, uint8_t *out, size_t room);
 
-enum { ROOM = 600000, PAINT = 0xA5 };
+enum { ROOM = 458808, PAINT = 0xA5 }; /* GEKUMOSARI_MOST_BYTES */
 
 static uint8_t expected[ROOM], lent[ROOM];
 
@@ -32,10 +32,10 @@ static void answers(const uint8_t *text, size_t len, size_t room, int64_t length
 
 int LLVMFuzzerTestOneInput(const uint8_t *text, size_t len) {
     int64_t length = harness_session(text, len, expected, ROOM);
-    require(length >= 0 && length < ROOM, "the room");
+    require(length >= 0 && length <= ROOM, "the room");
     size_t past = (size_t)length + 64 < ROOM ? (size_t)length + 64 : ROOM;
     /* Room for any answer to a text of this length, then just more than this answer, just enough, and a byte too few. */
-    size_t most = 9 * len + 71 < ROOM ? 9 * len + 71 : ROOM;
+    size_t most = 7 * len + 56 < ROOM ? 7 * len + 56 : ROOM;
     answers(text, len, most, length, most);
     answers(text, len, past, length, past);
     answers(text, len, (size_t)length, length, past);

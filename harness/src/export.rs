@@ -53,7 +53,7 @@ pub unsafe extern "C" fn harness_session(text: *const u8, len: usize, out: *mut 
 }
 
 /// No answer is longer: GEKUMOSARI_MOST_BYTES of the header.
-pub const ROOM: usize = 589_895;
+pub const ROOM: usize = 458_808;
 
 /// The answer to a session. 'Bytes past that length keep their values, and with -12 all bytes do.'
 pub fn whole_answer(entry: Entry, text: &[u8]) -> Result<Vec<u8>, String> {

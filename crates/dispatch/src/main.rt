@@ -9,8 +9,8 @@ fn main() {
     // One byte more than the longest text has, so that a longer one is told.
     let mut text = [0u8; 65_537];
     let n = io::read_full(STDIN_FILENO, &mut text);
-    // No answer is longer: 9 bytes for each byte of the longest text, and 71 more.
-    let mut out = [0u8; 589_895];
+    // No answer is longer: 7 bytes for each byte of the longest text, and 56 more.
+    let mut out = [0u8; 458_808];
     let told = session::answer(&text[..n], &mut out);
     match told {
         Written::Length(m) => {
