@@ -184,7 +184,8 @@ const GROWTH: &str = "
 Reading grows with the text, and with the square of the bounds for the pairs that came before. A round grows with the cube of the jobs at most:
 it eliminates two events for each job, and a start joins each bound to it with each bound from it; most pairs have no bound and are passed
 over. A verdict is its rounds, one more walk for the calendar, and a table for C(0). A session is its plan's verdict once and then the same for
-each step, whatever came before it. The stack does not grow.
+each step, whatever came before it; where the lent slice is shorter than 7 bytes for each byte of the steps and 56 more, the answer is measured
+first, and the steps take twice the time. The stack does not grow with the text, the jobs or the rounds.
 
 What is left in a round: the judgement of each bound that is made or put, and two copies of the table (5,476 bytes each). What is left in a
 step: its line and its answer, and the two ends of the offer; no step copies the run.";
