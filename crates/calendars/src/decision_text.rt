@@ -8,6 +8,7 @@ use plan::put_refused;
 use rounds::Verdict;
 ghost use mathlib.Core.Path.{_≡_};
 ghost use Prim.Native.Nat.{_≤_};
+ghost use lib.ListN.{length};
 ghost use Rattle.text.specs.Lent.{Stored, written};
 ghost use Rattle.plan.specs.Limits.{mostJobs};
 ghost use Rattle.plan.specs.Written.{writtenAs};
@@ -32,6 +33,7 @@ pub fn write_decision(out: &mut [u8], jobs: usize, v: Verdict, c: Calendar) -> W
     requires { ⌜ jobs ≤ mostJobs ⌝ }
     ensures { λ r. ⌜ r ≡ writtenAs (decisionText jobs v c) (now (out .entry)) ⌝ }
     ensures { λ _. ⌜ now (out .exit) ≡ written (decisionText jobs v c) (now (out .entry)) ⌝ }
+    ensures { λ _. ⌜ length (decisionText jobs v c) ≤ mostCalendarBytes ⌝ }
 {
     if MOST_BYTES <= out.len() {
         let length = put_decision(out, jobs, v, c);

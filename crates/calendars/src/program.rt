@@ -5,14 +5,18 @@ use plan::PlanAnswer;
 use plan::Written;
 use plan::write_refused;
 ghost use mathlib.Core.Path.{_≡_};
+ghost use Prim.Native.Nat.{_≤_};
+ghost use lib.ListN.{length};
 ghost use Rattle.text.specs.Lent.{written};
 ghost use Rattle.plan.specs.Written.{writtenAs};
-ghost use Rattle.calendars.specs.CalendarText.{calendarOutput};
+ghost use Rattle.calendars.specs.CalendarText.{calendarOutput, mostCalendarBytes};
 
-// The answer to a plan's text: the calendar of a settled plan, or the line of the plan's refusal; 12 and not one byte changed, where it has no room.
+// The answer to a plan's text: the calendar of a settled plan, or the line of the plan's refusal; 12 and not one byte changed, where it has no room. So many bytes
+// are room for every text.
 pub fn answer(text: &[u8], out: &mut [u8]) -> Written
     ensures { λ r. ⌜ r ≡ writtenAs (calendarOutput (now (text .entry))) (now (out .entry)) ⌝ }
     ensures { λ _. ⌜ now (out .exit) ≡ written (calendarOutput (now (text .entry))) (now (out .entry)) ⌝ }
+    ensures { λ _. ⌜ length (calendarOutput (now (text .entry))) ≤ mostCalendarBytes ⌝ }
 {
     let read = plan::read_plan(text);
     let told = read.answer;

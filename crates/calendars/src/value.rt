@@ -12,9 +12,12 @@ use plan::write_refused;
 use rounds::Verdict;
 use values::judge_plan;
 ghost use mathlib.Core.Path.{_≡_};
+ghost use Prim.Native.Nat.{_≤_};
+ghost use lib.ListN.{length};
 ghost use Rattle.text.specs.Lent.{written};
 ghost use Rattle.plan.specs.PlanWritten.{judgedPlan};
 ghost use Rattle.plan.specs.Written.{writtenAs};
+ghost use Rattle.calendars.specs.CalendarText.{mostCalendarBytes};
 ghost use Rattle.calendars.specs.Decisions.{verdictTold, valueVerdict, valueCalendar, valueText};
 
 // A verdict as it is told of a value: no strategy is refused by 4, and unsettled by 5.
@@ -54,6 +57,7 @@ pub fn decide_value(p: Plan) -> ValueDecision
 pub fn answer_value(p: Plan, out: &mut [u8]) -> Written
     ensures { λ r. ⌜ r ≡ writtenAs (valueText p (judgedPlan p)) (now (out .entry)) ⌝ }
     ensures { λ _. ⌜ now (out .exit) ≡ written (valueText p (judgedPlan p)) (now (out .entry)) ⌝ }
+    ensures { λ _. ⌜ length (valueText p (judgedPlan p)) ≤ mostCalendarBytes ⌝ }
 {
     let judged = judge_plan(p);
     match judged {

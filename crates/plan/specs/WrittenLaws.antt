@@ -68,9 +68,13 @@ module _ {t out o o′ : List ℕ} {n : ℕ} (p : Stored o 0 t o′ n) (h : leng
       stored-whole r (omega (arith, stored-length p, stored-length r))
 
 -- what was written as one text was written as any text that equals it
-pub wrote-as : (out : List ℕ) {t u o : List ℕ} {r : Written} → t ≡ u → (r ≡ writtenAs t out) × (o ≡ written t out) → (r ≡ writtenAs u out) × (o ≡ written u out)
-wrote-as out e w =
-    (w .0 ∙ ap (λ (s : List ℕ). writtenAs s out) e, w .1 ∙ ap (λ (s : List ℕ). written s out) e)
+pub wrote-as : (out : List ℕ) {t u o : List ℕ} {r : Written} {k m : ℕ} → k ≤ m → t ≡ u
+    → (r ≡ writtenAs t out) × ((o ≡ written t out) × (length t ≤ k))
+    → (r ≡ writtenAs u out) × ((o ≡ written u out) × (length u ≤ m))
+wrote-as out h e w = (
+  w .0 ∙ ap (λ (s : List ℕ). writtenAs s out) e,
+  (w .1 .0 ∙ ap (λ (s : List ℕ). written s out) e, omega (arith, w .1 .1, ap length e)),
+)
 
 -- ---- the length that was answered counts bytes of the slice
 

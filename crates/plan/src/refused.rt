@@ -5,6 +5,7 @@ use crate::refusals::number;
 use crate::refusals::value;
 ghost use mathlib.Core.Path.{_≡_};
 ghost use Prim.Native.Nat.{_+_, _^_, _≤_};
+ghost use lib.ListN.{length};
 ghost use Rattle.text.specs.Lent.{Stored, written};
 ghost use Rattle.plan.specs.Refusals.{refusedLine};
 ghost use Rattle.plan.specs.Written.{writtenAs};
@@ -22,10 +23,11 @@ pub fn put_refused(out: &mut [u8], at: usize, x: Refusal) -> usize
     text::put_ended_count(out, second, d, b'\n')
 }
 
-// The whole line of a refusal, or 12 and not one byte changed.
+// The whole line of a refusal, or 12 and not one byte changed. It has at most 50 bytes.
 pub fn write_refused(out: &mut [u8], x: Refusal) -> Written
     ensures { λ r. ⌜ r ≡ writtenAs (refusedLine x) (now (out .entry)) ⌝ }
     ensures { λ _. ⌜ now (out .exit) ≡ written (refusedLine x) (now (out .entry)) ⌝ }
+    ensures { λ _. ⌜ length (refusedLine x) ≤ 50 ⌝ }
 {
     let length_of_line = put_refused(&mut out[..0], 0, x);
     if out.len() < length_of_line {

@@ -1,11 +1,12 @@
 -- The dispatch program's output (document 01, 'Offers and runs': 'Dispatch program: standard input is a plan followed by steps').
-use Prim.Native.Nat.{ℕ, zero, suc}
+use Prim.Native.Nat.{ℕ, zero, suc, _+_, _*_}
 use mathlib.Core.Bool.{Bool, true, false, cond}
 use mathlib.Core.List.{List, [], _∷_, _++_}
 use lib.ListN.{length}
 use Rattle.text.specs.Numbers.{isEmpty}
 use Rattle.plan.specs.declared.Plan.{Plan}
 use Rattle.plan.specs.declared.Refusal.the-variants as refusal
+use Rattle.plan.specs.Limits.{longestText}
 use Rattle.plan.specs.Refusals.{refusedLine}
 use Rattle.plan.specs.Reading.{Reading, read, refused}
 use Rattle.plan.specs.PlanRead.{planHead}
@@ -59,6 +60,11 @@ sessionOf (refused x part) = refusedLine x
 
 abbrev pub dispatchOutput : List ℕ → List ℕ
 dispatchOutput s = sessionOf (planHead s)
+
+-- ---- how long it is: a step has at least 8 bytes, and its answer at most 56
+
+abbrev pub mostSessionBytes : ℕ
+mostSessionBytes = 7 * longestText + 56
 
 -- the answer to a session text and a lent slice
 abbrev pub sessionAnswer : List ℕ → List ℕ → Written

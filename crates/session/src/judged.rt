@@ -16,7 +16,7 @@ ghost use Rattle.rounds.specs.Rounds.{outcome};
 ghost use Rattle.plan.specs.declared.PlanAnswer.the-variants as planAnswer;
 ghost use Rattle.plan.specs.PlanRead.{planHead};
 ghost use Rattle.plan.specs.PlanAnswers.{planRead};
-ghost use Rattle.session.specs.Sessions.{judgedSession, dispatchOutput, sessionAnswer};
+ghost use Rattle.session.specs.Sessions.{judgedSession, dispatchOutput, sessionAnswer, mostSessionBytes};
 ghost use Rattle.plan.specs.Written.{writtenAs};
 ghost use Rattle.session.specs.Judged.{Judged};
 
@@ -60,6 +60,7 @@ fn write_session(
     requires { ⌜ Judged p v c ⌝ }
     ensures { λ r. ⌜ r ≡ writtenAs (judgedSession p (outcome p) (drop from (now (text .entry))) line) (now (out .entry)) ⌝ }
     ensures { λ _. ⌜ now (out .exit) ≡ written (judgedSession p (outcome p) (drop from (now (text .entry))) line) (now (out .entry)) ⌝ }
+    ensures { λ _. ⌜ length (judgedSession p (outcome p) (drop from (now (text .entry))) line) ≤ mostSessionBytes ⌝ }
 {
     let steps = text.len() - from;
     let most = 7 * steps + 56;
@@ -88,6 +89,7 @@ pub fn answer_judged(
     requires { ⌜ Judged (head .plan) v c ⌝ }
     ensures { λ r. ⌜ r ≡ sessionAnswer (now (text .entry)) (now (out .entry)) ⌝ }
     ensures { λ _. ⌜ now (out .exit) ≡ written (dispatchOutput (now (text .entry))) (now (out .entry)) ⌝ }
+    ensures { λ _. ⌜ length (dispatchOutput (now (text .entry))) ≤ mostSessionBytes ⌝ }
 {
     let p = head.plan;
     write_session(text, head.at, head.line, p, v, c, out)

@@ -5,13 +5,17 @@ use plan::PlanAnswer;
 use plan::Written;
 use plan::write_refused;
 ghost use mathlib.Core.Path.{_≡_};
+ghost use Prim.Native.Nat.{_≤_};
+ghost use lib.ListN.{length};
 ghost use Rattle.text.specs.Lent.{written};
-ghost use Rattle.session.specs.Sessions.{dispatchOutput, sessionAnswer};
+ghost use Rattle.session.specs.Sessions.{dispatchOutput, sessionAnswer, mostSessionBytes};
 
-// The answer to a session text: its plan's one line, where the plan is refused, and else the answers to its steps; 12 and not one byte changed, where it has no room.
+// The answer to a session text: its plan's one line, where the plan is refused, and else the answers to its steps; 12 and not one byte changed, where it has no room. So many
+// bytes are room for every text.
 pub fn answer(text: &[u8], out: &mut [u8]) -> Written
     ensures { λ r. ⌜ r ≡ sessionAnswer (now (text .entry)) (now (out .entry)) ⌝ }
     ensures { λ _. ⌜ now (out .exit) ≡ written (dispatchOutput (now (text .entry))) (now (out .entry)) ⌝ }
+    ensures { λ _. ⌜ length (dispatchOutput (now (text .entry))) ≤ mostSessionBytes ⌝ }
 {
     let head = plan::read_head(text);
     let told = head.answer;

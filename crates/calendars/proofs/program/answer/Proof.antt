@@ -1,5 +1,6 @@
 -- `answer`: a plan that was read is decided (`plan-accepted`, `text-of-outcome`), and one that was refused has its line (`plan-refused`).
 use mathlib.Core.Path.{_∙_}
+use native.Mathlib.Omega.{arith}
 use denote.Ref.{now}
 use Rattle.plan.specs.WrittenLaws.{wrote-as}
 use Rattle.calendars.specs.DecisionsLaws.{plan-accepted, plan-refused, text-of-outcome}
@@ -40,7 +41,7 @@ returns c =
     let s = c .before .before .before .before .before .before .before .before .before .before .before .before in
     let d = c .before .before .before .before .before .decide in
     let told = plan-accepted (now (s .args .text)) (r .result) (r .ensures) (c .before .before .before .before .before .before .before .enum-told .given .1) in
-    wrote-as (now (s .args .out)) (text-of-outcome (r .result .plan) _ _ (d .ensures .0) (d .ensures .1) ∙ told .output) (c .before .before .write-decision .ensures)
+    wrote-as (now (s .args .out)) (omega arith) (text-of-outcome (r .result .plan) _ _ (d .ensures .0) (d .ensures .1) ∙ told .output) (c .before .before .write-decision .ensures)
 
 same-length-2 : tie.Need-same-length-2
 same-length-2 c = search needs
@@ -49,7 +50,7 @@ returns-2 : tie.Need-returns-2
 returns-2 c =
     let r = c .before .before .before .before .before .before .before .read-plan in
     let s = c .before .before .before .before .before .before .before .before .before .before in
-    wrote-as (now (s .args .out)) (plan-refused (now (s .args .text)) (r .result) (r .ensures) _ (c .before .before .before .before .before .told .given .1)) (c .before .before .write-refused .ensures)
+    wrote-as (now (s .args .out)) (omega arith) (plan-refused (now (s .args .text)) (r .result) (r .ensures) _ (c .before .before .before .before .before .told .given .1)) (c .before .before .write-refused .ensures)
 
 pub answer-spec : {M : Type 1} → statement M
 answer-spec =

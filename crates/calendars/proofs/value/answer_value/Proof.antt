@@ -1,5 +1,6 @@
 -- `answer_value`: a plan that is judged good is decided (`text-of-outcome`, `value-text`), and one that is refused has its line (`refused-text`).
 use mathlib.Core.Path.{_∙_}
+use native.Mathlib.Omega.{arith}
 use denote.Ref.{now}
 use Rattle.plan.specs.WrittenLaws.{wrote-as}
 use Rattle.calendars.specs.DecisionsLaws.{text-of-outcome}
@@ -37,7 +38,7 @@ returns c =
     let j = c .before .before .before .before .before .before .before .before .judge-plan in
     let d = c .before .before .before .before .before .decide in
     let e = c .before .before .before .before .before .before .enum-told .given .1 in
-    wrote-as (now (s .args .out)) (text-of-outcome (s .args .p) _ _ (d .ensures .0) (d .ensures .1) ∙ value-text (s .args .p) (j .result) (j .ensures .0) e) (c .before .before .write-decision .ensures)
+    wrote-as (now (s .args .out)) (omega arith) (text-of-outcome (s .args .p) _ _ (d .ensures .0) (d .ensures .1) ∙ value-text (s .args .p) (j .result) (j .ensures .0) e) (c .before .before .write-decision .ensures)
 
 same-length-2 : tie.Need-same-length-2
 same-length-2 c = search needs
@@ -46,7 +47,7 @@ returns-2 : tie.Need-returns-2
 returns-2 c =
     let s = c .before .before .before .before .before .before .before .before .before in
     let j = c .before .before .before .before .before .before .before .judge-plan in
-    wrote-as (now (s .args .out)) (refused-text (s .args .p) (j .result) (j .ensures .0) _ (c .before .before .before .before .before .judged .given .1)) (c .before .before .write-refused .ensures)
+    wrote-as (now (s .args .out)) (omega arith) (refused-text (s .args .p) (j .result) (j .ensures .0) _ (c .before .before .before .before .before .judged .given .1)) (c .before .before .write-refused .ensures)
 
 pub answer-value-spec : {M : Type 1} → statement M
 answer-value-spec =

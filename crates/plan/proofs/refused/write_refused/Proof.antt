@@ -1,5 +1,6 @@
 -- `write_refused`: by the measure of the line (`measured-none`, `measured-whole`).
 use mathlib.Core.Path.{refl}
+use native.Mathlib.Omega.{arith}
 use Rattle.plan.specs.WrittenLaws.{measured-none, measured-whole}
 use borrow.Author.Needs.{needs}
 use Rattle.plan.proofs.refused.write_refused.Statement.{statement}
@@ -19,8 +20,9 @@ same-length c = search needs
 
 returns : tie.Need-returns
 returns c =
-    let d = measured-none (c .before .before .before .put-refused .ensures .0) refl (c .if1 .taken) in
-    (d .answer, d .bytes)
+    let line = c .before .before .before .put-refused .ensures in
+    let d = measured-none (line .0) refl (c .if1 .taken) in
+    (d .answer, (d .bytes, omega (arith, line .0 .place, line .1)))
 
 put-refused-requires-2 : tie.Need-put-refused-requires-2
 put-refused-requires-2 c κs = search needs
@@ -30,8 +32,9 @@ same-length-2 c = search needs
 
 returns-2 : tie.Need-returns-2
 returns-2 c =
-    let d = measured-whole (c .before .before .before .before .before .before .before .put-refused .ensures .0) refl (c .before .before .before .before .if1 .left) (c .before .before .put-refused2 .ensures .0) in
-    (d .answer, d .bytes)
+    let line = c .before .before .put-refused2 .ensures in
+    let d = measured-whole (c .before .before .before .before .before .before .before .put-refused .ensures .0) refl (c .before .before .before .before .if1 .left) (line .0) in
+    (d .answer, (d .bytes, omega (arith, line .0 .place, line .1)))
 
 pub write-refused-spec : {M : Type 1} → statement M
 write-refused-spec =

@@ -1,4 +1,5 @@
 -- `answer_judged`: from where the plan ended on the session says what its verdict says, by `head-accepted`.
+use native.Mathlib.Omega.{arith}
 use denote.Ref.{now}
 use Rattle.session.specs.HeadLaws.{HeadRead, head-accepted}
 use Rattle.plan.specs.WrittenLaws.{wrote-as}
@@ -21,7 +22,7 @@ same-length c = search needs
 returns : tie.Need-returns
 returns c =
     let s = c .before .before .before .before .before .before .before in
-    wrote-as (now (s .args .out)) (head s .output) (c .before .before .write-session .ensures)
+    wrote-as (now (s .args .out)) (omega arith) (head s .output) (c .before .before .write-session .ensures)
 
 pub answer-judged-spec : {M : Type 1} → statement M
 answer-judged-spec = tie.close (tie.spec write-session-requires same-length returns)

@@ -25,7 +25,7 @@ returns : tie.Need-returns
 returns c =
     let w = c .before .before .put-session .ensures in
     let d = stored-whole (w .0) (omega (arith, w .1, c .before .before .before .before .if1 .taken)) in
-    (d .answer, d .bytes)
+    (d .answer, (d .bytes, omega (arith, w .0 .place, w .1)))
 
 slice-relend-prefix-put-session : tie.Need-slice-relend-prefix-put-session
 slice-relend-prefix-put-session c = search needs
@@ -41,8 +41,9 @@ same-length-2 c = search needs
 
 returns-2 : tie.Need-returns-2
 returns-2 c =
-    let d = measured-none (c .before .before .before .put-session2 .ensures .0) refl (c .if2 .taken) in
-    (d .answer, d .bytes)
+    let w = c .before .before .before .put-session2 .ensures in
+    let d = measured-none (w .0) refl (c .if2 .taken) in
+    (d .answer, (d .bytes, omega (arith, w .0 .place, w .1)))
 
 put-session-requires-3 : tie.Need-put-session-requires-3
 put-session-requires-3 c κs = search needs
@@ -52,8 +53,9 @@ same-length-3 c = search needs
 
 returns-3 : tie.Need-returns-3
 returns-3 c =
-    let d = measured-whole (c .before .before .before .before .before .before .before .put-session2 .ensures .0) refl (c .before .before .before .before .if2 .left) (c .before .before .put-session3 .ensures .0) in
-    (d .answer, d .bytes)
+    let w = c .before .before .put-session3 .ensures in
+    let d = measured-whole (c .before .before .before .before .before .before .before .put-session2 .ensures .0) refl (c .before .before .before .before .if2 .left) (w .0) in
+    (d .answer, (d .bytes, omega (arith, w .0 .place, w .1)))
 
 pub write-session-spec : {M : Type 1} → statement M
 write-session-spec =

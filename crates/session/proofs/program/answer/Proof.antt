@@ -1,4 +1,5 @@
 -- `answer`: a plan that was read is decided and so judged (`judged-decided`), and a plan that was refused prints its one line (`head-refused`).
+use native.Mathlib.Omega.{arith}
 use denote.Ref.{now}
 use Rattle.session.specs.HeadLaws.{head-accepted, head-refused}
 use Rattle.session.specs.JudgedLaws.{judged-decided}
@@ -46,7 +47,7 @@ returns-2 c =
     let s = c .before .before .before .before .before .before .before .before .before .before in
     let read = c .before .before .before .before .before .before .before .read-head .ensures in
     let told = c .before .before .before .before .before .told .given .1 in
-    wrote-as (now (s .args .out)) (head-refused (now (s .args .text)) _ read _ told) (c .before .before .write-refused .ensures)
+    wrote-as (now (s .args .out)) (omega arith) (head-refused (now (s .args .text)) _ read _ told) (c .before .before .write-refused .ensures)
 
 pub answer-spec : {M : Type 1} → statement M
 answer-spec =
