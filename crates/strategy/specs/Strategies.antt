@@ -1,16 +1,17 @@
 -- What a strategy is: 002's Definitions 3 and 4, with document 01's bounds. Nothing is named here but the plan's own numbers and bounds.
-use Prim.Native.Nat.{ℕ, zero, suc, _*_, _<_}
+use Prim.Native.Nat.{ℕ, zero, suc, _+_, _*_, _-_, _<_}
 use mathlib.Core.List.{[], List·Memᴰ}
 use lib.IntN.{ℤ, _-ℤ_}
 use lib.Signed.{_≤ℤ_}
 use lib.ListN.{length, getD}
+use Rattle.plan.specs.declared.Letter.{Letter}
+use Rattle.plan.specs.declared.Letter.the-variants as letter
 use Rattle.plan.specs.declared.Kind.{Kind}
 use Rattle.plan.specs.declared.Kind.the-variants as kind
 use Rattle.plan.specs.declared.EventName.{EventName}
 use Rattle.plan.specs.declared.Bound.{Bound}
 use Rattle.plan.specs.declared.Plan.{Plan}
 use Rattle.plan.specs.PlanWritten.{boundsOf}
-use Rattle.rounds.specs.Given.{placeOf}
 use Rattle.strategy.specs.Histories.{Ran, History, noRan, ranFor, turn, seenFrom}
 
 -- ---- the bounds of one window and the next, over what was seen from that window on, on its own clock
@@ -18,10 +19,15 @@ use Rattle.strategy.specs.Histories.{Ran, History, noRan, ranFor, turn, 
 abbrev pub ranIn : History → ℕ → Ran
 ranIn u k = getD u k noRan
 
--- which job of the two windows an event is of, from 0, and when the event was
-abbrev pub placeIn : Plan → EventName → ℕ
-placeIn p e = placeOf p (e .letter) (e .job)
+-- which job of the two windows an event is of, from 0: 't this, n next'
+abbrev pub jobIn : Plan → Letter → ℕ → ℕ
+jobIn p letter.This i = i - 1
+jobIn p letter.Next i = p .jobs + (i - 1)
 
+abbrev pub placeIn : Plan → EventName → ℕ
+placeIn p e = jobIn p (e .letter) (e .job)
+
+-- when the event was
 abbrev pub kindIn : Kind → Ran → ℤ
 kindIn kind.Start r = r .start
 kindIn kind.Finish r = r .finish
