@@ -1,9 +1,10 @@
--- The run after a step is the run after its answer's move (`stepped-moved`), its answer is made of what is due (`due-answer`), and a move of a run inside
--- its limits is at a place of the window (`move-placed`).
+-- The run after a step is the run after its answer's move (`stepped-moved`), so that a refusal leaves the run as it was (`stepped-stays`; on values `step-stays`).
+-- Its answer is made of what is due (`due-answer`), and a move of a run inside its limits is at a place of the window (`move-placed`).
 use Prim.Native.Nat.{ℕ, _+_, _-_, _≤_, _<_}
 use mathlib.Core.Path.{_≡_, refl, sym, ap, ap₂, subst, _∙_}
 use mathlib.Core.List.{List}
-use mathlib.Core.Bool.{Bool, true, false, cond}
+use mathlib.Core.Bool.{Bool, true, false, cond, _&&_}
+use mathlib.Core.Option.{Option, none, some}
 use native.Mathlib.Omega.{arith}
 use lib.Dec.{ltb}
 use lib.IntN.{ℤ, pos, _+ℤ_}
@@ -11,10 +12,12 @@ use lib.ListN.{length, getD, set, replicate}
 use Rattle.text.specs.Numbers.{within}
 use Rattle.clock.specs.declared.RunTime.{RunTime}
 use Rattle.plan.specs.declared.Plan.{Plan}
+use Rattle.plan.specs.declared.Refusal.{Refusal}
 use Rattle.plan.specs.declared.Refusal.the-variants as refusal
 use Rattle.plan.specs.Refusals.{outsideLimits}
 use Rattle.plan.specs.Limits.{mostJobs}
 use Rattle.plan.specs.PlanRead.{noJob}
+use Rattle.plan.specs.PlanWritten.{judgedPlan}
 use Rattle.bounds.specs.Tables.{listed}
 use Rattle.calendars.specs.declared.Calendar.{Calendar}
 use Rattle.runs.specs.declared.Probe.{Probe}
@@ -34,9 +37,23 @@ use Rattle.runs.specs.declared.Due.{Due}
 use Rattle.runs.specs.declared.Answered.{Answered}
 use Rattle.runs.specs.declared.Move.{Move}
 use Rattle.runs.specs.declared.Move.the-variants.{Stay, Begin, Next, Close}
-use Rattle.runs.specs.ValueLimits.{isTime}
+use Rattle.runs.specs.ValueLimits.{isTime, isRun, isCalendar}
 use Rattle.runs.specs.Offers.{opening}
-use Rattle.runs.specs.Steps.{newRun, refusedWith, asked, startedAt, startedBy, started, closed, finished, stepped}
+use Rattle.runs.specs.Steps.{
+  newRun,
+  refusedWith,
+  asked,
+  startedAt,
+  startedBy,
+  started,
+  closed,
+  finished,
+  stepped,
+  isStep,
+  valuesRefused,
+  unlessRefused,
+  step,
+}
 use Rattle.runs.specs.Seen.{probesOf, probePut, runOf}
 use Rattle.runs.specs.Moves.{finalMove, moveOf, moved, Moving, Placed}
 use Rattle.runs.specs.Due.{duePlan, dueCalendar, dueOf, StepInside}
@@ -98,6 +115,22 @@ module _ (p : Plan) (r : Run) where
   stepped-moved c Ask = asked-moves (opening p c r)
   stepped-moved c (Start choice) = started-moves choice (opening p c r)
   stepped-moved c (Finish t) = finished-moves t (r .phase) refl
+
+-- ---- 'A refusal moves neither the run ..'
+
+module _ (p : Plan) (c : Calendar) (r : Run) (st : Step) (x : Refusal) where
+  pub stepped-stays : stepped p c r st .answer ≡ Refused x → stepped p c r st .run ≡ r
+  unfolding moveOf moved
+  stepped-stays e = stepped-moved p r c st ∙ ap (λ (a : Answer). moved r (moveOf (p .jobs) (r .phase) a)) e
+
+  unless-stays : (o : Option Refusal) → unlessRefused r o (stepped p c r st) .answer ≡ Refused x → unlessRefused r o (stepped p c r st) .run ≡ r
+  unfolding unlessRefused
+  unless-stays none e = stepped-stays e
+  unless-stays (some y) e = refl
+
+  pub step-stays : step p c r st .answer ≡ Refused x → step p c r st .run ≡ r
+  unfolding step
+  step-stays e = unless-stays (valuesRefused (judgedPlan p) (isRun p r && isCalendar p c && isStep st)) e
 
 -- ---- what is due is all that an answer asks for
 

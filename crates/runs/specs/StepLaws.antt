@@ -20,7 +20,7 @@ use Rattle.plan.specs.Refusals.{outsideLimits}
 use Rattle.plan.specs.Limits.{mostJobs}
 use Rattle.plan.specs.PlanWritten.{judgedPlan}
 use Rattle.values.specs.PlanJudged.{judgedAnswer}
-use Rattle.values.specs.JudgedLaws.{judgedAnswer-none, judgedAnswer-some}
+use Rattle.values.specs.JudgedLaws.{judgedAnswer-none, judgedAnswer-some, accepted-judged}
 use Rattle.plan.specs.PlanRead.{noJob}
 use Rattle.calendars.specs.declared.Calendar.{Calendar}
 use Rattle.runs.specs.declared.Answer.the-variants.{Final}
@@ -45,7 +45,7 @@ use Rattle.runs.specs.Steps.{
   unlessRefused,
 }
 use Rattle.runs.specs.TestLaws.{and-true}
-use Rattle.runs.specs.Inside.{stepAccepted}
+use Rattle.runs.specs.Inside.{Inside, stepAccepted}
 use Rattle.runs.specs.Offers.{opening}
 use Rattle.runs.specs.Due.{duePlan, FinishInside}
 
@@ -127,3 +127,9 @@ module _ (p : Plan) (c : Calendar) (r : Run) (st : Step) (a : PlanAnswer) (judge
   pub step-accepted : a ≡ planAnswer.Accepted → stepAccepted p c r st ≡ step p c r st
   unfolding step
   step-accepted e = rw (judgedAnswer-none (judgedPlan p) (sym judged ∙ e))
+
+-- ---- a step on values inside their limits is that step of the run
+
+pub step-inside : (p : Plan) (c : Calendar) (r : Run) (st : Step) → Inside p c r → isStep st ≡ true → step p c r st ≡ stepped p c r st
+unfolding step valuesRefused unlessRefused
+step-inside p c r st i e = rw (accepted-judged p (i .plan), i .run, i .calendar, e)

@@ -7,7 +7,6 @@ use mathlib.Core.Bool.{Bool, true, false, cond, _&&_}
 use mathlib.Core.List.{List, [], _∷_, _++_}
 use native.Mathlib.Nat.{mod-eq-of-lt}
 use native.Mathlib.Numerals.{add-one}
-use mathlib.Core.Option.{Option, none, some}
 use native.Mathlib.Omega.{arith}
 use lib.Dec.{ltb}
 use lib.IntN.{ℤ, _+ℤ_, _-ℤ_}
@@ -45,7 +44,7 @@ use Rattle.runs.specs.declared.Answer.the-variants.{Started, Final, Refused}
 use Rattle.runs.specs.declared.Answered.{Answered}
 use Rattle.runs.specs.ValueLimits.{isTime}
 use Rattle.runs.specs.Offers.{noProbe, offerOf, opened, openingIn, opening}
-use Rattle.runs.specs.Steps.{newRun, refusedWith, asked, startedAt, started, closed, finished, stepped, unlessRefused, step}
+use Rattle.runs.specs.Steps.{newRun, refusedWith, asked, startedAt, started, closed, finished, stepped}
 use Rattle.strategy.specs.Histories.{Ran, History, turn}
 use Rattle.strategy.specs.Strategies.{ranIn, Kept, StrategyAfter}
 use Rattle.strategy.specs.Reaching.{OnOffer, Reached, begun}
@@ -469,18 +468,6 @@ finished-empty : (p : Plan) (r : Run) (t : RunTime) (ph : Phase) → finished p 
 unfolding finished
 finished-empty p r t (Waiting j i) e = let z : _≡_ {A = ℕ} 0 1 = cc in omega arith
 finished-empty p r t (Running j i since) e = final-or-not p r j i _ t (within (since .0 +ℤ getD (p .job) (i - 1) noJob .min) (since .0 +ℤ getD (p .job) (i - 1) noJob .max) (t .0)) e
-
--- ---- steps on values that are handed over
-
-unless-refused : (r : Run) (x : Option Refusal) (a : Answered) → ((q : Refusal) → unlessRefused r x a .answer ≡ Refused q → ⊥) → unlessRefused r x a ≡ a
-unfolding unlessRefused
-unless-refused r (some x) a h = absurd (h x refl)
-unless-refused r none a h = refl
-
--- one that is not refused is the step of which `Reached` speaks
-pub step-stepped : (p : Plan) (c : Calendar) (r : Run) (st : Step) → ((q : Refusal) → step p c r st .answer ≡ Refused q → ⊥) → step p c r st ≡ stepped p c r st
-unfolding step
-step-stepped p c r st h = unless-refused r _ (stepped p c r st) h
 
 -- ---- the offers of such a run
 

@@ -1,5 +1,5 @@
 -- Whatever the steps of a session are, its run kept to its offers: a step that is answered by `started=` or by `final=` moves the run as `Reached` has it, and every
--- other step leaves it as it is (`steps-reached`).
+-- other step leaves it as it is (`steps-reached`). One step more is taken in the run after the others (`afterSteps-more`).
 use Prim.Native.Nat.{ℕ, _-_}
 use mathlib.Core.Path.{_≡_, refl, sym, subst}
 use mathlib.Core.Logic.{_⊎_, inl, inr, ⊎-elim}
@@ -107,6 +107,11 @@ module _ (p : Plan) (c : Calendar) where
   unfolding afterSteps
   all-reached [] k = k
   all-reached (st ∷ sts) k = all-reached sts (step-reached (k .reached) st)
+
+  pub afterSteps-more : (r : Run) (sts : List Step) (st : Step) → afterSteps p c r (sts ++ (st ∷ [])) ≡ stepped p c (afterSteps p c r sts) st .run
+  unfolding afterSteps
+  afterSteps-more r [] st = refl
+  afterSteps-more r (x ∷ sts) st = afterSteps-more (stepped p c r x .run) sts st
 
   pub steps-reached : (sts : List Step) → ReachedWith p c (afterSteps p c newRun sts)
   steps-reached sts = all-reached sts (record { history = []; reached = begun })
