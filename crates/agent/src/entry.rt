@@ -6,8 +6,8 @@ ghost use lib.ListN.{length};
 ghost use Rattle.session.specs.Sessions.{dispatchOutput, mostSessionBytes};
 ghost use Rattle.agent.specs.Entry.{entryAnswer, entryBytes};
 
-// The answer to a session text, written into a lent slice: its length, or -12 and not one byte changed, where it has no room. So many bytes are room for
-// every text: the header's GEKUMOSARI_MOST_BYTES.
+// The answer to a session text, written into a lent slice: its length, or -12 and not one byte changed, where it has no room. 458,808 bytes, the header's
+// GEKUMOSARI_MOST_BYTES, are room for every text.
 #[no_mangle]
 pub extern "C" fn gekumosari_session(text: &[u8], out: &mut [u8]) -> i64
     ensures { λ r. ⌜ r ≡ entryAnswer (now (text .entry)) (now (out .entry)) ⌝ }

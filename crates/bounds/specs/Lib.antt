@@ -1,5 +1,5 @@
--- Elimination, as document 01 has it. In reading order: the plan's own numbers, events with their earliest and latest, tables of bounds,
--- the judgement of a bound, the elimination of one event, and then what the code has of these: times and tables in arrays. These files are
+-- Elimination, as document 01 has it. In reading order: events with their earliest and latest, the judgement of a bound, tables of bounds, the
+-- elimination of one event, and then what the code has of these: times and tables in arrays. These files are
 -- definitions alone.
 pub mod Events
 pub mod Judgements

@@ -23,7 +23,7 @@ pub enum Event {
     Finish(usize),
 }
 
-// The earliest and the latest of each node of two windows; those past the last node are 0.
+// The earliest and the latest of each node of two windows; the places past the last node are no part of it.
 pub struct Spans {
     pub early: [i32; Table::SIDE],
     pub late: [i32; Table::SIDE],

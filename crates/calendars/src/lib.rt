@@ -17,7 +17,7 @@ pub struct Terms {
     pub above: Events,
 }
 
-// The most events before a start: a start and a finish for each job of two windows.
+// The places of a row, one for each event of two windows: a start and a finish for each job. The last two, of the last job of this window, are before no start.
 pub const MOST_EVENTS: usize = 36;
 
 // The places of a calendar's c on one side: a row of MOST_EVENTS for each job.

@@ -11,7 +11,7 @@ ghost use Rattle.text.specs.Lent.{written};
 ghost use Rattle.plan.specs.Written.{writtenAs};
 ghost use Rattle.calendars.specs.CalendarText.{calendarOutput, mostCalendarBytes};
 
-// The answer to a plan's text: the calendar of a settled plan, or the line of the plan's refusal; 12 and not one byte changed, where it has no room. So many bytes
+// The answer to a plan's text: the calendar of a settled plan, or the line of the plan's refusal; 12 and not one byte changed, where it has no room. 32,768 bytes
 // are room for every text.
 pub fn answer(text: &[u8], out: &mut [u8]) -> Written
     ensures { λ r. ⌜ r ≡ writtenAs (calendarOutput (now (text .entry))) (now (out .entry)) ⌝ }

@@ -6,7 +6,7 @@ use lib.IntN.{ℤ, pos, negℤ}
 abbrev pub longestText : ℕ
 longestText = 65536
 
--- '`window=` | 1..86,400,000', and the running times' '0..86,400,000'
+-- '`window=` | 1..86,400,000'
 abbrev pub longestWindow : ℤ
 longestWindow = pos 86400000
 

@@ -1,4 +1,4 @@
-// Plans: their types, their texts read, refused and written, and the refusals of the whole product.
+// Plans: their types, their texts read, and the refusals of the whole product, with the line that tells one.
 
 // ---- sizes
 
@@ -85,7 +85,7 @@ pub enum Refusal {
     NoRoom,
 }
 
-// What writing into a lent slice comes to: the length written; or the refusal, which is 12.
+// What writing into a lent slice comes to: the length written; or the refusal, which is 12, or a plan's own where a plan is judged before it is written.
 pub enum Written {
     Length(usize),
     Refused(Refusal),

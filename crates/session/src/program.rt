@@ -10,7 +10,7 @@ ghost use lib.ListN.{length};
 ghost use Rattle.text.specs.Lent.{written};
 ghost use Rattle.session.specs.Sessions.{dispatchOutput, sessionAnswer, mostSessionBytes};
 
-// The answer to a session text: its plan's one line, where the plan is refused, and else the answers to its steps; 12 and not one byte changed, where it has no room. So many
+// The answer to a session text: its plan's one line, where the plan is refused, and else the answers to its steps; 12 and not one byte changed, where it has no room. 458,808
 // bytes are room for every text.
 pub fn answer(text: &[u8], out: &mut [u8]) -> Written
     ensures { λ r. ⌜ r ≡ sessionAnswer (now (text .entry)) (now (out .entry)) ⌝ }

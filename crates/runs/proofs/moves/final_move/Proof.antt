@@ -17,7 +17,7 @@ sub-place : tie.Need-sub-place
 sub-place c = let t = c .before .before .before .pre .running _ _ _ (c .before .phase .given .1) in omega arith
 
 add-after : tie.Need-add-after
-add-after c = search needs
+add-after c = let t = c .before .before .before .before .pre .running _ _ _ (c .before .before .phase .given .1) in omega arith
 
 returns : tie.Need-returns
 unfolding finalMove
