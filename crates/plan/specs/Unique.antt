@@ -1,13 +1,17 @@
--- No two answers meet the promise of a public operation: each promise is an equation, and `only` of the crate `text` says the rest.
+-- No two answers meet the promise of a public operation: each promise is an equation, and `only` of the crate `text` says the rest; of a writer
+-- from a place on, `stored-unique`.
 use mathlib.Core.Path.{_≡_}
 use mathlib.Core.Bool.{Bool}
 use mathlib.Core.List.{List}
 use Prim.Native.Nat.{ℕ}
 use lib.IntN.{ℤ}
-use Rattle.text.specs.Lent.{written}
+use Rattle.text.specs.Lent.{Stored, written}
 use Rattle.text.specs.Numbers.{within}
-use Rattle.text.specs.Unique.{only}
+use Rattle.text.specs.Unique.{only, stored-unique}
 use Rattle.text.specs.declared.Fault.{Fault}
+use Rattle.plan.specs.declared.Bound.{Bound}
+use Rattle.plan.specs.declared.BoundLine.{BoundLine}
+use Rattle.plan.specs.declared.EventName.{EventName}
 use Rattle.plan.specs.declared.NameRead.{NameRead}
 use Rattle.plan.specs.declared.PlanRead.{PlanRead}
 use Rattle.plan.specs.declared.Refusal.{Refusal}
@@ -16,7 +20,8 @@ use Rattle.plan.specs.Limits.{leastC, greatestC}
 use Rattle.plan.specs.Refusals.{number, value, ends, faultAt, refusedLine}
 use Rattle.plan.specs.EventNames.{eventName, nameRead}
 use Rattle.plan.specs.Reading.{faultyPart}
-use Rattle.plan.specs.PlanRead.{planHead, planAlone}
+use Rattle.plan.specs.Pairs.{pairNumber, isWrongNumbered}
+use Rattle.plan.specs.PlanRead.{judgedBound, planHead, planAlone}
 use Rattle.plan.specs.PlanAnswers.{planRead}
 use Rattle.plan.specs.Written.{writtenAs}
 
@@ -38,6 +43,12 @@ event-name-unique s = only
 pub is-c-unique : (c : ℤ) {r q : Bool} → r ≡ within leastC greatestC c → q ≡ within leastC greatestC c → r ≡ q
 is-c-unique c = only
 
+pub judge-bound-unique : (d : Bound) (jobs : ℕ) (given : List ℕ) {r q : BoundLine} → r ≡ judgedBound jobs (isWrongNumbered given) d → q ≡ judgedBound jobs (isWrongNumbered given) d → r ≡ q
+judge-bound-unique d jobs given = only
+
+pub pair-number-unique : (a b : EventName) {n m : ℕ} → n ≡ pairNumber a b → m ≡ pairNumber a b → n ≡ m
+pair-number-unique a b = only
+
 pub read-head-unique : (s : List ℕ) {r q : PlanRead} → r ≡ planRead s (planHead s) → q ≡ planRead s (planHead s) → r ≡ q
 read-head-unique s = only
 
@@ -49,6 +60,9 @@ faulty-in-head-unique s = only
 
 pub faulty-in-plan-unique : (s : List ℕ) {r q : List ℕ} → r ≡ faultyPart (planAlone s) → q ≡ faultyPart (planAlone s) → r ≡ q
 faulty-in-plan-unique s = only
+
+pub put-refused-unique : (x : Refusal) {out o p : List ℕ} {at j k : ℕ} → Stored out at (refusedLine x) o j → Stored out at (refusedLine x) p k → (o ≡ p) × (j ≡ k)
+put-refused-unique x = stored-unique
 
 pub write-refused-unique : (x : Refusal) (out : List ℕ) {r q : Written} → r ≡ writtenAs (refusedLine x) out → q ≡ writtenAs (refusedLine x) out → r ≡ q
 write-refused-unique x out = only
