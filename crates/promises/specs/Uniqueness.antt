@@ -35,8 +35,8 @@ moved-by-unique t c = only
 
 -- ---- bounds
 
-pub event-unique : (node : ℕ) {r q : Event} → r ≡ eventOf node → q ≡ eventOf node → r ≡ q
-event-unique node = only
+pub of-unique : (node : ℕ) {r q : Event} → r ≡ eventOf node → q ≡ eventOf node → r ≡ q
+of-unique node = only
 
 pub empty-unique : {ws us : List ℤ} → ws ≡ noBounds → us ≡ noBounds → ws ≡ us
 empty-unique = only
