@@ -58,6 +58,9 @@ fn pair(dice: &mut Dice, jobs: usize) -> (Event, Event) {
     }
 }
 
+/// So many bounds are tried where a plan is to have as many as it may: some fall on a pair that is already given.
+const MANY: usize = 2 * plan::BOUNDS_MOST;
+
 /// Adds bounds on pairs that are not yet given.
 fn add_bounds(dice: &mut Dice, plan: &mut Plan, count: usize, c: &mut dyn FnMut(&mut Dice, &Plan, Event, Event) -> i64) {
     for _ in 0..count {
@@ -100,7 +103,12 @@ pub fn settling(dice: &mut Dice, jobs: usize) -> Plan {
     let mut cuts: Vec<i64> = (0..2 * jobs).map(|_| dice.between(0, window)).collect();
     cuts.sort();
     let rounds = if dice.percent(30) { dice.between(1, 5) } else { dice.choose(&[10, 100, 1000]) };
-    let last = if dice.percent(30) { dice.between(1, 3) } else { dice.between(1, plan::LAST_MOST) };
+    let last = match dice.between(0, 9) {
+        0..=2 => dice.between(1, 3),
+        3 | 4 => dice.between(4, 30),
+        5 => dice.between(31, 1500),
+        _ => dice.between(1, plan::LAST_MOST),
+    };
     let mut plan = Plan { window, rounds, last, jobs: Vec::new(), bounds: Vec::new() };
     for cut in cuts.chunks(2) {
         let max = dice.between(0, cut[1] - cut[0]);
@@ -111,7 +119,7 @@ pub fn settling(dice: &mut Dice, jobs: usize) -> Plan {
         plan.jobs.push(Job { min, max, release, deadline });
     }
     let tight = dice.percent(40);
-    let count = if dice.percent(10) { 64 } else { dice.between(0, 3 * jobs as i64) as usize };
+    let count = if dice.percent(20) { MANY } else { dice.between(0, 3 * jobs as i64) as usize };
     add_bounds(dice, &mut plan, count, &mut |dice, plan, a, b| {
         let reach = |event: Event, late: bool| {
             let job = &plan.jobs[event.job];
@@ -133,6 +141,7 @@ pub fn settling(dice: &mut Dice, jobs: usize) -> Plan {
         };
         (worst + slack).clamp(-plan::BOUND_MOST, plan::BOUND_MOST)
     });
+    plan.bounds.truncate(plan::BOUNDS_MOST);
     plan
 }
 
@@ -164,7 +173,7 @@ pub fn extreme_plan(dice: &mut Dice) -> Plan {
         let deadline = if roomy { plan::PLACE_MOST } else { extreme(dice, 0, plan::PLACE_MOST) };
         plan.jobs.push(Job { min, max, release, deadline });
     }
-    let count = extreme(dice, 0, 2 * plan::BOUNDS_MOST as i64) as usize;
+    let count = extreme(dice, 0, MANY as i64) as usize;
     add_bounds(dice, &mut plan, count, &mut |dice, _, _, _| {
         if roomy {
             dice.between(plan::PLACE_MOST, plan::BOUND_MOST)
@@ -176,11 +185,42 @@ pub fn extreme_plan(dice: &mut Dice) -> Plan {
     plan
 }
 
+/// One job that starts earlier by some milliseconds in each window: K is large, up to beyond the rounds.
+pub fn drifting(dice: &mut Dice) -> Plan {
+    let each = dice.between(1, 5);
+    let room = each * dice.choose(&[10, 100, 250, 256, 997, 998, 999, 1000, 1001]) + dice.between(-1, 1);
+    let window = dice.between(100, 10_000).max(room);
+    let max = dice.between(0, 3);
+    let job = Job { min: dice.between(0, max), max, release: 0, deadline: room + max };
+    let start = |next: bool| Event { next, finish: false, job: 0 };
+    let bound = Bound { a: start(true), b: start(false), c: window - each };
+    Plan { window, rounds: dice.choose(&[100, 255, 999, 1000]), last: 1000, jobs: vec![job], bounds: vec![bound] }
+}
+
+/// Each job's start is bound to the next window's start of the job after it: what holds for the last job reaches the first after a round for
+/// each between them, so that the plan settles late.
+pub fn chained(dice: &mut Dice) -> Plan {
+    let jobs = dice.between(2, plan::JOBS_MOST as i64) as usize;
+    let window = dice.between(100, 1000);
+    let c = window + dice.between(1, window / 20);
+    let start = |next: bool, job: usize| Event { next, finish: false, job };
+    let release = |job: usize| if job + 1 == jobs { window + window / 2 } else { 0 };
+    Plan {
+        window,
+        rounds: dice.choose(&[3, 8, 9, 10, 1000]),
+        last: dice.between(1, 50),
+        jobs: (0..jobs).map(|job| Job { min: 0, max: 0, release: release(job), deadline: 2 * window }).collect(),
+        bounds: (1..jobs).map(|job| Bound { a: start(true, job), b: start(false, job - 1), c }).collect(),
+    }
+}
+
 /// A plan of any kind.
 pub fn any_plan(dice: &mut Dice) -> Plan {
-    match dice.between(0, 9) {
-        0 => tiny(dice),
-        1 => extreme_plan(dice),
+    match dice.between(0, 19) {
+        0 | 1 => tiny(dice),
+        2 | 3 => extreme_plan(dice),
+        4 if dice.percent(50) => drifting(dice),
+        4 => chained(dice),
         _ => {
             let jobs = dice.between(1, plan::JOBS_MOST as i64) as usize;
             settling(dice, jobs)
@@ -190,9 +230,12 @@ pub fn any_plan(dice: &mut Dice) -> Plan {
 
 // ---- sessions
 
-/// A session that mostly keeps to its offers, with refused steps here and there.
+/// A session that mostly keeps to its offers, with refused steps here and there; a few have no steps.
 pub fn session(dice: &mut Dice, plan: &Plan) -> Vec<u8> {
     let mut text = plan::text(plan);
+    if dice.percent(3) {
+        return text;
+    }
     let most = if dice.percent(3) { TEXT_MOST } else { text.len() + dice.between(0, 1500) as usize };
     let Ok(calendar) = calendar::calendar(plan) else {
         let count = dice.between(0, 5);
@@ -266,12 +309,12 @@ pub fn damaged(dice: &mut Dice, mut text: Vec<u8>) -> Vec<u8> {
 }
 
 fn damage(dice: &mut Dice, mut text: Vec<u8>) -> Vec<u8> {
-    const ODD: &[u8] = b"\n\r\0 =,-+0123456789tnpsfaobTNSF\t\x7f\x80\xff";
+    const ODD: &[u8] = b"\n\r\0 =,-+/:0123456789tnpsfaobTNSF\t\x7f\x80\xff";
     let at = dice.below(text.len().max(1));
-    match dice.between(0, 17) {
+    match dice.between(0, 18) {
         0 | 1 if !text.is_empty() => text[at] = dice.choose(ODD),
         2 if !text.is_empty() => text[at] ^= 1 << dice.between(0, 7),
-        3 => text.insert(at.min(text.len()), dice.choose(ODD)),
+        3 => text.insert(dice.below(text.len() + 1), dice.choose(ODD)),
         4 if !text.is_empty() => drop(text.remove(at)),
         5 => text.truncate(at),
         6 => return edited_lines(dice, &text),
@@ -280,6 +323,8 @@ fn damage(dice: &mut Dice, mut text: Vec<u8>) -> Vec<u8> {
             text.pop();
         }
         9 | 10 => return wrong_pair(dice, &text),
+        // What comes behind the last line; an LF alone is the least of it.
+        11 => text.extend_from_slice(dice.choose(&[b"\n".as_slice(), b"\n", b"\n", b"ask=offer\n", b"bound=ts1,tf1,0\n", b"\r\n", b"x"])),
         _ => return edited_number(dice, &text),
     }
     text
@@ -296,11 +341,13 @@ fn edited_lines(dice: &mut Dice, text: &[u8]) -> Vec<u8> {
         return text.to_vec();
     }
     let (i, j) = (dice.below(lines.len()), dice.below(lines.len()));
+    // Also behind the last line.
+    let between = dice.below(lines.len() + 1);
     match dice.between(0, 5) {
         0 => drop(lines.remove(i)),
         1 => {
             let line = lines[i].clone();
-            lines.insert(j, line);
+            lines.insert(between, line);
         }
         2 => lines[i] = b"\n".to_vec(),
         3 => {
@@ -308,7 +355,7 @@ fn edited_lines(dice: &mut Dice, text: &[u8]) -> Vec<u8> {
             lines[i].insert(end, b'\r');
         }
         4 => lines.swap(i, j),
-        _ => lines.insert(i, b"\n".to_vec()),
+        _ => lines.insert(between, b"\n".to_vec()),
     }
     lines.concat()
 }
@@ -320,7 +367,8 @@ fn wrong_pair(dice: &mut Dice, text: &[u8]) -> Vec<u8> {
     if bounds.is_empty() {
         return text.to_vec();
     }
-    let (from, to) = (dice.choose(&bounds), dice.choose(&bounds));
+    let from = dice.choose(&bounds);
+    let to = if dice.percent(40) { bounds[bounds.len() - 1] } else { dice.choose(&bounds) };
     let events = lines[from][6..13].to_vec();
     let (a, b) = (&events[..3], &events[4..]);
     let next: &[u8] = if dice.percent(50) { b"ns1" } else { b"nf1" };
@@ -384,6 +432,7 @@ fn edited_number(dice: &mut Dice, text: &[u8]) -> Vec<u8> {
         2 | 3 => most.to_string(),
         4 => (least - 1).to_string(),
         5 => (most + 1).to_string(),
+        6 | 9 if dice.percent(if key == "finish" { 50 } else { 10 }) => "auto".into(),
         6 => dice.choose(&["", "-", "-0", "+1", "00", "01", "-01", "1 ", " 1", "auto", "offer", "0x1", "1e3", "1,"]).to_string(),
         7 => {
             let digits = dice.choose(&[18, 19, 20, 21, 39, 40, 300, 1000]);
