@@ -79,8 +79,8 @@ fn run(program: &Path, text: &[u8]) -> io::Result<Vec<u8>> {
         read
     })?;
     let status = child.into_inner().unwrap().wait()?;
-    if status.code().is_none() {
-        return Err(io::Error::other(format!("the program was ended: {status}")));
+    if !status.success() {
+        return Err(io::Error::other(format!("the program ended otherwise than with 0: {status}")));
     }
     Ok(answers)
 }
@@ -96,5 +96,6 @@ mod tests {
             assert!(run(Path::new("cat"), &text).unwrap() == text, "{size}");
         }
         assert_eq!(run(Path::new("true"), b"unread").unwrap(), b"");
+        assert!(run(Path::new("false"), b"").is_err());
     }
 }
