@@ -60,6 +60,14 @@ fn number(word: &str) -> io::Result<u64> {
     word.parse().map_err(|_| io::Error::other(format!("no number: {word}")))
 }
 
+/// How many cases; none would pass without a look at anything.
+fn cases(word: &str) -> io::Result<u64> {
+    match number(word)? {
+        0 => Err(io::Error::other("no cases")),
+        count => Ok(count),
+    }
+}
+
 fn subject(what: &str) -> io::Result<Box<dyn Subject>> {
     match what {
         "own" => Ok(Box::new(Own)),
@@ -97,7 +105,7 @@ fn compare_vectors(folder: &str, what: &str) -> io::Result<bool> {
 }
 
 fn game(what: &str, seed: &str, count: &str) -> io::Result<bool> {
-    match demand::check_many(number(seed)?, number(count)?, subject(what)?.as_ref()) {
+    match demand::check_many(number(seed)?, cases(count)?, subject(what)?.as_ref()) {
         Ok(counts) => println!("game: no difference, {counts:?}"),
         Err(why) => {
             println!("game: {why}");
@@ -108,7 +116,7 @@ fn game(what: &str, seed: &str, count: &str) -> io::Result<bool> {
 }
 
 fn compare_cases(what: &str, seed: &str, count: &str) -> io::Result<bool> {
-    let compared = compare::compare(subject(what)?.as_ref(), number(seed)?, number(count)?);
+    let compared = compare::compare(subject(what)?.as_ref(), number(seed)?, cases(count)?);
     for (number, why) in &compared.differences {
         println!("differs: harness case {seed} {number}: {why}");
     }
