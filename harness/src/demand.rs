@@ -18,11 +18,14 @@ pub struct Counts {
     pub latest_k: i64,
     /// Verdicts compared, other rounds among them.
     pub verdicts: u64,
-    /// Positions of plays at which the whole offer was compared.
-    pub offers: u64,
-    /// Answers of sessions that were made from the search alone.
+    /// Positions of plays at which the whole offer of this crate's own run was compared, whatever the implementation.
+    pub own_offers: u64,
+    /// Answers of the implementation's sessions that were made from the search alone.
     pub answers: u64,
 }
+
+/// Plays of a plan that are compared as sessions.
+const SESSIONS: usize = 5;
 
 /// Compares on so many tiny plans of a seed.
 pub fn check_many(seed: u64, count: u64, subject: &dyn Subject) -> Result<Counts, String> {
@@ -52,7 +55,7 @@ fn check(dice: &mut Dice, plan: &Plan, game: &Game, subject: &dyn Subject, count
             counts.lasting += 1;
             settled(dice, plan, after, subject, counts)?;
             own_offers(plan, game, &lasting, counts)?;
-            played(dice, plan, game, &lasting, subject, counts)
+            (0..SESSIONS).try_for_each(|_| played(dice, plan, game, &lasting, subject, counts))
         }
     }
 }
@@ -122,7 +125,7 @@ fn expect(answers: &[String], answer: String) -> Result<(), String> {
 fn own_offers(plan: &Plan, game: &Game, lasting: &Vec<bool>, counts: &mut Counts) -> Result<(), String> {
     let calendar = calendar::calendar(plan).map_err(|refusal| format!("{refusal:?}"))?;
     game.visit_positions(lasting, &mut |previous, this, starts| {
-        counts.offers += 1;
+        counts.own_offers += 1;
         let begins = if previous.is_some() { plan.window } else { 0 };
         let (Some(low), Some(high)) = (starts.first(), starts.last()) else {
             return Err(format!("no start is left after {previous:?} and {this:?}"));
@@ -135,7 +138,8 @@ fn own_offers(plan: &Plan, game: &Game, lasting: &Vec<bool>, counts: &mut Counts
     })
 }
 
-/// A session along one play, its answers made from the search alone.
+/// A session along one play, its answers made from the search alone: each offer, a start and a finish a millisecond outside at either end where
+/// it has a time to write, and the start and the finish of the play.
 fn played(dice: &mut Dice, plan: &Plan, game: &Game, lasting: &Vec<bool>, subject: &dyn Subject, counts: &mut Counts) -> Result<(), String> {
     let mut text = String::from_utf8_lossy(&plan::text(plan)).into_owned();
     let mut answers = String::new();
@@ -150,11 +154,21 @@ fn played(dice: &mut Dice, plan: &Plan, game: &Game, lasting: &Vec<bool>, subjec
             let finish = start + if dice.percent(60) { dice.choose(&[times.min, times.max]) } else { dice.between(times.min, times.max) };
             this.push((start, finish));
             let job = job + 1;
-            text += &format!("ask=offer\nstart={}\n", begins + high + 1);
-            text += &if start == low { "start=auto\n".into() } else { format!("start={}\n", begins + start) };
-            text += &format!("finish={}\nfinish={}\n", begins + start + times.max + 1, begins + finish);
-            answers += &format!("offer={},{}\nrefused=8,0\nstarted={window},{job},{}\n", begins + low, begins + high, begins + start);
-            answers += &format!("refused=9,0\nfinal={window},{job},{}\n", begins + finish);
+            let mut step = |step: String, answer: String| {
+                text += &(step + "\n");
+                answers += &(answer + "\n");
+            };
+            step("ask=offer".into(), format!("offer={},{}", begins + low, begins + high));
+            for t in [begins + low - 1, begins + high + 1].into_iter().filter(|&t| t >= 0) {
+                step(format!("start={t}"), "refused=8,0".into());
+            }
+            let t = begins + start;
+            step(if start == low { "start=auto".into() } else { format!("start={t}") }, format!("started={window},{job},{t}"));
+            for t in [t + times.min - 1, t + times.max + 1].into_iter().filter(|&t| t >= 0) {
+                step(format!("finish={t}"), "refused=9,0".into());
+            }
+            let t = begins + finish;
+            step(format!("finish={t}"), format!("final={window},{job},{t}"));
         }
         previous = Some(this);
     }
