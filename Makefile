@@ -68,7 +68,7 @@ lint:
 	mandoc -T lint -W warning man/*.1 man/*.3
 
 figures: $(archive)
-	cd harness && GEKUMOSARI_ARCHIVE=$(abspath $(archive)) cargo run --release --offline --quiet --features export -- figures > ../target/figures
+	cd harness && GEKUMOSARI_ARCHIVE="$(abspath $(archive))" cargo run --release --offline --quiet --features export -- figures > ../target/figures
 	mv target/figures docs/FIGURES.md
 
 picture:
