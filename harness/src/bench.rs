@@ -9,13 +9,14 @@ use crate::plan::{self, Bound, Event, Job, Plan};
 const BATCHES: usize = 41;
 const BATCH_NANOS: u128 = 500_000;
 
-/// A text and what is measured with it.
+/// A text, the bytes lent for its answer, and what is measured with them.
 pub struct Task {
     pub name: String,
     pub text: Vec<u8>,
+    pub room: usize,
 }
 
-/// The median of some measurements, and the quartiles beside it.
+/// The median of some measurements, and beside it the quartiles or the ends of the range.
 #[derive(Clone, Copy, Debug)]
 pub struct Spread {
     pub lower: f64,
@@ -29,9 +30,16 @@ fn spread(mut values: Vec<f64>) -> Spread {
     Spread { lower: at(1), median: at(2), upper: at(3) }
 }
 
+/// The median of some medians, and their range.
+pub fn range(mut medians: Vec<f64>) -> Spread {
+    medians.sort_by(f64::total_cmp);
+    let last = medians.len() - 1;
+    Spread { lower: medians[0], median: medians[last / 2], upper: medians[last] }
+}
+
 /// Microseconds of one call of each entry, and the ratio of the second entry to the first, batch by batch.
 pub fn measure(task: &Task, entries: &[Entry]) -> (Vec<Spread>, Option<Spread>) {
-    let mut out = vec![0; ROOM];
+    let mut out = vec![0; task.room];
     let mut batch = |entry: Entry, calls: usize| {
         let begin = thread_nanos();
         for _ in 0..calls {
@@ -50,9 +58,10 @@ pub fn measure(task: &Task, entries: &[Entry]) -> (Vec<Spread>, Option<Spread>) 
         })
         .collect();
     let mut times = vec![Vec::new(); entries.len()];
-    for _ in 0..BATCHES {
-        for (at, &entry) in entries.iter().enumerate() {
-            times[at].push(batch(entry, calls[at]) as f64 / calls[at] as f64 / 1000.0);
+    for turn in 0..BATCHES {
+        // Each is called first in its turn: what the one leaves in the caches and the predictors, the other finds.
+        for at in (0..entries.len()).map(|place| (place + turn) % entries.len()) {
+            times[at].push(batch(entries[at], calls[at]) as f64 / calls[at] as f64 / 1000.0);
         }
     }
     let ratios = (times.len() > 1).then(|| spread(times[0].iter().zip(&times[1]).map(|(first, second)| second / first).collect()));
@@ -66,6 +75,7 @@ pub fn tasks() -> Vec<Task> {
     tasks.extend((1..=plan::JOBS_MOST).map(verdict));
     tasks.extend([1, 3, 10, 100, 1000].map(rounds));
     tasks.extend([10, 100, 1000, 6000].map(steps));
+    tasks.push(just_held(steps(1000)));
     tasks
 }
 
@@ -79,12 +89,12 @@ fn reading() -> Task {
     }
     let mut text = plan::text(&plan);
     text.pop();
-    Task { name: "read, jobs=9, bounds=64".into(), text }
+    Task { name: "read, jobs=9, bounds=64".into(), text, room: ROOM }
 }
 
 fn verdict(jobs: usize) -> Task {
     let (settled, plan) = named(jobs, 3);
-    Task { name: format!("verdict, jobs={jobs}, bounds={}, settled={settled}", plan.bounds.len()), text: plan::text(&plan) }
+    Task { name: format!("verdict, jobs={jobs}, bounds={}, settled={settled}", plan.bounds.len()), text: plan::text(&plan), room: ROOM }
 }
 
 /// The first random plan of so many jobs with a good number of bounds that settles in this round, or else in the latest found.
@@ -118,7 +128,7 @@ fn rounds(rounds: i64) -> Task {
         bounds.push(Bound { a: start(true, at), b: start(false, at), c: 150_000 });
     }
     let plan = Plan { window: 100_000, rounds, last: 1000, jobs: (0..9).map(job).collect(), bounds };
-    Task { name: format!("verdict, jobs=9, rounds={rounds}"), text: plan::text(&plan) }
+    Task { name: format!("verdict, jobs=9, rounds={rounds}"), text: plan::text(&plan), room: ROOM }
 }
 
 /// Plan P with short windows, asked twice before each start.
@@ -137,7 +147,13 @@ fn steps(count: i64) -> Task {
             _ => run_text(format!("finish={}\n", step / 4 * 2)),
         }
     }
-    Task { name: format!("session, {count} steps"), text }
+    Task { name: format!("session, {count} steps"), text, room: ROOM }
+}
+
+/// The same in the shortest slice that holds the answer, where the export measures it before it writes.
+fn just_held(task: Task) -> Task {
+    let room = crate::dispatch_output(&task.text).len();
+    Task { name: format!("{}, slice just holds it", task.name), room, ..task }
 }
 
 #[cfg(test)]
@@ -145,12 +161,19 @@ mod tests {
     use super::*;
 
     #[test]
+    fn a_range_is_of_all_medians() {
+        let Spread { lower, median, upper } = range(vec![4.0, 1.0, 5.0, 2.0, 3.0]);
+        assert_eq!((lower, median, upper), (1.0, 3.0, 5.0));
+    }
+
+    #[test]
     fn tasks_are_what_they_say() {
         for task in tasks() {
             assert!(task.text.len() <= crate::text::TEXT_MOST, "{}", task.name);
             let answers = String::from_utf8(crate::dispatch_output(&task.text)).unwrap();
             let lines = answers.lines().count();
-            if let Some(count) = task.name.strip_prefix("session, ").and_then(|name| name.strip_suffix(" steps")) {
+            assert_eq!(task.room == answers.len(), task.name.ends_with("just holds it"), "{}", task.name);
+            if let Some((count, _)) = task.name.strip_prefix("session, ").and_then(|name| name.split_once(" steps")) {
                 assert_eq!(lines, count.parse::<usize>().unwrap());
                 assert!(!answers.contains("refused"), "{}", task.name);
             } else if task.name.contains("rounds=") {

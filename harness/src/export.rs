@@ -152,8 +152,8 @@ extern "C" fn make_call(argument: *mut c_void) -> *mut c_void {
 
 /// Bytes of stack that a call needs: it runs on a stack that is painted before, and the lowest byte that it changed is looked up.
 /// Linux only, where stacks grow down.
-pub fn stack_use(entry: Entry, text: &[u8]) -> usize {
-    let mut out = vec![0; ROOM];
+pub fn stack_use(entry: Entry, text: &[u8], room: usize) -> usize {
+    let mut out = vec![0; room];
     let mut call = Call { entry, text, out: &mut out, from: 0 };
     let mut stack: Vec<Page> = (0..STACK / 4096).map(|_| Page([PAINT; 4096])).collect();
     let bottom: *mut Page = stack.as_mut_ptr();
@@ -195,13 +195,13 @@ mod tests {
 
     #[test]
     fn stack_use_is_about_what_a_call_takes() {
-        let small = stack_use(|_, _| 0, b"");
+        let small = stack_use(|_, _| 0, b"", ROOM);
         let large: Entry = |_, out| {
             let mut local = [0u8; 100_000];
             local.iter_mut().zip(out.iter_mut()).for_each(|(a, b)| *a = *b + 1);
             i64::from(std::hint::black_box(&mut local)[17])
         };
-        let large = stack_use(large, b"");
+        let large = stack_use(large, b"", ROOM);
         assert!(small < 5_000 && (100_000..110_000).contains(&large), "{small} {large}");
     }
 }

@@ -2,9 +2,9 @@
 
 use std::io::{self, Read, Write};
 use std::path::Path;
-use std::process::ExitCode;
+use std::process::{Command, ExitCode, Stdio};
 
-use harness::bench::{measure, tasks, Spread};
+use harness::bench::{measure, range, tasks, Spread};
 use harness::export::{stack_use, Entry};
 use harness::subject::{Own, Programs, Subject};
 use harness::{compare, demand, generate, picture, vectors};
@@ -18,7 +18,7 @@ harness compare WHAT SEED COUNT    random plans, sessions and damaged texts, com
 harness case SEED NUMBER           the text of one case of `compare`
 harness corpus SEED COUNT DIR      sessions among the cases, each in a file
 harness bench                      times of one call; with the feature `export` also ratios and stack use
-harness figures                    the same as the page docs/FIGURES.md (with the feature `export`)
+harness figures                    the same in several processes, as the page docs/FIGURES.md (with the feature `export`)
 harness picture SESSION ANSWERS J  window J of a session as a picture in SVG, from the files of its text and of its answers
 
 WHAT is a folder with the programs calendar and dispatch, `own`, or `export` (with the feature `export`).";
@@ -43,6 +43,8 @@ fn main() -> ExitCode {
         ["corpus", seed, count, folder] => corpus(seed, count, Path::new(folder)),
         ["bench"] => bench(),
         ["figures"] => figures(),
+        // One of the processes of `figures`.
+        ["figures", "medians"] => print_medians(),
         ["picture", session, answers, window] => draw(session, answers, window),
         _ => Err(io::Error::other(USAGE)),
     };
@@ -177,7 +179,7 @@ fn rows(entries: &[(&str, Entry)]) -> impl Iterator<Item = Row> {
     let calls: Vec<Entry> = entries.iter().map(|(_, entry)| *entry).collect();
     tasks().into_iter().map(move |task| {
         let (times, ratio) = measure(&task, &calls);
-        let stack = calls.iter().map(|&entry| stack_use(entry, &task.text)).collect();
+        let stack = calls.iter().map(|&entry| stack_use(entry, &task.text, task.room)).collect();
         Row { name: task.name, times, ratio, stack }
     })
 }
@@ -202,30 +204,60 @@ const FIGURES: &str = "\
 # Figures
 
 `make figures` measures and writes this page. The export for C and the second implementation (harness/, Rust, release build) are linked into
-one process and called on the same texts, in turns, 41 batches of each. Times are the processor's microseconds of one call: the median, and the
-quartiles in parentheses. The ratio is the export's time to that of the second implementation, batch by batch. Stack is the bytes that a call
-needs below its caller, measured on a stack that is painted before the call.
+one process and called on the same texts, in turns, 41 batches of each, now the one first and now the other. That is done in five processes,
+one after the other, since where a process happens to lie in memory moves the ratio more than the batches do. Times are the processor's
+microseconds of one call: the median of the five medians, and their range in parentheses. The ratio is the export's time to that of the second
+implementation, batch by batch, and of its five medians the same is told. Stack is the bytes that a call needs below its caller, measured on a
+stack that is painted before the call.
 
 - read: a plan of nine jobs and 64 bounds that is refused at its last line, so that there is no verdict
 - verdict by jobs: a plan without steps; the call reads it, settles it and makes its calendar
 - verdict by rounds: a plan of nine jobs that loses a millisecond in each round and is refused by 5 in the end
-- session: a plan of one job, asked twice before each start; answers are written whole
+- session: a plan of one job, asked twice before each start; answers are written whole, and where the slice just holds them, the export measures
+  them first
 ";
+
+/// The processes that `figures` measures in; FIGURES tells their number.
+const PROCESSES: usize = 5;
+
+/// A line for each task: its name, then the medians of both times and of the ratio, and both stacks.
+fn print_medians() -> io::Result<bool> {
+    for row in rows(&entries()) {
+        let medians = row.times.iter().chain(&row.ratio).map(|spread| spread.median);
+        let numbers: Vec<String> = medians.chain(row.stack.iter().map(|&bytes| bytes as f64)).map(|number| number.to_string()).collect();
+        println!("{}\t{}", row.name, numbers.join("\t"));
+    }
+    Ok(true)
+}
+
+/// The names and the numbers that a process of its own prints.
+fn medians() -> io::Result<Vec<(String, Vec<f64>)>> {
+    let child = Command::new(std::env::current_exe()?).args(["figures", "medians"]).stderr(Stdio::inherit()).output()?;
+    let printed = String::from_utf8_lossy(&child.stdout).into_owned();
+    let row = |line: &str| {
+        let (name, numbers) = line.split_once('\t')?;
+        Some((name.to_string(), numbers.split('\t').map(str::parse).collect::<Result<Vec<f64>, _>>().ok()?))
+    };
+    let rows: Option<Vec<_>> = printed.lines().map(row).collect();
+    rows.filter(|_| child.status.success()).ok_or_else(|| io::Error::other(format!("a process that measures failed: {}", child.status)))
+}
 
 /// The page docs/FIGURES.md, with the figures of this machine.
 fn figures() -> io::Result<bool> {
-    let entries = entries();
-    if entries.len() < 2 {
+    if entries().len() < 2 {
         return Err(io::Error::other("built without the feature `export`"));
     }
+    let processes = (0..PROCESSES).map(|_| medians()).collect::<io::Result<Vec<_>>>()?;
     let processors = std::fs::read_to_string("/proc/cpuinfo").unwrap_or_default();
     let processor =
         processors.lines().find_map(|line| line.strip_prefix("model name")).map_or("unknown", |name| name.trim_start_matches([' ', '\t', ':']));
     println!("{FIGURES}\nProcessor: {processor}.\n");
     println!("| what | export | harness | ratio | stack, export | stack, harness |\n|---|---|---|---|---|---|");
-    for row in rows(&entries) {
-        let ratio = row.ratio.map_or(String::new(), shown);
-        println!("| {} | {} | {} | {ratio} | {} | {} |", row.name, shown(row.times[1]), shown(row.times[0]), row.stack[1], row.stack[0]);
+    for (row, (name, _)) in processes[0].iter().enumerate() {
+        let column = |at: usize| range(processes.iter().map(|rows| rows[row].1[at]).collect());
+        let [harness, export, ratio] = [0, 1, 2].map(|at| shown(column(at)));
+        let [harness_stack, export_stack] = [3, 4].map(|at| column(at).upper);
+        println!("| {name} | {export} | {harness} | {ratio} | {export_stack} | {harness_stack} |");
     }
     println!("{GROWTH}");
     Ok(true)
