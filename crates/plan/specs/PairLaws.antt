@@ -1,7 +1,7 @@
--- The laws of pairs as numbers: one turn of the search (`isIn-stop`, `isIn-past`, `isIn-end`), and that the numbers decide as the pairs do
+-- The laws of pairs as numbers: one turn of the search (`isIn-stop`, `isIn-past`, `isIn-end`; with what was found before, `or-stop`, `or-end`), and that the numbers decide as the pairs do
 -- (`isWrongNumbered-pair`) where every job's number is below 256; a pair is judged test by test (`isWrongNumbered-next`, `-same`, `-given`).
 use mathlib.Core.Path.{_≡_, refl, sym}
-use mathlib.Core.Bool.{Bool, true, false, _&&_}
+use mathlib.Core.Bool.{Bool, true, false, _&&_, _||_}
 use mathlib.Core.List.{List, [], _∷_, map}
 use Prim.Native.Nat.{ℕ, _+_, _*_, _≤_, _<_}
 use native.Mathlib.Omega.{arith}
@@ -32,6 +32,14 @@ module _ (x : ℕ) (s : List ℕ) (n i : ℕ) (within : n ≤ length s) where
   pub isIn-end : n ≤ i → isIn x (drop i (take n s)) ≡ false
   unfolding isIn
   isIn-end h = rw (drop-of-length-le (take n s) {i = i} (simp length-take (omega arith)))
+
+pub or-stop : (found now rest : Bool) → now ≡ true → found || now ≡ true || rest
+or-stop true now rest e = refl
+or-stop false now rest e = e
+
+pub or-end : (found now : Bool) → now ≡ false → found || now ≡ found
+or-end true now e = refl
+or-end false now e = e
 
 -- ---- pairs and their numbers
 

@@ -15,19 +15,20 @@ pub fn pair_number(a: EventName, b: EventName) -> u32
     event_number(a) * 1024 + event_number(b)
 }
 
-// Whether x is among the first n numbers.
+// Whether x is among the first n numbers. All of them are looked at, so that the machine can compare several at a time.
 fn is_in(x: u32, numbers: &[u32; MOST_BOUNDS], n: usize) -> bool
     requires { ⌜ (n ≤ 64) × (n ≤ length (now numbers)) ⌝ }
     ensures { λ r. ⌜ r ≡ isIn x (take n (now (numbers .entry))) ⌝ }
 {
+    let mut found = false;
     let mut i = 0;
     while i < n {
         if numbers[i] == x {
-            return true;
+            found = true;
         }
         i += 1;
     }
-    false
+    found
 }
 
 // Whether A,B is a wrong pair after the first n pairs, which are given by their numbers.
