@@ -1,6 +1,6 @@
 -- The laws of a whole text in a lent slice: one that has room is written, with its length as the answer (`stored-whole`); one that has none is refused by 12 and
 -- leaves every byte (`stored-none`). A text that was measured first, on a part without places, which leaves every byte too, is refused or written by its
--- measure (`measured-none`, `measured-whole`). A text is stored, and written, as any text that equals it
+-- measure (`measured-none`, `measured-whole`); and it is no longer than where its writer came to (`wrote-within`). A text is stored, and written, as any text that equals it
 -- (`stored-as`, `wrote-as`). A length that a writer answers counts bytes of its slice (`written-counts`).
 
 use Prim.Native.Nat.{ℕ, _≤_, _<_}
@@ -66,6 +66,11 @@ module _ {t out o o′ : List ℕ} {n : ℕ} (p : Stored o 0 t o′ n) (h : leng
       let r : Stored out 0 t out′ m = rw part-keeps at q in
       let l : n ≤ length out = rw part-keeps at g in
       stored-whole r (omega (arith, stored-length p, stored-length r))
+
+-- and the text is no longer than where its writer came to
+pub wrote-within : {t out out′ o o′ : List ℕ} {r : Written} {n k : ℕ} → Stored o 0 t o′ n → n ≤ k → WroteAll t out r out′
+    → (r ≡ writtenAs t out) × ((out′ ≡ written t out) × (length t ≤ k))
+wrote-within p h w = (w .answer, (w .bytes, omega (arith, stored-length p)))
 
 -- what was written as one text was written as any text that equals it
 pub wrote-as : (out : List ℕ) {t u o : List ℕ} {r : Written} {k m : ℕ} → k ≤ m → t ≡ u

@@ -1,7 +1,6 @@
--- `write_refused`: by the measure of the line (`measured-none`, `measured-whole`).
+-- `write_refused`: by the measure of the line (`measured-none`, `measured-whole`), which bounds its length (`wrote-within`).
 use mathlib.Core.Path.{refl}
-use native.Mathlib.Omega.{arith}
-use Rattle.plan.specs.WrittenLaws.{measured-none, measured-whole}
+use Rattle.plan.specs.WrittenLaws.{measured-none, measured-whole, wrote-within}
 use borrow.Author.Needs.{needs}
 use Rattle.plan.proofs.refused.write_refused.Statement.{statement}
 use Rattle.plan.proofs.refused.write_refused.Tie as tie
@@ -21,8 +20,7 @@ same-length c = search needs
 returns : tie.Need-returns
 returns c =
     let line = c .before .before .before .put-refused .ensures in
-    let d = measured-none (line .0) refl (c .if1 .taken) in
-    (d .answer, (d .bytes, omega (arith, line .0 .place, line .1)))
+    wrote-within (line .0) (line .1) (measured-none (line .0) refl (c .if1 .taken))
 
 put-refused-requires-2 : tie.Need-put-refused-requires-2
 put-refused-requires-2 c κs = search needs
@@ -33,8 +31,8 @@ same-length-2 c = search needs
 returns-2 : tie.Need-returns-2
 returns-2 c =
     let line = c .before .before .put-refused2 .ensures in
-    let d = measured-whole (c .before .before .before .before .before .before .before .put-refused .ensures .0) refl (c .before .before .before .before .if1 .left) (line .0) in
-    (d .answer, (d .bytes, omega (arith, line .0 .place, line .1)))
+    let measured = c .before .before .before .before .before .before .before .put-refused .ensures in
+    wrote-within (line .0) (line .1) (measured-whole (measured .0) refl (c .before .before .before .before .if1 .left) (line .0))
 
 pub write-refused-spec : {M : Type 1} → statement M
 write-refused-spec =
