@@ -1,26 +1,33 @@
--- The table of refusals (document 01, 'Refusals') as the lines that are printed.
+-- The table of refusals (document 01, 'Numbers of refusal') as the lines that are printed.
 use mathlib.Core.Path.{_≡_, refl}
+use Prim.Native.String.{String}
 use mathlib.Core.List.{List, [], _∷_, map}
 use Rattle.text.specs.Bytes.{bytes}
 use Rattle.plan.specs.declared.Refusal.{Refusal}
-use Rattle.plan.specs.declared.Refusal.the-variants.{
-  Form,
-  Range,
-  Pair,
-  NoStrategy,
-  Unsettled,
-  Running,
-  Idle,
-  OutsideOffer,
-  OutsideTimes,
-  Over,
-  EmptyOffer,
-  NoRoom,
-}
+use Rattle.plan.specs.declared.Refusal.the-variants as refusal
 use Rattle.plan.specs.Refusals.{refusedLine}
 use Rattle.promises.specs.Case.{computing}
 
-pub table-right : map refusedLine (Form 3 ∷ Range 0 ∷ Pair 65535 ∷ NoStrategy 8 ∷ Unsettled 1000 ∷ Running ∷ Idle ∷ OutsideOffer ∷ OutsideTimes ∷ Over ∷ EmptyOffer ∷ NoRoom ∷ [])
-    ≡ map bytes ("refused=1,3\n" ∷ "refused=2,0\n" ∷ "refused=3,65535\n" ∷ "refused=4,8\n" ∷ "refused=5,1000\n" ∷ "refused=6,0\n" ∷ "refused=7,0\n" ∷ "refused=8,0\n" ∷ "refused=9,0\n" ∷ "refused=10,0\n" ∷ "refused=11,0\n" ∷ "refused=12,0\n" ∷ [])
+pub record Told : Type 0 where
+  pub refused : Refusal
+  pub line : String
+
+abbrev table : List Told
+table =
+    record { refused = refusal.Form 3; line = "refused=1,3\n" }
+    ∷ record { refused = refusal.Range 0; line = "refused=2,0\n" }
+    ∷ record { refused = refusal.Pair 65535; line = "refused=3,65535\n" }
+    ∷ record { refused = refusal.NoStrategy 8; line = "refused=4,8\n" }
+    ∷ record { refused = refusal.Unsettled 1000; line = "refused=5,1000\n" }
+    ∷ record { refused = refusal.Running; line = "refused=6,0\n" }
+    ∷ record { refused = refusal.Idle; line = "refused=7,0\n" }
+    ∷ record { refused = refusal.OutsideOffer; line = "refused=8,0\n" }
+    ∷ record { refused = refusal.OutsideTimes; line = "refused=9,0\n" }
+    ∷ record { refused = refusal.Over; line = "refused=10,0\n" }
+    ∷ record { refused = refusal.EmptyOffer; line = "refused=11,0\n" }
+    ∷ record { refused = refusal.NoRoom; line = "refused=12,0\n" }
+    ∷ []
+
+pub table-right : map (λ (t : Told). refusedLine (t .refused)) table ≡ map (λ (t : Told). bytes (t .line)) table
 unfolding computing
 table-right = refl
