@@ -47,6 +47,12 @@ nearlyRight =
       input = "window=3\nrounds=4\nlast=1000\njobs=1\nmin=0\nmax=0\nrelease=0\ndeadline=3\nbounds=1\nbound=ns1,ts1,2\n";
       output = "refused=4,5\n";
     }
+    ∷  -- no round repeats the one before it, although the first repeats every bound to and from the origin
+    record {
+      program = Calendar;
+      input = "window=7\nrounds=1\nlast=1000\njobs=2\nmin=1\nmax=2\nrelease=1\ndeadline=7\nmin=1\nmax=4\nrelease=3\ndeadline=9\nbounds=1\nbound=ns1,ts1,7\n";
+      output = "refused=5,1\n";
+    }
     ∷ []
 
 pub nearlyRight-right : Right nearlyRight
