@@ -1,0 +1,20 @@
+// The operations on values, run: what other programs read from a text is put together by hand here, and handed over. It reads no input; what it prints is compared
+// with the file `stdout` beside it, which was written from document 01 and not by this program.
+
+mod limits;
+mod made;
+mod plans;
+mod steps;
+mod told;
+
+fn main() {
+    plans::decisions();
+    plans::refusals();
+    plans::texts();
+    steps::session_of_p();
+    steps::refusals();
+    steps::first_rows();
+    limits::of_runs();
+    limits::of_calendars();
+    limits::of_times();
+}
