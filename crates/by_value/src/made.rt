@@ -19,10 +19,12 @@ use runs::Run;
 
 // ---- plans
 
+// `bound=A,B,c`.
 fn bound_of(a: EventName, b: EventName, c: i32) -> Bound {
     Bound { a: a, b: b, c: c }
 }
 
+// An event's name.
 fn name_of(letter: Letter, kind: Kind, job: u8) -> EventName {
     EventName {
         letter: letter,
@@ -181,6 +183,7 @@ pub fn calendar_p() -> Calendar {
 
 // ---- runs
 
+// A run waits for a job of a window.
 pub fn waiting(window: u64, job: usize) -> Phase {
     Phase::Waiting {
         window: window,
@@ -188,6 +191,7 @@ pub fn waiting(window: u64, job: usize) -> Phase {
     }
 }
 
+// It runs one since some start.
 pub fn running(window: u64, job: usize, start: i64) -> Phase {
     Phase::Running {
         window: window,
@@ -196,6 +200,7 @@ pub fn running(window: u64, job: usize, start: i64) -> Phase {
     }
 }
 
+// A probe that ran from start to finish.
 pub fn ran(start: i64, finish: i64) -> Probe {
     Probe {
         start: RunTime(start),

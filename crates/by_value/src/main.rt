@@ -1,5 +1,5 @@
-// The operations on values, run: what other programs read from a text is put together by hand here, and handed over. It reads no input; what it prints is compared
-// with the file `stdout` beside it, which was written from document 01 and not by this program.
+// The operations on values, run: what other programs read from a text is put together by hand here, and handed over. It reads no input; what it
+// prints is compared with the crate's file `stdout`, which was written from document 01 and not by this program.
 
 mod limits;
 mod made;

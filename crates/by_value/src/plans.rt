@@ -48,13 +48,26 @@ fn judged(p: Plan) {
     }
 }
 
-// What writing a plan answers, and all bytes of the lent slice after it.
-fn wrote(p: Plan, out: &mut [u8]) {
-    let told = values::write_plan(p, out);
-    match told {
+// What writing into a lent slice came to.
+fn tell_written(w: Written) {
+    match w {
         Written::Length(m) => tell_line(b"length=", m as u64),
         Written::Refused(x) => tell_refused(x),
     }
+}
+
+// What writing a plan answers, and all bytes of the lent slice after it.
+fn wrote(p: Plan, out: &mut [u8]) {
+    let w = values::write_plan(p, out);
+    tell_written(w);
+    say(out);
+    say(b"\n");
+}
+
+// The same of the text that tells what is decided of it.
+fn answered_in(p: Plan, out: &mut [u8]) {
+    let w = calendars::answer_value(p, out);
+    tell_written(w);
     say(out);
     say(b"\n");
 }
@@ -135,7 +148,7 @@ pub fn refusals() {
 }
 
 // P has 115 bytes.
-pub fn texts() {
+fn plan_texts() {
     let p = plan_p();
     let mut wide = [b'.'; 116];
     let mut just = [b'.'; 115];
@@ -145,4 +158,19 @@ pub fn texts() {
     wrote(p, &mut wide);
     wrote(p, &mut just);
     wrote(p, &mut short);
+}
+
+// Its calendar has 57.
+fn calendar_texts() {
+    let p = plan_p();
+    let mut just = [b'.'; 57];
+    let mut short = [b'.'; 56];
+    say(b"its calendar into 57 and 56 bytes\n");
+    answered_in(p, &mut just);
+    answered_in(p, &mut short);
+}
+
+pub fn texts() {
+    plan_texts();
+    calendar_texts();
 }

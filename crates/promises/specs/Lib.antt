@@ -1,6 +1,6 @@
 -- The front page of the proofs. In reading order: a case, the worked examples of document 01 as one list with one theorem, the readings of the
--- document where it leaves room, plans that tell right from nearly right, the table of refusals, faulty lines, and steps on values, as closed cases; then what is
--- promised of every text.
+-- document where it leaves room, plans that tell right from nearly right, the table of refusals, faulty lines, and steps on values, as closed
+-- cases; then what is promised of every text.
 pub mod Case
 pub mod Examples
 pub mod Readings
