@@ -12,7 +12,6 @@ use crate::made::shut_run;
 use crate::made::waiting;
 use crate::told::say;
 use crate::told::told;
-use calendars::Calendar;
 use clock::RunTime;
 use runs::Phase;
 use runs::Probe;
@@ -86,36 +85,29 @@ pub fn of_runs() {
 
 // ---- calendars
 
-// An ask of P with a calendar, at the run's beginning.
-fn asked_by(c: Calendar) {
+// An ask of P at the run's beginning, with a calendar of its job.
+fn asked_by(low: i64, high: i64, below: u64, c: i32, above: u64, d: i32) {
     let p = plan_p();
+    let calendar = calendar_with(low, high, below, c, above, d);
     let run = runs::new_run();
-    let a = runs::ask(p, c, run);
+    let a = runs::ask(p, calendar, run);
     told(a);
 }
 
 // Low at its least and below it, and high above its greatest.
 fn ends() {
-    let least = calendar_with(-1_000_000_000, 6, 1, 8, 1, 12);
-    let less = calendar_with(-1_000_000_001, 6, 1, 8, 1, 12);
-    let more = calendar_with(0, 1_000_000_001, 1, 8, 1, 12);
-    asked_by(least);
-    asked_by(less);
-    asked_by(more);
+    asked_by(-1_000_000_000, 6, 1, 8, 1, 12);
+    asked_by(-1_000_000_001, 6, 1, 8, 1, 12);
+    asked_by(0, 1_000_000_001, 1, 8, 1, 12);
 }
 
 // From below and from above: the start of the job itself, and a c out of range; and a c that no bit names, which is no part of the calendar.
 fn sides() {
-    let own_below = calendar_with(0, 6, 5, 8, 1, 12);
-    let own_above = calendar_with(0, 6, 1, 8, 5, 12);
-    let c_below = calendar_with(0, 6, 1, -1_000_000_001, 1, 12);
-    let c_above = calendar_with(0, 6, 1, 8, 1, 1_000_000_001);
-    let unnamed = calendar_with(0, 6, 0, -1_000_000_001, 1, 12);
-    asked_by(own_below);
-    asked_by(own_above);
-    asked_by(c_below);
-    asked_by(c_above);
-    asked_by(unnamed);
+    asked_by(0, 6, 5, 8, 1, 12);
+    asked_by(0, 6, 1, 8, 5, 12);
+    asked_by(0, 6, 1, -1_000_000_001, 1, 12);
+    asked_by(0, 6, 1, 8, 1, 1_000_000_001);
+    asked_by(0, 6, 0, -1_000_000_001, 1, 12);
 }
 
 pub fn of_calendars() {

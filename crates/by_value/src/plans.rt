@@ -126,25 +126,41 @@ fn refused(p: Plan) {
     wrote(p, &mut out);
 }
 
-pub fn refusals() {
-    let again = starts(Letter::Next, Letter::This, 12);
-    let twelfth = starts_from(12, Letter::Next, Letter::This, 12);
-    let second = starts_from(2, Letter::Next, Letter::This, 12);
+// 2 on the line of the window, and on that of max.
+fn out_of_range() {
     let without_window = plan_like_p(0, 1000, 4);
     let min_above_max = plan_like_p(10, 1000, 1);
-    let of_two_digits = plan_between(twelfth, again);
-    let of_another_job = plan_between(again, second);
-    let given_again = plan_between(again, again);
     say(b"window 0\n");
     refused(without_window);
     say(b"min above max\n");
     judged(min_above_max);
+}
+
+// A job number of two digits lacks the form; one above `jobs` is out of range.
+fn strange_jobs() {
+    let first = starts(Letter::Next, Letter::This, 12);
+    let twelfth = starts_from(12, Letter::Next, Letter::This, 12);
+    let second = starts_from(2, Letter::Next, Letter::This, 12);
+    let of_two_digits = plan_between(twelfth, first);
+    let of_another_job = plan_between(first, second);
     say(b"job 12 in an event\n");
     refused(of_two_digits);
     say(b"job 2 of one\n");
     judged(of_another_job);
+}
+
+// 3 on the line of the second bound.
+fn pair_again() {
+    let again = starts(Letter::Next, Letter::This, 12);
+    let given_again = plan_between(again, again);
     say(b"a pair again\n");
     refused(given_again);
+}
+
+pub fn refusals() {
+    out_of_range();
+    strange_jobs();
+    pair_again();
 }
 
 // P has 115 bytes.

@@ -13,6 +13,7 @@ use calendars::Calendar;
 use clock::RunTime;
 use plan::Plan;
 use runs::Choice;
+use runs::Phase;
 use runs::Run;
 use runs::Step;
 
@@ -108,18 +109,21 @@ fn over(p: Plan, c: Calendar, run: Run) {
     finish(p, c, auto, 5);
 }
 
+// An ask in a run whose offer is empty.
+fn ask_shut(p: Plan, c: Calendar, phase: Phase) -> Run {
+    let run = shut_run(phase);
+    ask(p, c, run)
+}
+
 // 11, and before it 10 and 6.
 fn shut(p: Plan, c: Calendar) {
     let last = waiting(1000, 1);
     let past = waiting(1001, 1);
     let busy = running(1000, 1, 7);
-    let in_last = shut_run(last);
-    let in_past = shut_run(past);
-    let in_busy = shut_run(busy);
-    let asked = ask(p, c, in_last);
+    let asked = ask_shut(p, c, last);
     start_auto(p, c, asked);
-    ask(p, c, in_past);
-    ask(p, c, in_busy);
+    ask_shut(p, c, past);
+    ask_shut(p, c, busy);
 }
 
 pub fn refusals() {
