@@ -8,12 +8,12 @@ use Rattle.clock.specs.declared.WindowTime.{WindowTime}
 use Rattle.clock.specs.declared.RunTime.{RunTime}
 
 -- 'window j begins at (j-1) x window on the run's clock'
-abbrev pub beginsAt : ℤ → ℕ → ℤ
-beginsAt window j = pos (j - 1) *ℤ window
+abbrev pub beginsAt : ℤ → ℕ → RunTime
+beginsAt window j = record { 0 = pos (j - 1) *ℤ window }
 
 -- 'A time on a window's own clock and a time on the run's clock are kept apart'
 abbrev pub onRun : ℤ → ℕ → WindowTime → RunTime
-onRun window j t = record { 0 = beginsAt window j +ℤ t .0 }
+onRun window j t = record { 0 = beginsAt window j .0 +ℤ t .0 }
 
 -- ---- times on the run's clock: compared, and moved by a number of milliseconds
 

@@ -26,19 +26,19 @@ module _ (window : ℤ) (j : ℕ) (s : Spanned window j) where
   up-most : up window ≤ 86400000
   up-most = omega (wholes, dn-none)
 
-  pub beginsAt-least : pos 0 ≤ℤ beginsAt window j
+  pub beginsAt-least : pos 0 ≤ℤ beginsAt window j .0
   beginsAt-least = omega (wholes, split-mul (j - 1) window, mul-le-mul {n₁ = j - 1} {n₂ = 1000000000} (omega arith) dn-none)
 
-  pub beginsAt-greatest : beginsAt window j ≤ℤ pos 86400000000000000
+  pub beginsAt-greatest : beginsAt window j .0 ≤ℤ pos 86400000000000000
   beginsAt-greatest = omega (wholes, split-mul (j - 1) window, mul-le-mul {n₁ = j - 1} {n₂ = 1000000000} (omega arith) up-most)
 
   pub window-fits : SFits w64 window
   window-fits = omega wholes
 
-  pub beginsAt-fits : SFits w64 (beginsAt window j)
+  pub beginsAt-fits : SFits w64 (beginsAt window j .0)
   beginsAt-fits = let l = beginsAt-least in let g = beginsAt-greatest in omega wholes
 
-  pub onRun-fits : {t : ℤ} → Near t → SFits w64 (beginsAt window j +ℤ t)
+  pub onRun-fits : {t : ℤ} → Near t → SFits w64 (beginsAt window j .0 +ℤ t)
   onRun-fits n = let l = beginsAt-least in let g = beginsAt-greatest in omega wholes
 
 -- ---- sums of the machine

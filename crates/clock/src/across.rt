@@ -7,13 +7,14 @@ ghost use Rattle.clock.specs.Clock.{beginsAt, onRun};
 ghost use Rattle.clock.specs.Spans.{Spanned, Near};
 
 // When window j begins on the run's clock.
-pub fn begins_at(window: i32, j: u64) -> i64
+pub fn begins_at(window: i32, j: u64) -> RunTime
     requires { ⌜ Spanned window j ⌝ }
     ensures { λ r. ⌜ r ≡ beginsAt window j ⌝ }
 {
     let before = (j - 1) as i64;
     let length = window as i64;
-    before * length
+    let beginning = before * length;
+    RunTime(beginning)
 }
 
 // A time of window j, on the run's clock.
@@ -22,7 +23,9 @@ pub fn on_run(window: i32, j: u64, t: WindowTime) -> RunTime
     requires { ⌜ Near (t .0) ⌝ }
     ensures { λ r. ⌜ r ≡ onRun window j t ⌝ }
 {
-    let beginning = begins_at(window, j);
+    let first = begins_at(window, j);
+    let beginning = first.0;
     let own = t.0;
-    RunTime(beginning + own)
+    let time = beginning + own;
+    RunTime(time)
 }

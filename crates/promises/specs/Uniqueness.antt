@@ -18,7 +18,7 @@ use Rattle.rounds.specs.Rounds.{verdict}
 
 -- ---- clock
 
-pub begins-at-unique : (window : ℤ) (j : ℕ) {r q : ℤ} → r ≡ beginsAt window j → q ≡ beginsAt window j → r ≡ q
+pub begins-at-unique : (window : ℤ) (j : ℕ) {r q : RunTime} → r ≡ beginsAt window j → q ≡ beginsAt window j → r ≡ q
 begins-at-unique window j = only
 
 pub on-run-unique : (window : ℤ) (j : ℕ) (t : WindowTime) {r q : RunTime} → r ≡ onRun window j t → q ≡ onRun window j t → r ≡ q

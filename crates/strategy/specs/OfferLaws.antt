@@ -292,7 +292,7 @@ module _ (p : Plan) (few : p .jobs ≤ mostJobs) (ts : List Rows) (all : length 
 
   end-is : (pick : ℤ → ℤ → ℤ) (bits : Terms → ℕ) (base : Terms → ℤ) (cs : List ℤ)
       → endFrom pick p r (bits (getD (calendarOf p ts .terms) (suc i - 1) noTerms)) cs ((suc i - 1) * mostEvents)
-      (beginsAt (p .window) (suc J) +ℤ base (getD (calendarOf p ts .terms) (suc i - 1) noTerms)) 0 (eventsBefore p (suc i - 1))
+      (beginsAt (p .window) (suc J) .0 +ℤ base (getD (calendarOf p ts .terms) (suc i - 1) noTerms)) 0 (eventsBefore p (suc i - 1))
       ≡ endFrom pick p r (bits (termsOf p i table)) cs (i * mostEvents) ((pos J *ℤ p .window) +ℤ base (termsOf p i table)) 0 (eventsBefore p i)
   end-is pick bits base cs =
       ap₂

@@ -22,15 +22,15 @@ cast-length : tie.Need-cast-length
 cast-length c = rw (toZ-ofZ (c .fits .window)) (window-fits _ _ (c .pre))
 
 product : (c : tie.Start)
-    → toZ w64 (c .args .j - 1) *ℤ toZ w64 (ofZ w64 (toZ w32 (ofZ w32 (c .args .window)))) ≡ beginsAt (c .args .window) (c .args .j)
+    → toZ w64 (c .args .j - 1) *ℤ toZ w64 (ofZ w64 (toZ w32 (ofZ w32 (c .args .window)))) ≡ beginsAt (c .args .window) (c .args .j) .0
 product c =
     rw (toZ-ofZ (c .fits .window), toZ-ofZ (window-fits _ _ (c .pre)), toZ-pos w64 {n = c .args .j - 1} (omega arith))
 
-mul-result : tie.Need-mul-result
-mul-result c = rw (product c) (beginsAt-fits _ _ (c .pre))
+mul-beginning : tie.Need-mul-beginning
+mul-beginning c = rw (product c) (beginsAt-fits _ _ (c .pre))
 
 returns : tie.Need-returns
 returns c = rw (product c, toZ-ofZ (beginsAt-fits _ _ (c .pre)))
 
 pub begins-at-spec : {M : Type 1} → statement M
-begins-at-spec = tie.close (tie.spec sub-before cast-before cast-length mul-result returns)
+begins-at-spec = tie.close (tie.spec sub-before cast-before cast-length mul-beginning returns)

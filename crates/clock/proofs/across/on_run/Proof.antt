@@ -5,6 +5,7 @@ use mir.Syntax.{w64}
 use mir.Val.{SFits, toZ, ofZ}
 use mir.Facts.{toZ-ofZ}
 use lib.IntN.{ℤ, _+ℤ_}
+use Rattle.clock.specs.declared.RunTime.{RunTime}
 use Rattle.clock.specs.Clock.{beginsAt}
 use Rattle.clock.specs.ClockLaws.{beginsAt-fits, onRun-fits}
 use Rattle.clock.proofs.across.on_run.Statement.{statement}
@@ -13,23 +14,27 @@ use Rattle.clock.proofs.across.on_run.Tie as tie
 begins-at-requires : tie.Need-begins-at-requires
 begins-at-requires c κs = search needs
 
-beginning : (c : tie.After-struct-told)
-    → c .before .begins-at .result ≡ beginsAt (c .before .before .args .window) (c .before .before .args .j)
-beginning c = c .before .begins-at .ensures ∙ ap (λ (z : ℤ). beginsAt z (c .before .before .args .j)) (toZ-ofZ (c .before .before .fits .window))
+beginning : (c : tie.After-struct-told2)
+    → c .before .before .begins-at .result ≡ beginsAt (c .before .before .before .args .window) (c .before .before .before .args .j)
+beginning c =
+    let a = c .before .before .before in
+    c .before .before .begins-at .ensures ∙ ap (λ (z : ℤ). beginsAt z (a .args .j)) (toZ-ofZ (a .fits .window))
 
-sum : (c : tie.After-struct-told)
-    → toZ w64 (ofZ w64 (c .before .begins-at .result)) +ℤ toZ w64 (ofZ w64 (c .before .before .args .t .0))
-    ≡ beginsAt (c .before .before .args .window) (c .before .before .args .j) +ℤ c .before .before .args .t .0
+sum : (c : tie.After-struct-told2)
+    → toZ w64 (ofZ w64 (c .before .before .begins-at .result .0)) +ℤ toZ w64 (ofZ w64 (c .before .before .before .args .t .0))
+    ≡ beginsAt (c .before .before .before .args .window) (c .before .before .before .args .j) .0 +ℤ c .before .before .before .args .t .0
 sum c =
-    let f : SFits w64 (c .before .before .args .t .0) = record { sfits = c .struct-told .given .0 .1 } in
-    let g : SFits w64 (c .before .begins-at .result) = rw (beginning c) (beginsAt-fits _ _ (c .before .before .pre .0)) in
-    rw (toZ-ofZ f, toZ-ofZ g, beginning c)
+    let a = c .before .before .before in
+    let f : SFits w64 (a .args .t .0) = record { sfits = c .struct-told2 .given .0 .1 } in
+    let e = ap (λ (r : RunTime). r .0) (beginning c) in
+    let g : SFits w64 (c .before .before .begins-at .result .0) = rw e (beginsAt-fits _ _ (a .pre .0)) in
+    rw (toZ-ofZ f, toZ-ofZ g, e)
 
-add-t6 : tie.Need-add-t6
-add-t6 c = rw (sum c) (onRun-fits _ _ (c .before .before .pre .0) (c .before .before .pre .1))
+add-time : tie.Need-add-time
+add-time c = let a = c .before .before .before in rw (sum c) (onRun-fits _ _ (a .pre .0) (a .pre .1))
 
 returns : tie.Need-returns
-returns c = rw (sum c, toZ-ofZ (onRun-fits _ _ (c .before .before .pre .0) (c .before .before .pre .1)))
+returns c = let a = c .before .before .before in rw (sum c, toZ-ofZ (onRun-fits _ _ (a .pre .0) (a .pre .1)))
 
 pub on-run-spec : {M : Type 1} → statement M
-on-run-spec = tie.close (tie.spec begins-at-requires add-t6 returns)
+on-run-spec = tie.close (tie.spec begins-at-requires add-time returns)
