@@ -3,6 +3,8 @@ use Prim.Native.Nat.{ℕ, _+_, _≤_}
 use mathlib.Core.Path.{_≡_}
 use mathlib.Core.List.{List}
 use lib.ListN.{drop}
+use Rattle.plan.specs.declared.Refusal.{Refusal}
+use Rattle.plan.specs.declared.Refusal.the-variants.{Form}
 use Rattle.plan.specs.Reading.{Reading, read, refused}
 use Rattle.runs.specs.declared.Step.{Step}
 use Rattle.runs.specs.Steps.{isStep}
@@ -13,6 +15,11 @@ use Rattle.session.specs.declared.StepAt.the-variants.{Value, Bad}
 abbrev pub stepTold : List ℕ → ℕ → ℕ → StepAt → Reading Step
 stepTold s at n (Value st next) = read st (drop next s) n
 stepTold s at n (Bad x) = refused x (drop at s)
+
+-- why the line is refused; of a line that was read as a step nothing is told
+abbrev pub stepRefusal : StepAt → Refusal
+stepRefusal (Value st next) = Form 0
+stepRefusal (Bad x) = x
 
 -- of a step that was read: its line has seven bytes at least and its LF, and lies in the text; and its time is inside the limits
 pub record StepEnds (at len : ℕ) (r : StepAt) : Type 0 where

@@ -12,7 +12,7 @@ ghost use mathlib.Core.Path.{_≡_};
 ghost use Prim.Native.Nat.{_+_, _≤_};
 ghost use lib.ListN.{length, drop};
 ghost use Rattle.session.specs.StepRead.{isText, startIn, finishIn, stepIn, stepLine};
-ghost use Rattle.session.specs.StepAt.{stepTold, StepEnds};
+ghost use Rattle.session.specs.StepAt.{stepTold, stepRefusal, StepEnds};
 
 // Whether l is just the text t.
 fn is_text(l: &[u8], t: &[u8]) -> bool
@@ -83,5 +83,15 @@ pub fn read_step_at(s: &[u8], at: usize, line: usize) -> StepAt
             let refusal = plan::fault_at(line, f);
             StepAt::Bad(refusal)
         }
+    }
+}
+
+// Why a line is no step.
+pub fn step_refusal(read: StepAt) -> Refusal
+    ensures { λ r. ⌜ r ≡ stepRefusal read ⌝ }
+{
+    match read {
+        StepAt::Value(_, _) => Refusal::Form(0),
+        StepAt::Bad(x) => x,
     }
 }

@@ -3,6 +3,7 @@ use crate::StepAt;
 use crate::print::ends_session;
 use crate::print::put_answer;
 use crate::read::read_step_at;
+use crate::read::step_refusal;
 use calendars::Calendar;
 use plan::Plan;
 use plan::put_refused;
@@ -48,63 +49,59 @@ pub fn put_answers(
     let mut end = at;
     while place < text.len() {
         let read = read_step_at(text, place, number);
-        match read {
-            StepAt::Bad(x) => {
-                return put_refused(out, end, x);
+        let StepAt::Value(st, next) = read else {
+            return put_refused(out, end, step_refusal(read));
+        };
+        let due = runs::jobs_done(phase);
+        let job = p.job[due];
+        let terms = c.terms[due];
+        let d = Due {
+            window: p.window,
+            last: p.last,
+            jobs: p.jobs,
+            job: job,
+            terms: terms,
+        };
+        let answer = runs::answer_due(
+            d,
+            &least,
+            &most,
+            phase,
+            has_previous,
+            &previous,
+            &present,
+            st,
+        );
+        end = put_answer(out, end, answer);
+        if ends_session(answer) {
+            return end;
+        }
+        place = next;
+        number += 1;
+        let change = runs::move_of(p.jobs, phase, answer);
+        match change {
+            Move::Stay => {}
+            Move::Begin(after) => {
+                phase = after;
             }
-            StepAt::Value(st, next) => {
-                let due = runs::jobs_done(phase);
-                let job = p.job[due];
-                let terms = c.terms[due];
-                let d = Due {
-                    window: p.window,
-                    last: p.last,
-                    jobs: p.jobs,
-                    job: job,
-                    terms: terms,
-                };
-                let answer = runs::answer_due(
-                    d,
-                    &least,
-                    &most,
-                    phase,
-                    has_previous,
-                    &previous,
-                    &present,
-                    st,
-                );
-                end = put_answer(out, end, answer);
-                if ends_session(answer) {
-                    return end;
-                }
-                place = next;
-                number += 1;
-                let change = runs::move_of(p.jobs, phase, answer);
-                match change {
-                    Move::Stay => {}
-                    Move::Begin(after) => {
-                        phase = after;
-                    }
-                    Move::Next {
-                        place: done,
-                        probe,
-                        phase: after,
-                    } => {
-                        runs::put_probe(&mut present, done, probe);
-                        phase = after;
-                    }
-                    Move::Close {
-                        place: done,
-                        probe,
-                        phase: after,
-                    } => {
-                        runs::put_probe(&mut present, done, probe);
-                        previous = present;
-                        present = [0i64; MOST_SEEN];
-                        has_previous = true;
-                        phase = after;
-                    }
-                }
+            Move::Next {
+                place: done,
+                probe,
+                phase: after,
+            } => {
+                runs::put_probe(&mut present, done, probe);
+                phase = after;
+            }
+            Move::Close {
+                place: done,
+                probe,
+                phase: after,
+            } => {
+                runs::put_probe(&mut present, done, probe);
+                previous = present;
+                present = [0i64; MOST_SEEN];
+                has_previous = true;
+                phase = after;
             }
         }
     }

@@ -10,7 +10,8 @@ use mir.Syntax.{w32}
 use mir.Val.{SFits, toZ, ofZ}
 use mir.Facts.{toZ-ofZ}
 use Rattle.text.specs.Lent.{Stored}
-use Rattle.plan.specs.Reading.{read}
+use Rattle.plan.specs.declared.Refusal.{Refusal}
+use Rattle.plan.specs.Reading.{read, refused}
 use Rattle.plan.specs.PlanRead.{noJob}
 use Rattle.plan.specs.WrittenLaws.{stored-as}
 use Rattle.calendars.specs.Calendars.{noTerms}
@@ -39,7 +40,7 @@ use Rattle.runs.specs.MoveLaws.{
   moved-close,
 }
 use Rattle.session.specs.StepRead.{stepLine}
-use Rattle.session.specs.StepAt.{stepTold}
+use Rattle.session.specs.StepAt.{stepTold, stepRefusal}
 use Rattle.session.specs.AnswerText.{answerJob, answerLine, endsSession}
 use Rattle.session.specs.AnswerJobLaws.{stepped-job}
 use Rattle.session.specs.GoingLaws.{Going, going-start, going-end, going-refused, going-last, going-more}
@@ -70,23 +71,46 @@ read-step-at-requires c κs = omega arith
 enum-known-read : tie.Need-enum-known-read Inv-loop μ-loop
 enum-known-read c = search needs
 
+enum-told : tie.Need-enum-told Inv-loop μ-loop
+enum-told c = search needs
+
+step-refusal-requires : tie.Need-step-refusal-requires Inv-loop μ-loop
+step-refusal-requires c κs = search needs
+
+-- a line that is no step: its reading, and the loop that it ends
+module _ (c : tie.After-step-refusal Inv-loop μ-loop) where
+  abbrev faulty-loop : tie.At-loop Inv-loop μ-loop
+  faulty-loop = c .before .before .before .before .before .before
+
+  abbrev faulty-start : tie.Start Inv-loop μ-loop
+  faulty-start = faulty-loop .before .before .before .before .before
+
+  line-refused : stepLine (drop (faulty-loop .loop .place) (now (faulty-start .args .text))) (faulty-loop .loop .number)
+      ≡ refused (c .step-refusal .result) (drop (faulty-loop .loop .place) (now (faulty-start .args .text)))
+  line-refused =
+      let told = c .before .before .enum-told .given .1 in
+      let s = drop (faulty-loop .loop .place) (now (faulty-start .args .text)) in
+      c .before .before .before .before .read-step-at .ensures .0
+      ∙ ap (stepTold _ _ _) told
+      ∙ ap (λ (x : Refusal). refused x s) (sym (c .step-refusal .ensures ∙ ap stepRefusal told))
+
 put-refused-requires : tie.Need-put-refused-requires Inv-loop μ-loop
-put-refused-requires c κs = omega (arith, c .before .before .before .before .before .before .loop .inv .0 .near, c .before .before .before .before .before .before .loop .inv .0 .placed, c .before .before .before .before .before .before .before .before .before .before .before .pre)
+put-refused-requires c κs = let l = faulty-loop c in omega (arith, l .loop .inv .0 .near, l .loop .inv .0 .placed, faulty-start c .pre)
 
 same-length : tie.Need-same-length Inv-loop μ-loop
-same-length c = c .before .before .put-refused .kept .0 ∙ c .before .before .before .before .before .before .before .before .before .loop .inv .0 .same
+same-length c = c .before .before .put-refused .kept .0 ∙ faulty-loop (c .before .before .before) .loop .inv .0 .same
 
 returns : tie.Need-returns Inv-loop μ-loop
 returns c =
-    let l = c .before .before .before .before .before .before .before .before .before in
-    let a = c .before .before .before .before .before .before .before .before .before .before .before .before .before .before .args in
+    let f = c .before .before .before in
+    let l = faulty-loop f in
+    let a = faulty-start f .args in
+    let w = c .before .before .put-refused in
     let d =
-    going-refused (a .t4) (a .t5) (now (a .text)) (now (a .out)) (a .from) (a .line) (a .at) newRun (l .loop .out) _ (l .loop .place) (l .loop .number) (l .loop .end) (l .loop .inv .0)
-    (c .before .before .before .before .before .before .before .before .loop-test .taken) (c .before .before .put-refused .last .0) (c .before .before .put-refused .result) (omega (arith, c .before .before .put-refused .ensures .1)) _ (c .before .before .before .before .before .before .before .read-step-at .ensures .0 ∙ ap (stepTold _ _ _) (c .before .before .before .before .before .read .given .1)) (c .before .before .put-refused .ensures .0) in
+    going-refused (a .t4) (a .t5) (now (a .text)) (now (a .out)) (a .from) (a .line) (a .at) newRun (l .loop .out) _ (l .loop .place) (l .loop .number) (l .loop .end)
+    (l .loop .inv .0) (f .before .before .before .before .before .loop-test .taken) (w .last .0) (w .result) (omega (arith, w .ensures .1)) _ (line-refused f)
+    (w .ensures .0) in
     (d .stored, d .short)
-
-enum-known-read-2 : tie.Need-enum-known-read-2 Inv-loop μ-loop
-enum-known-read-2 c = search needs
 
 jobs-done-requires : tie.Need-jobs-done-requires Inv-loop μ-loop
 jobs-done-requires c κs = search needs
@@ -117,14 +141,14 @@ module _ (c : tie.After-jobs-done Inv-loop μ-loop) where
 
   -- the step that was read, and its answer
   abbrev step : Step
-  step = c .before .before .read2 .given .0 .0
+  step = c .before .before .read .given .0 .0
 
   abbrev answered : Answered
   answered = stepped (start .args .t4) (start .args .t5) run step
 
   step-read : stepLine (drop (at-loop .loop .place) (now (start .args .text))) (at-loop .loop .number)
-      ≡ read step (drop (c .before .before .read2 .given .0 .1 .0) (now (start .args .text))) (at-loop .loop .number + 1)
-  step-read = c .before .before .before .before .read-step-at .ensures .0 ∙ ap (stepTold _ _ _) (c .before .before .read2 .given .1)
+      ≡ read step (drop (c .before .before .read .given .0 .1 .0) (now (start .args .text))) (at-loop .loop .number + 1)
+  step-read = c .before .before .before .before .read-step-at .ensures .0 ∙ ap (stepTold _ _ _) (c .before .before .read .given .1)
 
 mul-job : tie.Need-mul-job Inv-loop μ-loop
 mul-job c = let j = job-most c in omega arith
@@ -193,7 +217,7 @@ returns-2 c =
     let l = at-loop j in
     let w =
     going-last (a .t4) (a .t5) (now (a .text)) (now (a .out)) (a .from) (a .line) (a .at) newRun (l .loop .out) (run j) (l .loop .place) (l .loop .number) (l .loop .end) (l .loop .inv .0)
-    (c .before .before .before .before .before .before .before .before .before .before .before .before .before .before .before .before .before .before .before .loop-test .taken) _ _ (c .before .before .before .before .put-answer .ensures .1) (step j) (j .before .before .read2 .given .0 .1 .0) (answered j) (step-read j) refl (answer-stored (c .before .before .before .before)) (sym (ap endsSession (answer-is e)) ∙ sym (c .before .ends-session .ensures) ∙ c .if1 .taken) in
+    (c .before .before .before .before .before .before .before .before .before .before .before .before .before .before .before .before .before .before .before .loop-test .taken) _ _ (c .before .before .before .before .put-answer .ensures .1) (step j) (j .before .before .read .given .0 .1 .0) (answered j) (step-read j) refl (answer-stored (c .before .before .before .before)) (sym (ap endsSession (answer-is e)) ∙ sym (c .before .ends-session .ensures) ∙ c .if1 .taken) in
     (w .stored, w .short)
 
 add-number : tie.Need-add-number Inv-loop μ-loop
@@ -211,10 +235,10 @@ module _ (c : tie.After-move-of Inv-loop μ-loop) where
   abbrev j : tie.After-jobs-done Inv-loop μ-loop
   j = d e
 
-  shorter : length (now (start j .args .text)) - j .before .before .read2 .given .0 .1 .0 < length (now (start j .args .text)) - at-loop j .loop .place
+  shorter : length (now (start j .args .text)) - j .before .before .read .given .0 .1 .0 < length (now (start j .args .text)) - at-loop j .loop .place
   shorter =
       let ends = c .before .before .before .before .before .before .before .before .before .before .before .before .before .before .before .before .before .before .before .read-step-at .ensures .1 in
-      let v = j .before .before .read2 .given .1 in
+      let v = j .before .before .read .given .1 in
       omega (arith, ends .least _ _ v, ends .most _ _ v)
 
   move-is : answered j .run ≡ moved (run j) (c .move-of .result)
@@ -225,7 +249,7 @@ module _ (c : tie.After-move-of Inv-loop μ-loop) where
 
   abbrev GoesOn : Run → Type 0
   GoesOn r =
-      Going (start j .args .t4) (start j .args .t5) (now (start j .args .text)) (now (start j .args .out)) (start j .args .from) (start j .args .line) (start j .args .at) newRun (c .before .before .before .before .before .put-answer .last .0) r (j .before .before .read2 .given .0 .1 .0) (at-loop j .loop .number + 1) (c .before .before .before .before .before .put-answer .result)
+      Going (start j .args .t4) (start j .args .t5) (now (start j .args .text)) (now (start j .args .out)) (start j .args .from) (start j .args .line) (start j .args .at) newRun (c .before .before .before .before .before .put-answer .last .0) r (j .before .before .read .given .0 .1 .0) (at-loop j .loop .number + 1) (c .before .before .before .before .before .put-answer .result)
 
   goes-on : GoesOn (moved (run j) (c .move-of .result))
   goes-on =
@@ -233,11 +257,11 @@ module _ (c : tie.After-move-of Inv-loop μ-loop) where
       let l = at-loop j in
       subst GoesOn move-is
       (going-more (a .t4) (a .t5) (now (a .text)) (now (a .out)) (a .from) (a .line) (a .at) newRun (l .loop .out) (run j) (l .loop .place) (l .loop .number) (l .loop .end) (l .loop .inv .0)
-      (c .before .before .before .before .before .before .before .before .before .before .before .before .before .before .before .before .before .before .before .before .loop-test .taken) _ _ (c .before .before .before .before .before .put-answer .ensures .1) (step j) (j .before .before .read2 .given .0 .1 .0) (answered j) (step-read j) refl (answer-stored (c .before .before .before .before .before)) (sym (ap endsSession (answer-is e)) ∙ sym (c .before .before .ends-session .ensures) ∙ c .before .if1 .left)
-      (j .before .before .read2 .given .1) (c .before .before .before .before .before .before .before .before .before .before .before .before .before .before .before .before .before .before .before .read-step-at .ensures .1))
+      (c .before .before .before .before .before .before .before .before .before .before .before .before .before .before .before .before .before .before .before .before .loop-test .taken) _ _ (c .before .before .before .before .before .put-answer .ensures .1) (step j) (j .before .before .read .given .0 .1 .0) (answered j) (step-read j) refl (answer-stored (c .before .before .before .before .before)) (sym (ap endsSession (answer-is e)) ∙ sym (c .before .before .ends-session .ensures) ∙ c .before .if1 .left)
+      (j .before .before .read .given .1) (c .before .before .before .before .before .before .before .before .before .before .before .before .before .before .before .before .before .before .before .read-step-at .ensures .1))
 
-enum-told : tie.Need-enum-told Inv-loop μ-loop
-enum-told c = search needs
+enum-told-2 : tie.Need-enum-told-2 Inv-loop μ-loop
+enum-told-2 c = search needs
 
 loop-less : tie.Need-loop-less Inv-loop μ-loop
 loop-less c = shorter (c .before .before)
@@ -245,7 +269,7 @@ loop-less c = shorter (c .before .before)
 loop-again : tie.Need-loop-again Inv-loop μ-loop
 loop-again c =
     let m = c .before .before in
-    (subst (GoesOn m) (moved-stay _ _ _ _ _ (c .enum-told .given .1)) (goes-on m), at-loop (j m) .loop .inv .1)
+    (subst (GoesOn m) (moved-stay _ _ _ _ _ (c .enum-told2 .given .1)) (goes-on m), at-loop (j m) .loop .inv .1)
 
 enum-known-change : tie.Need-enum-known-change Inv-loop μ-loop
 enum-known-change c = search needs
@@ -321,10 +345,11 @@ put-answers-spec =
     loop-holds
     read-step-at-requires
     enum-known-read
+    enum-told
+    step-refusal-requires
     put-refused-requires
     same-length
     returns
-    enum-known-read-2
     jobs-done-requires
     mul-job
     element-copy-out-job
@@ -337,7 +362,7 @@ put-answers-spec =
     returns-2
     add-number
     move-of-requires
-    enum-told
+    enum-told-2
     loop-less
     loop-again
     enum-known-change
