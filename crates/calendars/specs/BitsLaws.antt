@@ -7,7 +7,7 @@
 -- The count is the count of ones (`eventCount-ones`); of `eventSet` it is the count of the places that hold true (`eventCount-set`).
 -- The next event from e on is the trailing zeros of the set moved down by e (`nextFrom-zeros`); it is not before e (`nextFrom-past`), it is in the set
 -- (`nextFrom-has`), and none before it is (`nextFrom-least`, `nextFrom-found`). So a walk that does nothing at an event outside the set can go on at the next event
--- (`nextFrom-skips`).
+-- (`nextFrom-skips`). The count from e on is one for that event and the count behind it (`countFrom-next`), and 0 where there is none (`countFrom-none`).
 
 use Prim.Native.Nat.{ℕ, zero, suc, _+_, _*_, _-_, _/_, _%_, _^_, _≤_, _<_}
 use mathlib.Core.Path.{_≡_, refl, sym, ap, _∙_}
@@ -19,12 +19,12 @@ use native.Mathlib.Numerals.{add-one}
 use native.Mathlib.Omega.{arith}
 use lib.Bits.{bitOr, or-step, or-zero-r, or-lt}
 use lib.Count.{ones, ones-step, trailingZeros, under}
-use lib.Dec.{eqb, leb}
+use lib.Dec.{eqb, leb, ltb}
 use lib.ListN.{length, getD}
 use lib.Pow.{pow-lt, pow-mono}
-use borrow.Author.Tests.{eqb-true, eqb-false, eq-eqb, ne-eqb, leb-true, leb-false}
+use borrow.Author.Tests.{eqb-true, eqb-false, eq-eqb, ne-eqb, leb-true, leb-false, ltb-true, ltb-false}
 use Rattle.bounds.specs.Tables.{listed}
-use Rattle.calendars.specs.Bits.{hasEvent, eventSet, countTrue, withEvent, mostBits, countFrom, eventCount, nextFrom}
+use Rattle.calendars.specs.Bits.{hasEvent, eventSet, countTrue, withEvent, mostBits, countFrom, eventCount, nextFrom, nextEvent}
 
 -- ---- members
 
@@ -286,3 +286,30 @@ module _ {A : Type 0} (s : ℕ) (f : ℕ → ℕ → A) (past : (e n : ℕ) → 
       let left : count - e ≡ (k - e) + (count - k) = omega arith in
       let place : e + (k - e) ≡ k = omega arith in
       ap (f e) left ∙ skips (k - e) e (count - k) (λ d a b. nextFrom-least s e m d a (omega arith)) ∙ ap (λ (j : ℕ). f j (count - k)) place
+
+-- ---- the count from an event on: one for the next event, and those behind it
+
+countFrom-past : (s e n : ℕ) → hasEvent e s ≡ false → countFrom s e (suc n) ≡ countFrom s (suc e) n
+unfolding countFrom
+countFrom-past s e n h = rw h (omega arith)
+
+countFrom-here : (s e n : ℕ) → hasEvent e s ≡ true → countFrom s e (suc n) ≡ suc (countFrom s (suc e) n)
+unfolding countFrom
+countFrom-here s e n h = rw h (omega arith)
+
+pub countFrom-next : (s e k : ℕ) → k ≡ nextEvent s e → k < mostBits
+    → countFrom s e (mostBits - e) ≡ suc (countFrom s (k + 1) (mostBits - (k + 1)))
+countFrom-next s e k next h =
+    let left : mostBits - k ≡ suc (mostBits - (k + 1)) = omega arith in
+    nextFrom-skips s (countFrom s) (countFrom-past s) e mostBits k mostBits (omega (arith, nextFrom-past s e mostBits)) (omega arith) (omega arith)
+    ∙ ap (countFrom s k) left
+    ∙ countFrom-here s k (mostBits - (k + 1)) (rw next (nextFrom-has s e mostBits (omega arith)))
+    ∙ ap (λ (j : ℕ). suc (countFrom s j (mostBits - (k + 1)))) (sym (add-one k))
+
+-- none is left: the next event is past every place that a set has
+pub countFrom-none : (s e : ℕ) → countFrom s e (mostBits - e) ≡ 0 → mostBits ≤ nextEvent s e
+countFrom-none s e none = of (ltb (nextEvent s e) mostBits) refl
+  where
+    of : (b : Bool) → ltb (nextEvent s e) mostBits ≡ b → mostBits ≤ nextEvent s e
+    of true h = absurd (omega (arith, countFrom-next s e (nextEvent s e) refl (ltb-true (nextEvent s e) mostBits h)))
+    of false h = ltb-false (nextEvent s e) mostBits h

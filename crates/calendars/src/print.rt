@@ -96,7 +96,8 @@ fn put_terms(
 {
     let mut end = at;
     let mut e: usize = 0;
-    while e < count {
+    let mut left = set.count();
+    while 0 < left {
         let k = set.next(e);
         if count <= k {
             return end;
@@ -105,6 +106,7 @@ fn put_terms(
         let c = cs[place];
         end = put_term(out, end, key, jobs, k, c);
         e = k + 1;
+        left -= 1;
     }
     end
 }

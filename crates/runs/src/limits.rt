@@ -6,6 +6,7 @@ use crate::Probe;
 use crate::Run;
 use crate::Step;
 use calendars::Calendar;
+use calendars::Events;
 use calendars::MOST_EVENTS;
 use calendars::MOST_TERMS;
 use calendars::Terms;
@@ -160,11 +161,10 @@ pub fn is_step(st: Step) -> bool
 
 // Whether event e is in the set and its c is in no bound's range.
 fn is_out(set: u64, e: usize, c: i32) -> bool
-    requires { ⌜ e < 64 ⌝ }
     ensures { λ r. ⌜ r ≡ isOut set e c ⌝ }
 {
-    let rest = set >> e;
-    if rest % 2 != 1 {
+    let events = Events(set);
+    if !events.has(e) {
         return false;
     }
     let wide = c as i64;

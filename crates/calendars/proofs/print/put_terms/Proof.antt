@@ -1,32 +1,37 @@
--- `put_terms`: the lines from event e on are left. One law a turn: `termLines-next`, `termLines-stop`; an event passed moves the place by at most 52.
+-- `put_terms`: the lines from event e on are left, as many as the set has events from there on. One law a turn: `termLines-next`, `termLines-stop`, and of
+-- the count `countFrom-next`, `countFrom-none`; an event passed moves the place by at most 52.
 use Prim.Native.Nat.{_+_, _*_, _-_, _≤_}
-use mathlib.Core.Path.{_≡_, refl, _∙_}
+use mathlib.Core.Path.{_≡_, refl, sym, _∙_}
 use native.Mathlib.Omega.{arith}
 use lib.IntN.{pos}
 use lib.ListN.{length, getD}
 use mir.Syntax.{w32}
 use Rattle.whole.specs.SplitLaws.{told-fits}
-use Rattle.calendars.specs.Bits.{mostBits}
-use Rattle.calendars.specs.BitsLaws.{nextFrom-past}
+use Rattle.calendars.specs.Bits.{mostBits, countFrom, nextEvent}
+use Rattle.calendars.specs.BitsLaws.{nextFrom-past, countFrom-next, countFrom-none}
 use Rattle.calendars.specs.CalendarText.{termLines}
 use Rattle.calendars.specs.CalendarTextLaws.{stored-term-near, left-term, left-terms}
 use Rattle.text.specs.LeftLaws.{Left, left-whole}
+use borrow.Author.Needs.{needs}
 use Rattle.calendars.proofs.print.put_terms.Statement.{statement}
 use Rattle.calendars.proofs.print.put_terms.Tie as tie
 
 abbrev Inv-loop : tie.InvT-loop
-Inv-loop out₀ at key jobs set cs row count end₀ e₀ out end e =
-    (e ≤ count) × (end ≤ at + 52 * e) × (length out ≡ length out₀)
+Inv-loop out₀ at key jobs set cs row count end₀ e₀ left₀ out end e left =
+    (e ≤ count) × (end ≤ at + 52 * e) × (length out ≡ length out₀) × (countFrom (set .0) e (mostBits - e) ≡ left)
     × Left out₀ at (termLines jobs key (set .0) cs row 0 count) out end (termLines jobs key (set .0) cs row e (count - e))
 
 abbrev μ-loop : tie.MeasureT-loop
-μ-loop out₀ at key jobs set cs row count end₀ e₀ out end e = count - e
+μ-loop out₀ at key jobs set cs row count end₀ e₀ left₀ out end e left = count - e
+
+count-requires : tie.Need-count-requires Inv-loop μ-loop
+count-requires c κs = search needs
 
 loop-holds : tie.Need-loop-holds Inv-loop μ-loop
 loop-holds c =
-    let a = c .before .before .args in
+    let a = c .before .before .before .args in
     let all : a .count - 0 ≡ a .count = omega arith in
-    (omega arith, omega arith, refl, rw all (left-whole (a .out .now) (a .at) (termLines (a .jobs) (a .key .now) (a .set .0) (a .cs .now) (a .row) 0 (a .count))))
+    (omega arith, omega arith, refl, sym (c .count .ensures), rw all (left-whole (a .out .now) (a .at) (termLines (a .jobs) (a .key .now) (a .set .0) (a .cs .now) (a .row) 0 (a .count))))
 
 next-requires : tie.Need-next-requires Inv-loop μ-loop
 next-requires c κs = omega arith
@@ -37,8 +42,8 @@ same-length c = c .before .before .before .loop .inv .2
 returns : tie.Need-returns Inv-loop μ-loop
 returns c =
     let l = c .before .before .before .loop in
-    let a = c .before .before .before .before .before .before .args in (
-      left-terms (a .jobs) (a .key .now) (a .set .0) (a .cs .now) (a .row) (l .e) (c .before .next .result) (a .count) (c .before .next .ensures) (l .inv .3) (omega arith) (omega arith),
+    let a = c .before .before .before .before .before .before .before .args in (
+      left-terms (a .jobs) (a .key .now) (a .set .0) (a .cs .now) (a .row) (l .e) (c .before .next .result) (a .count) (c .before .next .ensures) (l .inv .4) (omega arith) (omega arith),
       omega arith,
     )
 
@@ -57,23 +62,39 @@ put-term-requires c κs = omega arith
 add-e : tie.Need-add-e Inv-loop μ-loop
 add-e c = omega arith
 
+sub-left : tie.Need-sub-left Inv-loop μ-loop
+sub-left c = omega arith
+
+-- the turn of a member: the loop at its test, the entry, and the event that is next
+module _ (c : tie.After-put-term Inv-loop μ-loop) where
+  abbrev test : tie.At-loop Inv-loop μ-loop
+  test = c .before .before .before .before .before .before
+
+  abbrev start : tie.Start Inv-loop μ-loop
+  start = test .before .before .before .before
+
+  next-is : c .before .before .before .before .next .result ≡ nextEvent (start .args .set .0) (test .loop .e)
+  next-is = c .before .before .before .before .next .ensures
+
 loop-less : tie.Need-loop-less Inv-loop μ-loop
 loop-less c =
-    let l = c .before .before .before .before .before .before .before .before .loop in
-    omega (arith, c .before .before .before .before .before .before .next .ensures, nextFrom-past (c .before .before .before .before .before .before .before .before .before .before .before .args .set .0) (l .e) mostBits)
+    let m = c .before .before in
+    omega (arith, next-is m, nextFrom-past (start m .args .set .0) (test m .loop .e) mostBits)
 
 loop-again : tie.Need-loop-again Inv-loop μ-loop
 loop-again c =
-    let l = c .before .before .before .before .before .before .before .before .loop in
-    let a = c .before .before .before .before .before .before .before .before .before .before .before .args in
-    let k = c .before .before .before .before .before .before .next .result in
-    let did = c .before .before .put-term in
-    let f = told-fits w32 (getD (a .cs .now) (a .row + k) (pos 0)) (c .before .before .before .before .c .given) in (
+    let m = c .before .before in
+    let l = test m .loop in
+    let a = start m .args in
+    let k = m .before .before .before .before .next .result in
+    let did = m .put-term in
+    let f = told-fits w32 (getD (a .cs .now) (a .row + k) (pos 0)) (m .before .before .c .given) in (
       omega arith,
       omega
-          (arith, stored-term-near (a .jobs) (a .key .now) k (omega arith) (omega arith) f (did .ensures), c .before .before .before .before .before .before .next .ensures, nextFrom-past (a .set .0) (l .e) mostBits),
+          (arith, stored-term-near (a .jobs) (a .key .now) k (omega (arith, start m .pre)) (omega (arith, start m .pre)) f (did .ensures), next-is m, nextFrom-past (a .set .0) (l .e) mostBits),
       did .kept .0 ∙ l .inv .2,
-      left-term (a .jobs) (a .key .now) (a .set .0) (a .cs .now) (a .row) (l .e) k (a .count) (c .before .before .before .before .before .before .next .ensures) (l .inv .3) (omega arith) (omega arith) (omega arith) f (did .ensures),
+      omega (arith, l .inv .3, countFrom-next (a .set .0) (l .e) k (next-is m) (omega (arith, start m .pre))),
+      left-term (a .jobs) (a .key .now) (a .set .0) (a .cs .now) (a .row) (l .e) k (a .count) (next-is m) (l .inv .4) (omega (arith, next-is m, nextFrom-past (a .set .0) (l .e) mostBits)) (omega (arith, start m .pre)) (omega (arith, start m .pre)) f (did .ensures),
     )
 
 same-length-2 : tie.Need-same-length-2 Inv-loop μ-loop
@@ -82,8 +103,9 @@ same-length-2 c = c .before .loop .inv .2
 returns-2 : tie.Need-returns-2 Inv-loop μ-loop
 returns-2 c =
     let l = c .before .loop in
-    let a = c .before .before .before .before .args in (
-      left-terms (a .jobs) (a .key .now) (a .set .0) (a .cs .now) (a .row) (l .e) _ (a .count) refl (l .inv .3) (omega arith) (omega (arith, nextFrom-past (a .set .0) (l .e) mostBits)),
+    let a = c .before .before .before .before .before .args in
+    let none : countFrom (a .set .0) (l .e) (mostBits - l .e) ≡ 0 = omega (arith, l .inv .3) in (
+      left-terms (a .jobs) (a .key .now) (a .set .0) (a .cs .now) (a .row) (l .e) _ (a .count) refl (l .inv .4) (omega arith) (omega (arith, countFrom-none (a .set .0) (l .e) none)),
       omega arith,
     )
 
@@ -93,6 +115,7 @@ put-terms-spec =
     (tie.spec
     Inv-loop
     μ-loop
+    count-requires
     loop-holds
     next-requires
     same-length
@@ -102,6 +125,7 @@ put-terms-spec =
     element-copy-out-c
     put-term-requires
     add-e
+    sub-left
     loop-less
     loop-again
     same-length-2
