@@ -1,22 +1,25 @@
-# make demo      proves the two programs and runs them on examples/
-# make           proves the two programs and the archive for C, and leaves them in target/
-# make test      the gate: everything that must hold before a change lands
-# make install   programs, archive, header, manual pages and pkg-config file below PREFIX
-# make lint      the manual pages, read by a linter
-# make figures   measures, and writes docs/FIGURES.md
-# make picture   draws docs/window.svg from a session of examples/
+# make demo        shows what the programs answer on examples/, proves them, and runs them
+# make             proves the two programs and the library for C, and leaves them in target/
+# make test        the gate: everything that must hold before a change lands
+# make install     command, programs, library, header, manual pages and pkg-config file below PREFIX
+# make uninstall   takes them away again
+# make lint        the manual pages, read by a linter
+# make figures     measures, and writes docs/FIGURES.md
+# make picture     draws docs/window.svg and docs/day.svg from sessions of examples/
 
 PREFIX = /usr/local
 DESTDIR =
-VERSION = 0.1.0
+VERSION := $(shell sed -n 's/^version=//p' bin/gekumosari)
 
 programs = target/bin/calendar target/bin/dispatch
 archive = target/staticlib/libagent.a
+library = target/lib/libgekumosari.so.0
 sources := crates.txt $(shell find crates -type f -not -path '*/must-fail/*')
-tree = $(DESTDIR)$(abspath $(PREFIX))
 
-.PHONY: all demo test install lint figures picture
-all: $(programs) $(archive)
+.PHONY: all demo test install uninstall lint figures picture
+# Two runs of `rt` would be in each other's way.
+.NOTPARALLEL:
+all: $(programs) $(archive) $(library)
 
 # Said where something is to be proved and there is no kit.
 define kit
@@ -30,39 +33,56 @@ endef
 # `rt` proves again only what has changed; nothing is made where something is not proved.
 $(programs) &: $(sources)
 	$(kit)
-	rt check calendar dispatch
-	touch -c $(programs)
+	@bin/prove check calendar dispatch
+	@touch -c $(programs)
 
 $(archive): $(sources)
 	$(kit)
-	rt staticlib agent
-	touch -c $(archive)
+	@bin/prove staticlib agent
+	@touch -c $(archive)
 
-demo: $(programs)
-	@for name in p tables drift rounds; do \
-	    echo "\$$ target/bin/calendar < examples/$$name.plan"; \
-	    target/bin/calendar < examples/$$name.plan; echo; \
-	done
-	@for name in p refusals tables; do \
-	    echo "\$$ target/bin/dispatch < examples/$$name.session"; \
-	    target/bin/dispatch < examples/$$name.session; echo; \
-	done
-	@echo 'The programs stay: bin/calendar FILE and bin/dispatch FILE run them without a proof. examples/README.md tells what is shown.'
+# The archive's code has no fixed place, so the linker makes the shared library of it as it is.
+$(library): $(archive)
+	@mkdir -p target/lib
+	$(CC) -shared -Wl,-soname,libgekumosari.so.0 -Wl,-z,text,-z,defs -Wl,-u,gekumosari_session $(archive) -o $(library)
+
+# Until the programs are proved, which takes minutes, the second implementation shows what they will answer.
+demo:
+	@$(MAKE) --silent --question $(programs) || examples/demo harness
+	@$(MAKE) --no-print-directory $(programs)
+	@examples/demo gekumosari
 
 test:
 	.ci/run
 
-install: $(programs) $(archive)
-	$(if $(word 2,$(tree)),$(error PREFIX and DESTDIR must be without spaces))
-	install -d $(tree)/bin $(tree)/lib/pkgconfig $(tree)/include $(tree)/share/man/man1 $(tree)/share/man/man3
-	install $(programs) $(tree)/bin
-	install -m 644 $(archive) $(tree)/lib/libgekumosari.a
-	install -m 644 include/gekumosari.h $(tree)/include
-	install -m 644 man/calendar.1 man/dispatch.1 $(tree)/share/man/man1
-	install -m 644 man/gekumosari_session.3 $(tree)/share/man/man3
-	printf '%s\n' 'prefix=$(abspath $(PREFIX))' 'libdir=$${prefix}/lib' 'includedir=$${prefix}/include' '' \
+# The recipes read PREFIX and DESTDIR from the environment, so that they may have spaces; a relative PREFIX is one of this folder.
+install uninstall: export prefix = $(if $(filter /%,$(firstword $(PREFIX))),,$(CURDIR)/)$(PREFIX)
+install uninstall: export tree = $(DESTDIR)$(prefix)
+
+manuals = gekumosari.1 gekumosari-calendar.1 gekumosari-dispatch.1
+commands = calendar dispatch explain.awk
+libraries = libgekumosari.a libgekumosari.so libgekumosari.so.0
+
+install: $(programs) $(archive) $(library)
+	install -d "$$tree/bin" "$$tree/libexec/gekumosari" "$$tree/lib/pkgconfig" "$$tree/include" "$$tree/share/man/man1" "$$tree/share/man/man3"
+	install $(programs) "$$tree/libexec/gekumosari"
+	install -m 644 bin/explain.awk "$$tree/libexec/gekumosari"
+	install bin/gekumosari "$$tree/bin"
+	install -m 644 $(archive) "$$tree/lib/libgekumosari.a"
+	install -m 644 $(library) "$$tree/lib"
+	ln -sf libgekumosari.so.0 "$$tree/lib/libgekumosari.so"
+	install -m 644 include/gekumosari.h "$$tree/include"
+	install -m 644 $(addprefix man/,$(manuals)) "$$tree/share/man/man1"
+	install -m 644 man/gekumosari_session.3 "$$tree/share/man/man3"
+	printf '%s\n' "prefix=$$prefix" 'libdir=$${prefix}/lib' 'includedir=$${prefix}/include' 'archive=$${libdir}/libgekumosari.a' '' \
 	    'Name: gekumosari' 'Description: Verified dispatch of cyclic jobs' 'Version: $(VERSION)' \
-	    'Libs: -L$${libdir} -lgekumosari' 'Cflags: -I$${includedir}' > $(tree)/lib/pkgconfig/gekumosari.pc
+	    'Libs: -L"$${libdir}" -lgekumosari' 'Cflags: -I"$${includedir}"' > "$$tree/lib/pkgconfig/gekumosari.pc"
+
+# Folders that others use too are left, and so is whatever else stands in libexec/gekumosari.
+uninstall:
+	for file in $(addprefix libexec/gekumosari/,$(commands)) $(addprefix lib/,$(libraries)) $(addprefix share/man/man1/,$(manuals)) \
+	    bin/gekumosari lib/pkgconfig/gekumosari.pc include/gekumosari.h share/man/man3/gekumosari_session.3; do rm -f "$$tree/$$file"; done
+	rmdir "$$tree/libexec/gekumosari" 2>/dev/null || true
 
 lint:
 	mandoc -T lint -W warning man/*.1 man/*.3
