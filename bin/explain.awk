@@ -194,7 +194,7 @@ function explain_step(number, line,    min, max) {
         (number == 6 ? "a job is running" : number == 7 ? "no job is running" : number == 8 ? "the start is outside the offer" : \
         number == 9 ? "the finish is earlier than start + min or later than start + max" : number == 10 ? "the run is over" : \
         number == 11 ? "the offer is empty" : "the answer is longer than the lent slice"))
-    if (number == 6) also("Job " job " runs since " start ". Tell its finish first. If it was cancelled it has none: begin a new session.")
+    if (number == 6) also("Job " job " runs since " start ". Tell its finish first. If it was cancelled, see 'Cancel before max' in the guide.")
     if (number == 7) also("Its start was refused, or its finish was told before.")
     if (number == 8) {
         also(asked ? "The offer was from " low " to " high ", both included." : "ask=offer before it tells from when to when it may start.")

@@ -8,10 +8,13 @@
  *     int64_t gekumosari_session(const uint8_t *text, size_t length,
  *                                uint8_t *out, size_t room);
  *
- *     cc agent.c $(pkg-config --cflags --libs gekumosari)       installed
+ *     cc agent.c $(pkg-config --cflags --libs gekumosari)       installed, with the shared library
+ *     cc agent.c $(pkg-config --cflags gekumosari) $(pkg-config --variable=archive gekumosari)
+ *                                                               installed, with the archive
  *     cc -Iinclude agent.c target/staticlib/libagent.a          in the source tree, after `make`
  *
- * Of the C library the archive needs memcpy and memset alone. It is made for x86-64 Linux.
+ * The shared library is libgekumosari.so.0: the archive's code, linked once more. Of the C library they
+ * need memcpy and memset alone. They are made for x86-64 Linux.
  *
  * WHAT GOES IN
  *
@@ -27,7 +30,7 @@
  * WHAT COMES BACK
  *
  *     0 or more            The length of the answer. It stands in the first bytes of out; the bytes
- *                          past it keep their values. The answer is what the program `dispatch`
+ *                          past it keep their values. The answer is what `gekumosari dispatch`
  *                          prints for the same text: a line for each step, or the one line of a plan
  *                          that is refused. It is 0 for an accepted plan without steps. No byte 0
  *                          follows it.
