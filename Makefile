@@ -93,5 +93,7 @@ figures: $(archive)
 
 picture:
 	mkdir -p target
-	cd harness && cargo run --release --offline --quiet -- picture ../examples/tables.session ../examples/tables.answers 2 > ../target/window.svg
-	mv target/window.svg docs/window.svg
+	cd harness && cargo build --release --offline --quiet
+	harness/target/release/harness picture examples/tables.session examples/tables.answers 2 examples/tables.names > target/window.svg
+	harness/target/release/harness offers examples/day.session examples/day.answers examples/tables.names > target/day.svg
+	mv target/window.svg target/day.svg docs

@@ -19,8 +19,12 @@ harness case SEED NUMBER           the text of one case of `compare`
 harness corpus SEED COUNT DIR      sessions among the cases, each in a file
 harness bench                      times of one call; with the feature `export` also ratios and stack use
 harness figures                    the same in several processes, as the page docs/FIGURES.md (with the feature `export`)
-harness picture SESSION ANSWERS J  window J of a session as a picture in SVG, from the files of its text and of its answers
+harness picture SESSION ANSWERS J [NAMES]
+                                   window J of a session as a picture in SVG, from the files of its text and of its answers
+harness offers SESSION ANSWERS [NAMES]
+                                   how the offers of a session move from window to window, as a picture in SVG
 
+NAMES is a file with the name of a job on each line.
 WHAT is a folder with the programs calendar and dispatch, `own`, or `export` (with the feature `export`).";
 
 fn main() -> ExitCode {
@@ -45,7 +49,10 @@ fn main() -> ExitCode {
         ["figures"] => figures(),
         // One of the processes of `figures`.
         ["figures", "medians"] => print_medians(),
-        ["picture", session, answers, window] => draw(session, answers, window),
+        ["picture", session, answers, window] => draw(session, answers, Some(window), None),
+        ["picture", session, answers, window, names] => draw(session, answers, Some(window), Some(names)),
+        ["offers", session, answers] => draw(session, answers, None, None),
+        ["offers", session, answers, names] => draw(session, answers, None, Some(names)),
         _ => Err(io::Error::other(USAGE)),
     };
     match passed {
@@ -147,10 +154,17 @@ fn corpus(seed: &str, count: &str, folder: &Path) -> io::Result<bool> {
     Ok(true)
 }
 
-fn draw(session: &str, answers: &str, window: &str) -> io::Result<bool> {
-    let answers = String::from_utf8_lossy(&std::fs::read(answers)?).into_owned();
-    let svg = picture::picture(&std::fs::read(session)?, &answers, number(window)? as i64).map_err(io::Error::other)?;
-    print!("{svg}");
+/// A window of a session, or the offers of all its windows.
+fn draw(session: &str, answers: &str, window: Option<&str>, names: Option<&str>) -> io::Result<bool> {
+    let text = |path: &str| std::fs::read(path).map(|bytes| String::from_utf8_lossy(&bytes).into_owned());
+    let (session, answers) = (std::fs::read(session)?, text(answers)?);
+    let names = names.map_or(Ok(String::new()), text)?;
+    let names: Vec<&str> = names.lines().collect();
+    let svg = match window {
+        Some(window) => picture::picture(&session, &answers, number(window)? as i64, &names),
+        None => picture::offers(&session, &answers, &names),
+    };
+    io::stdout().lock().write_all(svg.map_err(io::Error::other)?.as_bytes())?;
     Ok(true)
 }
 
