@@ -43,6 +43,7 @@ $(archive): $(sources)
 
 # The archive's code has no fixed place, so the linker makes the shared library of it as it is.
 $(library): $(archive)
+	@command -v $(firstword $(CC)) >/dev/null || { echo 'A C compiler ($(CC)) is needed to link the shared library.' >&2; exit 1; }
 	@mkdir -p target/lib
 	$(CC) -shared -Wl,-soname,libgekumosari.so.0 -Wl,-z,text,-z,defs -Wl,-u,gekumosari_session $(archive) -o $(library)
 
