@@ -50,7 +50,7 @@ $(library): $(archive)
 # Until the programs are proved, which takes minutes, the second implementation shows what they will answer.
 demo:
 	@$(MAKE) --silent --question $(programs) || examples/demo harness
-	@$(MAKE) --no-print-directory $(programs)
+	@$(MAKE) --silent --no-print-directory $(programs)
 	@examples/demo gekumosari
 
 test:
