@@ -281,7 +281,7 @@ fn drawn_offers(plan: &Plan, seen: &[Seen], names: &[&str]) -> String {
             page.bar("start", x(seen.window) - column * 0.28, height(own(seen, seen.start)) - 1.5, column * 0.56, 3.0);
             for &t in &seen.refused_starts {
                 // Beside the bar, which it would hide.
-                page.cross(x(seen.window) + column * 0.45, height(own(seen, t).clamp(least, least + length)));
+                page.cross(x(seen.window) + column * 0.38, height(own(seen, t).clamp(least, least + length)));
             }
         }
     }
