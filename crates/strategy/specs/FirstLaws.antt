@@ -26,7 +26,7 @@ use Rattle.rounds.specs.Rounds.{C0, ownNodes, moved, onNext, joined}
 use Rattle.strategy.specs.Soundness.{Sound}
 use Rattle.strategy.specs.SetLaws.{judgedSet-at}
 use Rattle.strategy.specs.PlaceLaws.{thenSet-bounds}
-use Rattle.strategy.specs.GivenLaws.{All, across-all, all-first, all-others}
+use Rattle.strategy.specs.GivenLaws.{listed-sound, All, across-all, all-first, all-others}
 use Rattle.strategy.specs.WindowLaws.{place-this}
 use Rattle.strategy.specs.JoinedLaws.{C0-tidy, C0-past, nextNode, next-later, onNext-next, joinedCell}
 use Rattle.strategy.specs.RoundLaws.{C, Round, round-parts}
@@ -70,7 +70,7 @@ module _ (p : Plan) (sound : Sound p) where
         ordered = λ a b. let j = sound .some-job in next-far z (finishNode (p .jobs - 1)) b (omega arith) (omega arith);
         given =
             λ d m n a b.
-            let s = sound .bounds d m in
+            let s = listed-sound p sound d m in
             given-at d (isNext (d .a .letter)) refl s a b;
       }))
     where

@@ -1,17 +1,21 @@
 -- The bounds of a plan before they are judged, and what they say of times: a window's own bounds and those between windows are kept exactly if
--- the plan's bounds are, where each start leaves its job the longest running time before the deadline (that is the start's latest).
-use Prim.Native.Nat.{ℕ, zero, suc, _-_, _<_}
+-- the plan's bounds are, where each start leaves its job the longest running time before the deadline (that is the start's latest). The list of which
+-- these sets are made holds the bounds at the plan's places and no others (`places-listed`).
+use Prim.Native.Nat.{ℕ, zero, suc, _-_, _≤_, _<_}
 use mathlib.Core.Path.{_≡_, refl, sym, ap, subst, _∙_}
-use mathlib.Core.Logic.{⊎-elim}
+use mathlib.Core.Logic.{_↔_, ⊎-elim}
 use mathlib.Core.Bool.{Bool, true, false, cond, _&&_}
 use mathlib.Core.List.{List, [], _∷_, _++_, List·Memᴰ, List·Memᴰ·head, List·Memᴰ·tail, List·Memᴰ·not-nil, List·Memᴰ·cases-cons}
 use native.Mathlib.Omega.{arith}
 use lib.Dec.{eqb}
 use lib.IntN.{ℤ, _-ℤ_}
 use lib.Signed.{_≤ℤ_}
+use lib.ListN.{length, getD, take, length-take}
+use lib.Seq.{getD-take}
 use borrow.Author.Tests.{eq-eqb, eqb-true}
 use Rattle.plan.specs.declared.Bound.{Bound}
 use Rattle.plan.specs.declared.Plan.{Plan}
+use Rattle.plan.specs.PlanRead.{noBound}
 use Rattle.plan.specs.PlanWritten.{boundsOf}
 use Rattle.bounds.specs.declared.Event.the-variants.{Start, Finish}
 use Rattle.bounds.specs.Events.{eventOf, nodeOf}
@@ -19,9 +23,37 @@ use Rattle.bounds.specs.Tables.{Cell, upto, least, Between, leastOf}
 use Rattle.bounds.specs.BuildLaws.{both-true, eventOf-nodeOf}
 use Rattle.rounds.specs.Given.{meant, hasNext, givenBounds, upTo, downTo, inOrder, ranges, orders, ownBounds, betweenBounds}
 use Rattle.strategy.specs.Histories.{History}
+use Rattle.strategy.specs.Strategies.{boundIn}
 use Rattle.strategy.specs.Keeping.{Holds, when, gap, Keeps}
+use Rattle.strategy.specs.Soundness.{SoundBound, Sound}
 use Rattle.strategy.specs.CellLaws.{least-iff}
 use Rattle.strategy.specs.EliminationLaws.{below-or-last}
+
+-- ---- the plan's bounds, place by place and as a list
+
+-- where an element of a list stands
+place-of : {d : Bound} {ds : List Bound} → List·Memᴰ d ds → (i : ℕ) × (i < length ds) × (getD ds i noBound ≡ d)
+place-of (List·Memᴰ·head e) = (0, omega arith, sym e)
+place-of (List·Memᴰ·tail m) = let r = place-of m in (suc (r .0), omega arith, r .2)
+
+stands-in : (ds : List Bound) (i : ℕ) → i < length ds → List·Memᴰ (getD ds i noBound) ds
+stands-in [] i h = absurd (omega arith)
+stands-in (d ∷ ds) zero h = List·Memᴰ·head refl
+stands-in (d ∷ ds) (suc i) h = List·Memᴰ·tail (stands-in ds i (omega arith))
+
+pub places-listed : (p : Plan) → p .bounds ≤ length (p .bound) → (P : Bound → Type 0)
+    → ((k : ℕ) → k < p .bounds → P (boundIn p k)) ↔ ((d : Bound) → List·Memᴰ d (boundsOf p) → P d)
+places-listed p there P =
+    let n = length-take (p .bounds) (p .bound) in (
+      λ f d m.
+          let r = place-of m in
+          let l : r .0 < p .bounds = omega (arith, r .1) in
+          subst P (sym (getD-take (p .bounds) (p .bound) (r .0) noBound l) ∙ r .2) (f (r .0) l),
+      λ f k l. subst P (getD-take (p .bounds) (p .bound) k noBound l) (f _ (stands-in (boundsOf p) k (omega arith))),
+    )
+
+pub listed-sound : (p : Plan) → Sound p → (d : Bound) → List·Memᴰ d (boundsOf p) → SoundBound p d
+listed-sound p sound = places-listed p (sound .bound-places) (SoundBound p) .0 (sound .bounds)
 
 -- ---- what holds of all bounds of a list
 

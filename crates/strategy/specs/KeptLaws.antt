@@ -13,7 +13,7 @@ use lib.ListN.{length, length-append, List·getD-append}
 use Rattle.whole.specs.Rules.{wholes}
 use Rattle.plan.specs.declared.Plan.{Plan}
 use Rattle.strategy.specs.Histories.{Ran, History, noRan, ranFor, turn, since, seenFrom}
-use Rattle.strategy.specs.Strategies.{ranIn, placeIn, KeptIn, Kept, Forced}
+use Rattle.strategy.specs.Strategies.{ranIn, placeIn, boundIn, KeptIn, Kept, Forced}
 use Rattle.strategy.specs.EliminationLaws.{below-or-last}
 use Rattle.strategy.specs.Soundness.{Sound}
 use Rattle.strategy.specs.HistoryLaws.{Follows, length-more, ran-new, each-more, turn-min-max, forced-play}
@@ -34,9 +34,10 @@ module _ (p : Plan) where
             let s′ : i < length u = omega arith in
             rw (List·getD-append u m noRan i s′, List·getD-append u m noRan (suc i) s) at (k .ordered i h (omega arith));
         given =
-            λ d e a b.
+            λ i l a b.
+            let d = boundIn p i in
             rw (List·getD-append u m noRan (placeIn p (d .a)) a, List·getD-append u m noRan (placeIn p (d .b)) b) at
-            (k .given d e (omega arith) (omega arith));
+            (k .given i l (omega arith) (omega arith));
       }
 
   keptIn-more : Sound p → (u m : History) → p .jobs + p .jobs ≤ length u → KeptIn p u → KeptIn p (u ++ m)
@@ -51,13 +52,14 @@ module _ (p : Plan) where
             let l′ : suc i < length u = omega arith in
             rw (List·getD-append u m noRan i l, List·getD-append u m noRan (suc i) l′) (k .ordered i h l′);
         given =
-            λ d e a b.
-            let s = sound .bounds d e in
+            λ i l a b.
+            let d = boundIn p i in
+            let s = sound .bounds i l in
             let pa = place-two p (d .a .letter) (d .a .job) (s .a .least) (s .a .most) in
             let pb = place-two p (d .b .letter) (d .b .job) (s .b .least) (s .b .most) in
             let la : placeIn p (d .a) < length u = omega arith in
             let lb : placeIn p (d .b) < length u = omega arith in
-            rw (List·getD-append u m noRan (placeIn p (d .a)) la, List·getD-append u m noRan (placeIn p (d .b)) lb) (k .given d e la lb);
+            rw (List·getD-append u m noRan (placeIn p (d .a)) la, List·getD-append u m noRan (placeIn p (d .b)) lb) (k .given i l la lb);
       }
 
   keptIn-none : KeptIn p []
@@ -66,7 +68,7 @@ module _ (p : Plan) where
         released = λ i h s. absurd (omega arith);
         inTime = λ i h s. absurd (omega arith);
         ordered = λ i h s. absurd (omega arith);
-        given = λ d e a b. absurd (omega arith);
+        given = λ i l a b. absurd (omega arith);
       }
 
   held-before : (u m : History) → Held p (u ++ m) → Held p u

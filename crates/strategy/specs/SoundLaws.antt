@@ -1,25 +1,23 @@
--- An accepted plan is sound.
-use Prim.Native.Nat.{ℕ, zero, suc, _<_, min}
-use mathlib.Core.Path.{_≡_, refl, sym, ap, subst, _∙_}
+-- An accepted plan is sound. It has a place for each of its jobs and bounds, so what `turn` and `boundIn` would answer past the places is never looked at
+-- (`turn-there`, `bound-there`).
+use Prim.Native.Nat.{ℕ, zero, suc, _%_, _≤_, _<_}
+use mathlib.Core.Path.{_≡_, refl, subst}
 use mathlib.Core.Bool.{Bool, true, false, _&&_, _||_}
-use mathlib.Core.List.{List, [], _∷_, List·Memᴰ, List·Memᴰ·head, List·Memᴰ·tail}
+use mathlib.Core.List.{List, [], _∷_}
+use native.Mathlib.Nat.{mod-lt}
 use native.Mathlib.Omega.{arith}
-use lib.ListN.{length, getD, take, length-take}
-use lib.Seq.{getD-take}
+use lib.ListN.{length, getD, take}
+use Rattle.plan.specs.declared.Job.{Job}
 use Rattle.plan.specs.declared.Bound.{Bound}
 use Rattle.plan.specs.declared.EventName.{EventName}
 use Rattle.plan.specs.declared.Plan.{Plan}
 use Rattle.plan.specs.EventNames.{isNext}
-use Rattle.plan.specs.PlanRead.{isWrongPair, noBound}
-use Rattle.plan.specs.PlanWritten.{boundsOf}
+use Rattle.plan.specs.PlanRead.{isWrongPair, noJob, noBound}
 use Rattle.plan.specs.Accepted.{JobAccepted, BoundAccepted, Accepted}
 use Rattle.bounds.specs.BuildLaws.{neither-true}
+use Rattle.strategy.specs.Histories.{turn}
+use Rattle.strategy.specs.Strategies.{boundIn}
 use Rattle.strategy.specs.Soundness.{NamesJob, SoundBound, Sound}
-
--- where an element of a list stands
-place-of : {d : Bound} {ds : List Bound} → List·Memᴰ d ds → (i : ℕ) × (i < length ds) × (getD ds i noBound ≡ d)
-place-of (List·Memᴰ·head e) = (0, omega arith, sym e)
-place-of (List·Memᴰ·tail m) = let r = place-of m in (suc (r .0), omega arith, r .2)
 
 right-pair : (a b : EventName) (given : List Bound) → isWrongPair a b given ≡ false → isNext (a .letter) ≡ true → isNext (b .letter) ≡ false
 unfolding isWrongPair
@@ -31,16 +29,28 @@ accepted-sound p h =
       some-job = h .jobs-least;
       few-jobs = h .jobs-most;
       min-max = λ i l. h .job-at i l .min-most;
-      bounds = λ d m.
-          let r = place-of m in
-          let n = length-take (p .bounds) (p .bound) in
-          let l : r .0 < p .bounds = omega (arith, r .1) in
-          let e : getD (p .bound) (r .0) noBound ≡ d = sym (getD-take (p .bounds) (p .bound) (r .0) noBound l) ∙ r .2 in
-          subst (SoundBound p) e
-          (let b = h .bound-at (r .0) l in
+      bound-places = omega (arith, h .bounds-most, h .bound-places);
+      bounds = λ k l.
+          let b = h .bound-at k l in
           record {
             a = record { least = b .a-least; most = b .a-most };
             b = record { least = b .b-least; most = b .b-most };
-            one-this = right-pair (getD (p .bound) (r .0) noBound .a) (getD (p .bound) (r .0) noBound .b) (take (r .0) (p .bound)) (h .pair-at (r .0) l);
-          });
+            one-this = right-pair (boundIn p k .a) (boundIn p k .b) (take k (p .bound)) (h .pair-at k l);
+          };
     }
+
+-- ---- places that are there
+
+there : {A : Type 0} (xs : List A) (k : ℕ) (d e : A) → k < length xs → getD xs k d ≡ getD xs k e
+there [] k d e h = absurd (omega arith)
+there (x ∷ xs) zero d e h = refl
+there (x ∷ xs) (suc k) d e h = there xs k d e (omega arith)
+
+module _ (p : Plan) (h : Accepted p) where
+  pub turn-there : (k : ℕ) (x : Job) → getD (p .job) (k % p .jobs) x ≡ turn p k
+  turn-there k x =
+      let l = mod-lt k (h .jobs-least) in
+      there (p .job) (k % p .jobs) x noJob (omega (arith, h .jobs-most, h .job-places))
+
+  pub bound-there : (k : ℕ) → k < p .bounds → (d : Bound) → getD (p .bound) k d ≡ boundIn p k
+  bound-there k l d = there (p .bound) k d noBound (omega (arith, h .bounds-most, h .bound-places))

@@ -2,16 +2,15 @@
 use Prim.Native.Nat.{ℕ, _≤_, _<_}
 use mathlib.Core.Path.{_≡_}
 use mathlib.Core.Bool.{true, false}
-use mathlib.Core.List.{List·Memᴰ}
 use lib.Signed.{_≤ℤ_}
-use lib.ListN.{getD}
+use lib.ListN.{length, getD}
 use Rattle.plan.specs.declared.Bound.{Bound}
 use Rattle.plan.specs.declared.EventName.{EventName}
 use Rattle.plan.specs.declared.Plan.{Plan}
 use Rattle.plan.specs.EventNames.{isNext}
 use Rattle.plan.specs.Limits.{mostJobs}
 use Rattle.plan.specs.PlanRead.{noJob}
-use Rattle.plan.specs.PlanWritten.{boundsOf}
+use Rattle.strategy.specs.Strategies.{boundIn}
 
 -- 'a job digit of 0 or above `jobs`' is refused
 pub record NamesJob (p : Plan) (e : EventName) : Type 0 where
@@ -28,4 +27,5 @@ pub record Sound (p : Plan) : Type 0 where
   pub some-job : 0 < p .jobs
   pub few-jobs : p .jobs ≤ mostJobs
   pub min-max : (i : ℕ) → i < p .jobs → getD (p .job) i noJob .min ≤ℤ getD (p .job) i noJob .max
-  pub bounds : (d : Bound) → List·Memᴰ d (boundsOf p) → SoundBound p d
+  pub bound-places : p .bounds ≤ length (p .bound)
+  pub bounds : (k : ℕ) → k < p .bounds → SoundBound p (boundIn p k)

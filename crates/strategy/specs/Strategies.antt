@@ -1,6 +1,6 @@
 -- What a strategy is: 002's Definitions 3 and 4, with document 01's bounds. Nothing is named here but the plan's own numbers and bounds.
 use Prim.Native.Nat.{ℕ, zero, suc, _+_, _*_, _-_, _<_}
-use mathlib.Core.List.{[], List·Memᴰ}
+use mathlib.Core.List.{[]}
 use lib.IntN.{ℤ, _-ℤ_}
 use lib.Signed.{_≤ℤ_}
 use lib.ListN.{length, getD}
@@ -11,7 +11,7 @@ use Rattle.plan.specs.declared.Kind.the-variants as kind
 use Rattle.plan.specs.declared.EventName.{EventName}
 use Rattle.plan.specs.declared.Bound.{Bound}
 use Rattle.plan.specs.declared.Plan.{Plan}
-use Rattle.plan.specs.PlanWritten.{boundsOf}
+use Rattle.plan.specs.PlanRead.{noBound}
 use Rattle.strategy.specs.Histories.{Ran, History, noRan, ranFor, turn, seenFrom}
 
 -- ---- the bounds of one window and the next, over what was seen from that window on, on its own clock
@@ -35,6 +35,10 @@ kindIn kind.Finish r = r .finish
 abbrev pub timeIn : Plan → History → EventName → ℤ
 timeIn p u e = kindIn (e .kind) (ranIn u (placeIn p e))
 
+-- '`bounds=`', 'that many `bound=A,B,c`': the bound at a place, from 0; those of the plan are at the places below `bounds`
+abbrev pub boundIn : Plan → ℕ → Bound
+boundIn p k = getD (p .bound) k noBound
+
 -- '`bound=A,B,c` means A - B <= c.'
 abbrev pub GivenKept : Plan → History → Bound → Type 0
 GivenKept p u d =
@@ -48,7 +52,7 @@ pub record KeptIn (p : Plan) (u : History) : Type 0 where
   -- 'the finish of job i is at most the start of job i+1', 'the last finish is at most the next window's first start'
   pub ordered : (i : ℕ) → i < p .jobs → suc i < length u → ranIn u i .finish ≤ℤ ranIn u (suc i) .start
   -- 'all given bounds'
-  pub given : (d : Bound) → List·Memᴰ d (boundsOf p) → GivenKept p u d
+  pub given : (k : ℕ) → k < p .bounds → GivenKept p u (boundIn p k)
 
 -- every bound of every window and of every two neighbours
 abbrev pub Kept : Plan → History → Type 0

@@ -27,12 +27,12 @@ use Rattle.bounds.specs.Events.{jobAt, shift, earliest, latest, nodeOf, nodes}
 use Rattle.bounds.specs.BuildLaws.{either-true, neither-true}
 use Rattle.rounds.specs.Given.{placeOf, eventAt, meant, hasNext, inOrder, ownBounds, betweenBounds}
 use Rattle.strategy.specs.Histories.{History, turn}
-use Rattle.strategy.specs.Strategies.{ranIn, placeIn, kindIn, GivenKept, KeptIn}
+use Rattle.strategy.specs.Strategies.{ranIn, placeIn, kindIn, boundIn, GivenKept, KeptIn}
 use Rattle.strategy.specs.Keeping.{when, RunsWithin, Timely}
 use Rattle.strategy.specs.SetLaws.{jobAt-turn}
 use Rattle.strategy.specs.EliminationLaws.{below-or-last}
 use Rattle.strategy.specs.Soundness.{Sound}
-use Rattle.strategy.specs.GivenLaws.{All, BetweenKept, Below, Ranged, OwnAll, own-all, all-own, AcrossAll, across-all, all-across}
+use Rattle.strategy.specs.GivenLaws.{places-listed, listed-sound, All, BetweenKept, Below, Ranged, OwnAll, own-all, all-own, AcrossAll, across-all, all-across}
 
 -- the plan's bounds that u can have broken, and each start of its first window leaves room for the longest run
 pub record Held (p : Plan) (u : History) : Type 0 where
@@ -80,7 +80,7 @@ module _ (p : Plan) where
           ordered = λ i h. record { y = omega arith; z = omega arith };
           given =
               λ d m n.
-              let s = sound .bounds d m in
+              let s = listed-sound p sound d m in
               let t = neither-true (isNext (d .a .letter)) (isNext (d .b .letter)) n in
               record {
                 y = node-below (d .b .kind) _ _ (place-this (d .b .letter) (d .b .job) (t .1) (s .b .least) (s .b .most));
@@ -97,7 +97,7 @@ module _ (p : Plan) where
           ordered = record { y = omega arith; z = omega arith };
           given =
               λ d m n.
-              let s = sound .bounds d m in
+              let s = listed-sound p sound d m in
               record {
                 y = node-below (d .b .kind) _ _ (place-two (d .b .letter) (d .b .job) (s .b .least) (s .b .most));
                 z = node-below (d .a .kind) _ _ (place-two (d .a .letter) (d .a .job) (s .a .least) (s .a .most));
@@ -168,9 +168,8 @@ module _ (p : Plan) (sound : Sound p) (u : History) where
   given-of d h i j =
       rw (when-named p u (d .a .kind) (placeIn p (d .a)), when-named p u (d .b .kind) (placeIn p (d .b))) at h
 
-  of-given : (d : Bound) → List·Memᴰ d (boundsOf p) → placeIn p (d .a) < length u → placeIn p (d .b) < length u
-      → GivenKept p u d → BetweenKept u (meant p d)
-  of-given d m i j h =
+  of-given : (d : Bound) → placeIn p (d .a) < length u → placeIn p (d .b) < length u → GivenKept p u d → BetweenKept u (meant p d)
+  of-given d i j h =
       rw (when-named p u (d .a .kind) (placeIn p (d .a)), when-named p u (d .b .kind) (placeIn p (d .b))) (h i j)
 
   pub held-own : Held p u → Timely p u → p .jobs ≤ length u → All (BetweenKept u) (ownBounds p)
@@ -183,12 +182,14 @@ module _ (p : Plan) (sound : Sound p) (u : History) where
             (old i (omega arith));
         ordered = λ i a. of-order i (h .kept .ordered i (omega arith) (omega arith));
         given =
-            λ d m n.
-            let s = sound .bounds d m in
+            places-listed p (sound .bound-places) (λ d. hasNext d ≡ false → BetweenKept u (meant p d)) .0
+            (λ k l n.
+            let d = boundIn p k in
+            let s = sound .bounds k l in
             let t = neither-true (isNext (d .a .letter)) (isNext (d .b .letter)) n in
             let pa = place-this p (d .a .letter) (d .a .job) (t .0) (s .a .least) (s .a .most) in
             let pb = place-this p (d .b .letter) (d .b .job) (t .1) (s .b .least) (s .b .most) in
-            of-given d m (omega arith) (omega arith) (h .kept .given d m);
+            of-given d (omega arith) (omega arith) (h .kept .given k l));
       })
 
   pub held-across : Held p u → p .jobs + p .jobs ≤ length u → All (BetweenKept u) (betweenBounds p)
@@ -198,11 +199,13 @@ module _ (p : Plan) (sound : Sound p) (u : History) where
       (record {
         ordered = of-order (p .jobs - 1) (h .kept .ordered (p .jobs - 1) (omega arith) (omega arith));
         given =
-            λ d m n.
-            let s = sound .bounds d m in
+            places-listed p (sound .bound-places) (λ d. hasNext d ≡ true → BetweenKept u (meant p d)) .0
+            (λ k l n.
+            let d = boundIn p k in
+            let s = sound .bounds k l in
             let pa = place-two p (d .a .letter) (d .a .job) (s .a .least) (s .a .most) in
             let pb = place-two p (d .b .letter) (d .b .job) (s .b .least) (s .b .most) in
-            of-given d m (omega arith) (omega arith) (h .kept .given d m);
+            of-given d (omega arith) (omega arith) (h .kept .given k l));
       })
 
   ordered-at : OwnAll (BetweenKept u) p → (p .jobs < length u → AcrossAll (BetweenKept u) p)
@@ -236,7 +239,7 @@ module _ (p : Plan) (sound : Sound p) (u : History) where
               released = λ i h s. range-release p u i h (o .ranged i h);
               inTime = λ i h s. range-deadline p u i h (o .ranged i h);
               ordered = λ i h s. ordered-at o a i s (last-or-not i h);
-              given = λ d m. given-at o a d m (hasNext d) refl;
+              given = places-listed p (sound .bound-places) (GivenKept p u) .1 (λ d m. given-at o a d m (hasNext d) refl);
             };
         punctual = λ i h s. range-punctual p u i h (o .ranged i h);
       }

@@ -1,8 +1,7 @@
 -- Document 01's P and P3 under the theorems: P has a strategy for every number of windows; P3 has one for seven windows and none for eight.
 use Prim.Native.Nat.{ℕ, zero, suc, _<_}
-use mathlib.Core.Path.{_≡_, refl, sym, subst}
-use mathlib.Core.Logic.{⊎-elim}
-use mathlib.Core.List.{List, _∷_, List·Memᴰ·not-nil, List·Memᴰ·cases-cons}
+use mathlib.Core.Path.{_≡_, refl}
+use mathlib.Core.List.{List, _∷_}
 use native.Mathlib.Omega.{arith}
 use lib.IntN.{ℤ, pos, negsuc}
 use lib.Signed.{_≤ℤ_}
@@ -20,7 +19,7 @@ use Rattle.bounds.specs.Tables.{least, plus, join, at, listed, leastOf, judgeme
 use Rattle.bounds.specs.Elimination.{finishCell, startCell, thenSet, withoutPlace, eliminated}
 use Rattle.rounds.specs.Given.{givenBounds, ranges, orders, ownBounds, betweenBounds}
 use Rattle.rounds.specs.Rounds.{C0, onNext, joined, round, sameCell, sameRow, sameRows, failsAlone, decided, roundsFrom, outcomeFrom, outcome, verdict}
-use Rattle.strategy.specs.Strategies.{StrategyFor, StrategyForAll}
+use Rattle.strategy.specs.Strategies.{boundIn, StrategyFor, StrategyForAll}
 use Rattle.strategy.specs.Soundness.{SoundBound, Sound}
 use Rattle.strategy.specs.Theorems.{settled-means, no-strategy-means}
 
@@ -72,14 +71,14 @@ P-sound =
       some-job = omega arith;
       few-jobs = omega arith;
       min-max = min-max 2 (P .bound);
-      bounds =
-          λ d m.
-          ⊎-elim (λ (e : d ≡ close (pos 12)). subst (SoundBound P) (sym e) (close-sound 2 (P .bound) (pos 12)))
-          (λ n.
-          ⊎-elim (λ (e : d ≡ apart (negsuc 7)). subst (SoundBound P) (sym e) (apart-sound 2 (P .bound) (negsuc 7))) (λ k. absurd (List·Memᴰ·not-nil k))
-          (List·Memᴰ·cases-cons n))
-          (List·Memᴰ·cases-cons m);
+      bound-places = omega arith;
+      bounds = bounds;
     }
+  where
+    bounds : (k : ℕ) → k < 2 → SoundBound P (boundIn P k)
+    bounds zero h = close-sound 2 (P .bound) (pos 12)
+    bounds (suc zero) h = apart-sound 2 (P .bound) (negsuc 7)
+    bounds (suc (suc k)) h = absurd (omega arith)
 
 P3-sound : Sound P3
 P3-sound =
@@ -87,11 +86,13 @@ P3-sound =
       some-job = omega arith;
       few-jobs = omega arith;
       min-max = min-max 1 (P3 .bound);
-      bounds =
-          λ d m.
-          ⊎-elim (λ (e : d ≡ close (pos 9)). subst (SoundBound P3) (sym e) (close-sound 1 (P3 .bound) (pos 9))) (λ k. absurd (List·Memᴰ·not-nil k))
-          (List·Memᴰ·cases-cons m);
+      bound-places = omega arith;
+      bounds = bounds;
     }
+  where
+    bounds : (k : ℕ) → k < 1 → SoundBound P3 (boundIn P3 k)
+    bounds zero h = close-sound 1 (P3 .bound) (pos 9)
+    bounds (suc k) h = absurd (omega arith)
 
 -- naming this on an `unfolding` line opens every definition of the verdict
 computing : Type 0
