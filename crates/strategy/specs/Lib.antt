@@ -35,6 +35,7 @@ pub mod OfferLaws
 pub mod GameLaws
 pub mod RunLaws
 pub mod TimeLaws
+pub mod SteppedLaws
 pub mod ReachedLaws
 pub mod StepsLaws
 -- what is to be read first

@@ -40,15 +40,16 @@ use Rattle.runs.specs.declared.Choice.{Choice}
 use Rattle.runs.specs.declared.Choice.the-variants.{At, Auto}
 use Rattle.runs.specs.declared.Step.{Step}
 use Rattle.runs.specs.declared.Step.the-variants.{Ask, Start, Finish}
-use Rattle.runs.specs.declared.Answer.the-variants.{Started, Final, Refused}
+use Rattle.runs.specs.declared.Answer.the-variants.{Offered, Started, Final, Refused}
 use Rattle.runs.specs.declared.Answered.{Answered}
 use Rattle.runs.specs.ValueLimits.{isTime}
 use Rattle.runs.specs.Offers.{noProbe, offerOf, opened, openingIn, opening}
 use Rattle.runs.specs.Steps.{newRun, refusedWith, asked, startedAt, started, closed, finished, stepped}
 use Rattle.strategy.specs.Histories.{Ran, History, turn}
 use Rattle.strategy.specs.Strategies.{ranIn, Kept, StrategyAfter}
-use Rattle.strategy.specs.Reaching.{OnOffer, Reached, begun}
+use Rattle.strategy.specs.Reaching.{OnOffer, InTimes, AtTurn, Reached, begun}
 use Rattle.strategy.specs.Reaching as reaching
+use Rattle.strategy.specs.SteppedLaws.{turn-is, within-is, ask-offered, start-taken, start-refused, finish-inside, final-inside, finish-outside}
 use Rattle.strategy.specs.CellLaws.{present}
 use Rattle.strategy.specs.EliminationLaws.{below-or-last}
 use Rattle.plan.specs.Accepted.{Accepted}
@@ -192,16 +193,11 @@ record Taken (r : Run) (x : Opening) (after : Run) : Type 0 where
   on : offer .from .0 ≤ℤ offer .to .0 → OnOffer offer (time .0)
   after-is : after ≡ runningSince r window job time
 
-within-true : (lo hi z : ℤ) (a b : Bool) → leZ lo z ≡ a → leZ z hi ≡ b → a && b ≡ true → (lo ≤ℤ z) × (z ≤ℤ hi)
-within-true lo hi z true true e g h = (omega wholes, omega wholes)
-within-true lo hi z true false e g h = absurd (let z : _≡_ {A = ℕ} 0 1 = cc in omega arith)
-within-true lo hi z false b e g h = absurd (let z : _≡_ {A = ℕ} 0 1 = cc in omega arith)
-
 started-at : (r : Run) (a b : ℕ) (o : Offer) (t : RunTime) (j i : ℕ) (u : RunTime) (x : Bool) → within (o .from .0) (o .to .0) (t .0) ≡ x
     → cond x (startedAt r a b t) (record { answer = Refused refusal.OutsideOffer; run = r }) .answer ≡ Started j i u
     → Taken r (Open a b o) (cond x (startedAt r a b t) (record { answer = Refused refusal.OutsideOffer; run = r }) .run)
 started-at r a b o t j i u true e h =
-    let w = within-true (o .from .0) (o .to .0) (t .0) _ _ refl refl e in
+    let w = within-is (o .from .0) (o .to .0) (t .0) e in
     record { window = a; job = b; offer = o; time = t; open-is = refl; on = λ s. record { least = w .0; most = w .1 }; after-is = refl }
 started-at r a b o t j i u false e h = absurd (let z : _≡_ {A = ℕ} 0 1 = cc in omega arith)
 
@@ -234,7 +230,7 @@ ended-at : (p : Plan) (r : Run) (J I : ℕ) (s t : RunTime) (j i : ℕ) (u : Run
     (cond {A = Answered} x (record { answer = Final J I t; run = closed p r J I (record { start = s; finish = t }) })
     (record { answer = Refused refusal.OutsideTimes; run = r }) .run)
 ended-at p r J I s t j i u true e h =
-    let w = within-true _ _ (t .0) _ _ refl refl e in
+    let w = within-is _ _ (t .0) e in
     record { least = w .0; most = w .1; after-is = refl }
 ended-at p r J I s t j i u false e h = absurd (let z : _≡_ {A = ℕ} 0 1 = cc in omega arith)
 
@@ -486,6 +482,33 @@ module _ (p : Plan) (sound : Sound p) (m : ℕ) (c : Rows) (accepted : outcome p
     pub reached-kept : Kept p h
     reached-kept = run-held (state p sound m c s f reached)
 
+    -- whose turn it is
+    turn-of-well : (j i g : ℕ) → Well p sound m c s f h j i (suc g) → AtTurn p h (suc j) (suc i)
+    turn-of-well j i g w =
+        record {
+          window = omega arith;
+          job-least = omega arith;
+          job-most = omega (arith, w .ig);
+          finished = w .size ∙ ap₂ (λ (a b : ℕ). a * p .jobs + b) (let e : j ≡ suc j - 1 = omega arith in e) (let e : i ≡ suc i - 1 = omega arith in e);
+        }
+
+    turn-from : (j i g J I : ℕ) → suc j ≡ J → suc i ≡ I → Well p sound m c s f h j i (suc g) → AtTurn p h J I
+    turn-from j i g J I a b w = subst (AtTurn p h J) b (subst (λ j. AtTurn p h j (suc i)) a (turn-of-well j i g w))
+
+    waiting-turn : (J I : ℕ) → r .phase ≡ Waiting J I → Waits p sound m c s f r h ⊎ Runs p sound m c s f r h → AtTurn p h J I
+    waiting-turn J I e (inl w) = let d = w .phase in turn-from (w .j) (w .i) (w .g) J I (cc) (cc) (w .well)
+    waiting-turn J I e (inr w) = let d = w .phase in absurd (let z : _≡_ {A = ℕ} 0 1 = cc in omega arith)
+
+    running-turn : (J I : ℕ) (t : RunTime) → r .phase ≡ Running J I t → Waits p sound m c s f r h ⊎ Runs p sound m c s f r h → AtTurn p h J I
+    running-turn J I t e (inl w) = let d = w .phase in absurd (let z : _≡_ {A = ℕ} 0 1 = cc in omega arith)
+    running-turn J I t e (inr w) = let d = w .phase in turn-from (w .j) (w .i) (w .g) J I (cc) (cc) (w .well)
+
+    pub reached-waiting : (J I : ℕ) → r .phase ≡ Waiting J I → AtTurn p h J I
+    reached-waiting J I e = waiting-turn J I e (state p sound m c s f reached)
+
+    pub reached-running : (J I : ℕ) (t : RunTime) → r .phase ≡ Running J I t → AtTurn p h J I
+    reached-running J I t e = running-turn J I t e (state p sound m c s f reached)
+
     module _ (J I : ℕ) (phase : r .phase ≡ Waiting J I) where
       abbrev offered : Offer
       offered = offerOf p (calendar p c) r J I
@@ -556,7 +579,7 @@ module _ (p : Plan) (sound : Sound p) (m : ℕ) (c : Rows) (accepted : outcome p
     reached-never-11 (Start choice) e = reached-never-empty (started-empty r choice (opening p (calendar p c) r) e)
     reached-never-11 (Finish t) e = finished-empty p r t (r .phase) e
 
-    -- while the run lasts it is open, and its lower end can be taken
+    -- while the run lasts it is open: an ask is answered by it, and a start is taken exactly if it is on offer
     opened-as : (J I : ℕ) (o : Offer) → o .from .0 ≤ℤ o .to .0 → opened J I o ≡ Open J I o
     opened-as J I o h = go (ltZ (o .to .0) (o .from .0)) refl
       where
@@ -592,15 +615,27 @@ module _ (p : Plan) (sound : Sound p) (m : ℕ) (c : Rows) (accepted : outcome p
           ap (λ x. started r Auto x .answer) reached-open
           ∙ ap (λ b. cond b (startedAt r J I (o .from)) (refusedWith r outsideLimits) .answer) (reached-time a)
 
-      pub reached-lower : stepped p (calendar p c) r (Start (At (offerOf p (calendar p c) r J I .from))) .answer
-          ≡ Started J I (offerOf p (calendar p c) r J I .from)
-      unfolding stepped started
-      reached-lower =
-          let o = offerOf p (calendar p c) r J I in
-          ap (λ x. started r (At (o .from)) x .answer) reached-open
-          ∙ ap (λ b. cond b (startedAt r J I (o .from)) (refusedWith r refusal.OutsideOffer) .answer) (lower-inside (o .from .0) (o .to .0) (reached-some J I phase) _ _ refl refl)
-        where
-          lower-inside : (a b : ℤ) → a ≤ℤ b → (x y : Bool) → leZ a a ≡ x → leZ a b ≡ y → x && y ≡ true
-          lower-inside a b h true true e g = refl
-          lower-inside a b h true false e g = absurd (omega wholes)
-          lower-inside a b h false y e g = absurd (omega wholes)
+      pub reached-ask : stepped p (calendar p c) r Ask .answer ≡ Offered (offerOf p (calendar p c) r J I)
+      reached-ask = ask-offered p (calendar p c) r J I _ reached-open
+
+      module _ (t : RunTime) where
+        pub reached-taken : OnOffer (offerOf p (calendar p c) r J I) (t .0) → stepped p (calendar p c) r (Start (At t)) .answer ≡ Started J I t
+        reached-taken on = start-taken p (calendar p c) r J I _ reached-open t on
+
+        pub reached-refused : (OnOffer (offerOf p (calendar p c) r J I) (t .0) → ⊥) → stepped p (calendar p c) r (Start (At t)) .answer ≡ Refused refusal.OutsideOffer
+        reached-refused off = start-refused p (calendar p c) r J I _ reached-open t off
+
+    -- a finish is final exactly inside its times
+    module _ (J I : ℕ) (since : RunTime) (phase : r .phase ≡ Running J I since) (t : RunTime) where
+      job-is : turn p (length h) ≡ getD (p .job) (I - 1) noJob
+      job-is = turn-is p h J I (reached-running J I since phase)
+
+      pub reached-final : InTimes (turn p (length h)) (since .0) (t .0) ↔ (stepped p (calendar p c) r (Finish t) .answer ≡ Final J I t)
+      reached-final = (
+        λ i. finish-inside p (calendar p c) r J I since phase t (subst (λ x. InTimes x (since .0) (t .0)) job-is i),
+        λ e. subst (λ x. InTimes x (since .0) (t .0)) (sym job-is) (final-inside p (calendar p c) r J I since phase t e),
+      )
+
+      pub reached-outside : (InTimes (turn p (length h)) (since .0) (t .0) → ⊥) → stepped p (calendar p c) r (Finish t) .answer ≡ Refused refusal.OutsideTimes
+      reached-outside o =
+          finish-outside p (calendar p c) r J I since phase t (λ i. o (subst (λ x. InTimes x (since .0) (t .0)) (sym job-is) i))

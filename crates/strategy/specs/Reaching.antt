@@ -1,11 +1,13 @@
 -- Offers, and runs that kept to them: those that come from the beginning by starts and finishes that were accepted, with the history of their finished jobs.
 -- A step that is refused, and an ask, leave the run as it is.
-use Prim.Native.Nat.{ℕ}
+use Prim.Native.Nat.{ℕ, _+_, _*_, _-_, _≤_}
 use mathlib.Core.Path.{_≡_}
 use mathlib.Core.List.{List, [], _∷_, _++_}
-use lib.IntN.{ℤ}
+use lib.IntN.{ℤ, _+ℤ_}
 use lib.Signed.{_≤ℤ_}
+use lib.ListN.{length}
 use Rattle.clock.specs.declared.RunTime.{RunTime}
+use Rattle.plan.specs.declared.Job.{Job}
 use Rattle.plan.specs.declared.Plan.{Plan}
 use Rattle.calendars.specs.declared.Calendar.{Calendar}
 use Rattle.runs.specs.declared.Phase.the-variants.{Running}
@@ -22,6 +24,18 @@ use Rattle.strategy.specs.Histories.{History}
 pub record OnOffer (o : Offer) (t : ℤ) : Type 0 where
   pub least : o .from .0 ≤ℤ t
   pub most : t ≤ℤ o .to .0
+
+-- a finish at t of a job that runs since s is neither 'earlier than start + min' nor 'later than start + max'
+pub record InTimes (job : Job) (s t : ℤ) : Type 0 where
+  pub least : (s +ℤ job .min) ≤ℤ t
+  pub most : t ≤ℤ (s +ℤ job .max)
+
+-- it is the turn of job i of window j, both counted from 1: so many jobs have finished
+pub record AtTurn (p : Plan) (h : History) (j i : ℕ) : Type 0 where
+  pub window : 1 ≤ j
+  pub job-least : 1 ≤ i
+  pub job-most : i ≤ p .jobs
+  pub finished : length h ≡ (j - 1) * p .jobs + (i - 1)
 
 pub data Reached (p : Plan) (c : Calendar) : Run → History → Type 0 where
   begun : Reached p c newRun []

@@ -5,9 +5,11 @@ use Prim.Native.Nat.{ℕ, suc, _+_, _*_, _-_, _≤_, _<_}
 use mathlib.Core.Path.{_≡_, refl}
 use mathlib.Core.Logic.{_↔_}
 use mathlib.Core.List.{List}
+use native.Mathlib.Omega.{arith}
 use lib.IntN.{ℤ, _+ℤ_}
 use lib.Signed.{_≤ℤ_}
 use lib.ListN.{length}
+use Rattle.clock.specs.declared.RunTime.{RunTime}
 use Rattle.plan.specs.declared.Plan.{Plan}
 use Rattle.plan.specs.Accepted.{Accepted}
 use Rattle.plan.specs.declared.Refusal.the-variants as refusal
@@ -18,17 +20,18 @@ use Rattle.rounds.specs.declared.Verdict.the-variants.{Settled, NoStrategy}
 use Rattle.rounds.specs.Rounds.{settled, outcome, verdict}
 use Rattle.calendars.specs.declared.Calendar.{Calendar}
 use Rattle.calendars.specs.Calendars.{calendar}
-use Rattle.runs.specs.declared.Phase.the-variants.{Waiting}
+use Rattle.runs.specs.declared.Phase.the-variants.{Waiting, Running}
 use Rattle.runs.specs.declared.Run.{Run}
+use Rattle.runs.specs.declared.Choice.{Choice}
 use Rattle.runs.specs.declared.Choice.the-variants.{At, Auto}
 use Rattle.runs.specs.declared.Step.{Step}
-use Rattle.runs.specs.declared.Step.the-variants.{Start}
-use Rattle.runs.specs.declared.Answer.the-variants.{Started, Refused}
+use Rattle.runs.specs.declared.Step.the-variants.{Ask, Start, Finish}
+use Rattle.runs.specs.declared.Answer.the-variants.{Offered, Started, Final, Refused}
 use Rattle.runs.specs.Offers.{offerOf}
 use Rattle.runs.specs.Steps.{newRun, stepped}
-use Rattle.strategy.specs.Histories.{History, seenFrom}
+use Rattle.strategy.specs.Histories.{History, turn, seenFrom}
 use Rattle.strategy.specs.Strategies.{Kept, Forced, Strategy, StrategyAfter, StrategyFor, StrategyForAll}
-use Rattle.strategy.specs.Reaching.{OnOffer, Reached, afterSteps, ReachedWith}
+use Rattle.strategy.specs.Reaching.{OnOffer, InTimes, AtTurn, Reached, afterSteps, ReachedWith}
 use Rattle.strategy.specs.Keeping.{Keeps, Timely, Extreme, Anchored, Sized}
 use Rattle.strategy.specs.Soundness.{Sound}
 use Rattle.strategy.specs.SetLaws.{judged-iff, judged-none}
@@ -37,7 +40,8 @@ use Rattle.strategy.specs.KeptLaws.{Punctual}
 use Rattle.strategy.specs.RoundLaws.{C, strategy-kept, strategy-keeps, keeps-strategy}
 use Rattle.strategy.specs.VerdictLaws.{settled-is, settled-from-then, settled-strategy, settled-outcome, none-is, none-outcome}
 use Rattle.strategy.specs.GameLaws.{fewer-windows}
-use Rattle.strategy.specs.ReachedLaws.{reached-kept, reached-some, reached-offer, reached-never-11, reached-lower, reached-auto}
+use Rattle.strategy.specs.ReachedLaws.{reached-kept, reached-some, reached-offer, reached-never-11, reached-waiting, reached-running, reached-ask, reached-taken, reached-refused, reached-auto, reached-final, reached-outside}
+use Rattle.strategy.specs.SteppedLaws.{started-running, final-next, final-over}
 use Rattle.strategy.specs.StepsLaws.{steps-reached}
 
 -- ---- what a strategy is, as equations
@@ -118,13 +122,41 @@ module _ (p : Plan) (sound : Sound p) where
       pub offer-exact : (t : ℤ) → OnOffer (offerOf p (calendar p c) r j i) t ↔ ((k : ℕ) → StrategyAfter p h t ((p .jobs - i) + k * p .jobs))
       offer-exact t = reached-offer p sound m c accepted r h reached j i waits t
 
-      -- While the run lasts, the lower end of the offer can be taken, and `start=auto` takes it: it is in the range of T.
-      pub lower-end-taken : j ≤ p .last → stepped p (calendar p c) r (Start (At (offerOf p (calendar p c) r j i .from))) .answer
-          ≡ Started j i (offerOf p (calendar p c) r j i .from)
-      lower-end-taken lasts = reached-lower p sound m c accepted r h reached j i waits lasts
+      -- It is that job's turn.
+      pub waits-at-turn : AtTurn p h j i
+      waits-at-turn = reached-waiting p sound m c accepted r h reached j i waits
 
-      pub auto-taken : Accepted p → j ≤ p .last → stepped p (calendar p c) r (Start Auto) .answer ≡ Started j i (offerOf p (calendar p c) r j i .from)
-      auto-taken limits lasts = reached-auto p sound m c accepted r h reached j i waits lasts limits
+      module _ (lasts : j ≤ p .last) where
+        -- While the run lasts, an ask is answered by that offer,
+        pub ask-answered : stepped p (calendar p c) r Ask .answer ≡ Offered (offerOf p (calendar p c) r j i)
+        ask-answered = reached-ask p sound m c accepted r h reached j i waits lasts
+
+        -- a start on offer is taken,
+        pub on-offer-taken : (t : RunTime) → OnOffer (offerOf p (calendar p c) r j i) (t .0) → stepped p (calendar p c) r (Start (At t)) .answer ≡ Started j i t
+        on-offer-taken = reached-taken p sound m c accepted r h reached j i waits lasts
+
+        -- any other start is refused by 8,
+        pub off-offer-refused : (t : RunTime) → (OnOffer (offerOf p (calendar p c) r j i) (t .0) → ⊥)
+            → stepped p (calendar p c) r (Start (At t)) .answer ≡ Refused refusal.OutsideOffer
+        off-offer-refused = reached-refused p sound m c accepted r h reached j i waits lasts
+
+        -- and `start=auto` takes the lower end of the offer, which is in the range of T.
+        pub auto-taken : Accepted p → stepped p (calendar p c) r (Start Auto) .answer ≡ Started j i (offerOf p (calendar p c) r j i .from)
+        auto-taken limits = reached-auto p sound m c accepted r h reached j i waits lasts limits
+
+    -- The run runs job i of window j since s.
+    module _ (j i : ℕ) (s : RunTime) (runs : r .phase ≡ Running j i s) where
+      pub runs-at-turn : AtTurn p h j i
+      runs-at-turn = reached-running p sound m c accepted r h reached j i s runs
+
+      module _ (t : RunTime) where
+        -- A finish is final if and only if it is inside the times of the job whose turn it is,
+        pub inside-final : InTimes (turn p (length h)) (s .0) (t .0) ↔ (stepped p (calendar p c) r (Finish t) .answer ≡ Final j i t)
+        inside-final = reached-final p sound m c accepted r h reached j i s runs t
+
+        -- and else refused by 9.
+        pub outside-refused : (InTimes (turn p (length h)) (s .0) (t .0) → ⊥) → stepped p (calendar p c) r (Finish t) .answer ≡ Refused refusal.OutsideTimes
+        outside-refused = reached-outside p sound m c accepted r h reached j i s runs t
 
     -- Refusal 11 is never given.
     pub never-11 : (st : Step) → stepped p (calendar p c) r st .answer ≡ Refused refusal.EmptyOffer → ⊥
@@ -133,6 +165,22 @@ module _ (p : Plan) (sound : Sound p) where
     -- The run has kept every bound.
     pub all-kept : Kept p h
     all-kept = reached-kept p sound m c accepted r h reached
+
+-- ---- steps of any run, with any plan and calendar: what they make of it
+
+module _ (p : Plan) (c : Calendar) (r : Run) (j i : ℕ) where
+  -- A start that was answered by `started=j,i,t` leaves the run running that job since t.
+  pub started-runs : (choice : Choice) (t : RunTime) → stepped p c r (Start choice) .answer ≡ Started j i t
+      → stepped p c r (Start choice) .run .phase ≡ Running j i t
+  started-runs choice t e = started-running p c r choice j i t e
+
+  -- A finish that was answered by `final=j,i,t` leaves the run waiting for the window's next job, or for the first job of the next window.
+  module _ (s t : RunTime) (runs : r .phase ≡ Running j i s) (final : stepped p c r (Finish t) .answer ≡ Final j i t) where
+    pub then-next-job : i < p .jobs → stepped p c r (Finish t) .run .phase ≡ Waiting j (i + 1)
+    then-next-job = final-next p c r j i s runs t final
+
+    pub then-next-window : i ≡ p .jobs → stepped p c r (Finish t) .run .phase ≡ Waiting (j + 1) 1
+    then-next-window e = final-over p c r j i s runs t final (omega arith)
 
 -- ---- sessions: whatever the steps are, the run after them is one of which the theorems on offers speak.
 pub session-reached : (p : Plan) (c : Calendar) (sts : List Step) → ReachedWith p c (afterSteps p c newRun sts)
