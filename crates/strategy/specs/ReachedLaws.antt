@@ -3,14 +3,14 @@
 use Prim.Native.Nat.{ℕ, zero, suc, _+_, _*_, _-_, _≤_, _<_}
 use mathlib.Core.Path.{_≡_, refl, sym, ap, ap₂, subst, _∙_}
 use mathlib.Core.Logic.{_↔_, _⊎_, inl, inr, ⊎-elim}
-use mathlib.Core.Bool.{Bool, true, false, cond, _&&_}
+use mathlib.Core.Bool.{Bool, true, false, cond}
 use mathlib.Core.List.{List, [], _∷_, _++_}
 use native.Mathlib.Nat.{mod-eq-of-lt}
 use native.Mathlib.Numerals.{add-one}
 use native.Mathlib.Omega.{arith}
 use lib.Dec.{ltb}
 use lib.IntN.{ℤ, _+ℤ_, _-ℤ_}
-use lib.Signed.{_≤ℤ_, leZ, ltZ}
+use lib.Signed.{_≤ℤ_, ltZ}
 use lib.ListN.{length, getD, set, length-set}
 use lib.Seq.{getD-set-same, getD-set-other}
 use borrow.Author.Tests.{lt-ltb, le-ltb}
@@ -45,11 +45,11 @@ use Rattle.runs.specs.declared.Answered.{Answered}
 use Rattle.runs.specs.ValueLimits.{isTime}
 use Rattle.runs.specs.Offers.{noProbe, offerOf, opened, openingIn, opening}
 use Rattle.runs.specs.Steps.{newRun, refusedWith, asked, startedAt, started, closed, finished, stepped}
-use Rattle.strategy.specs.Histories.{Ran, History, turn}
+use Rattle.strategy.specs.Histories.{Ran, History, ranFor, turn}
 use Rattle.strategy.specs.Strategies.{ranIn, Kept, StrategyAfter}
 use Rattle.strategy.specs.Reaching.{OnOffer, InTimes, AtTurn, Reached, begun}
 use Rattle.strategy.specs.Reaching as reaching
-use Rattle.strategy.specs.SteppedLaws.{turn-is, within-is, ask-offered, start-taken, start-refused, finish-inside, final-inside, finish-outside}
+use Rattle.strategy.specs.SteppedLaws.{turn-is, within-is, started-running, ask-offered, start-taken, start-refused, finish-inside, final-inside, finish-outside}
 use Rattle.strategy.specs.CellLaws.{present}
 use Rattle.strategy.specs.EliminationLaws.{below-or-last}
 use Rattle.plan.specs.Accepted.{Accepted}
@@ -595,15 +595,19 @@ module _ (p : Plan) (sound : Sound p) (m : ℕ) (c : Rows) (accepted : outcome p
           ∙ ap (λ b. cond b (Shut refusal.Over) (opened J I (offerOf p (calendar p c) r J I))) (le-ltb (p .last) J lasts)
           ∙ opened-as J I (offerOf p (calendar p c) r J I) (reached-some J I phase)
 
-      -- the lower end is in the range of T, so `start=auto` takes it
-      pub reached-time : Accepted p → isTime (offerOf p (calendar p c) r J I .from) ≡ true
-      reached-time a =
+      -- what is on offer is in the range of T
+      pub reached-in-range : Accepted p → (t : RunTime) → OnOffer (offerOf p (calendar p c) r J I) (t .0) → isTime t ≡ true
+      reached-in-range a t on =
           let n = at-turn J I phase in
           let w = n .waits .well in
+          start-time p a h (n .waits .j) (n .waits .i) _ (w .size) (let g = w .ig in omega arith) (subst (λ j. j ≤ p .last) (sym (n .window)) lasts) (t .0)
+          (reached-offer J I phase (t .0) .0 on 0)
+
+      -- and so is the lower end, so `start=auto` takes it
+      reached-time : Accepted p → isTime (offerOf p (calendar p c) r J I .from) ≡ true
+      reached-time a =
           let o = offerOf p (calendar p c) r J I in
-          let lower : OnOffer o (o .from .0) = record { least = le-self (o .from .0); most = reached-some J I phase } in
-          start-time p a h (n .waits .j) (n .waits .i) _ (w .size) (let g = w .ig in omega arith) (subst (λ j. j ≤ p .last) (sym (n .window)) lasts) (o .from .0)
-          (reached-offer J I phase (o .from .0) .0 lower 0)
+          reached-in-range a (o .from) (record { least = le-self (o .from .0); most = reached-some J I phase })
         where
           le-self : (t : ℤ) → t ≤ℤ t
           le-self t = omega wholes
@@ -639,3 +643,25 @@ module _ (p : Plan) (sound : Sound p) (m : ℕ) (c : Rows) (accepted : outcome p
       pub reached-outside : (InTimes (turn p (length h)) (since .0) (t .0) → ⊥) → stepped p (calendar p c) r (Finish t) .answer ≡ Refused refusal.OutsideTimes
       reached-outside o =
           finish-outside p (calendar p c) r J I since phase t (λ i. o (subst (λ x. InTimes x (since .0) (t .0)) (sym job-is) i))
+
+  -- ---- a start on offer and a running time between min and max lead on
+
+  module _ (r : Run) (h : History) (reached : Reached p (calendar p c) r h) (J I : ℕ) (phase : r .phase ≡ Waiting J I) (lasts : J ≤ p .last)
+      (t : RunTime) (on : OnOffer (offerOf p (calendar p c) r J I) (t .0)) where
+    abbrev begins : Run
+    begins = stepped p (calendar p c) r (Start (At t)) .run
+
+    taken : stepped p (calendar p c) r (Start (At t)) .answer ≡ Started J I t
+    taken = reached-taken r h reached J I phase lasts t on
+
+    begins-reached : Reached p (calendar p c) begins h
+    begins-reached = reaching.started reached (At t) J I t taken
+
+    begins-running : begins .phase ≡ Running J I t
+    begins-running = started-running p (calendar p c) r (At t) J I t taken
+
+    pub reached-on : (e : ℤ) → turn p (length h) .min ≤ℤ e → e ≤ℤ turn p (length h) .max → (r′ : Run) × Reached p (calendar p c) r′ (ranFor h (t .0) e)
+    reached-on e lo hi =
+        let u : RunTime = record { 0 = t .0 +ℤ e } in
+        let inside : InTimes (turn p (length h)) (t .0) (t .0 +ℤ e) = record { least = omega wholes; most = omega wholes } in
+        (_, reaching.finished begins-reached J I t u begins-running (reached-final begins h begins-reached J I t begins-running u .0 inside))

@@ -17,7 +17,7 @@ use Rattle.runs.specs.declared.Choice.{Choice}
 use Rattle.runs.specs.declared.Step.{Step}
 use Rattle.runs.specs.declared.Step.the-variants.{Start, Finish}
 use Rattle.runs.specs.declared.Answer.the-variants.{Started, Final}
-use Rattle.runs.specs.Steps.{newRun, stepped}
+use Rattle.runs.specs.Steps.{newRun, stepped, step}
 use Rattle.strategy.specs.Histories.{History}
 
 -- 'both ends included'
@@ -53,6 +53,11 @@ pub data Reached (p : Plan) (c : Calendar) : Run → History → Type 0 where
 unfoldable pub afterSteps : Plan → Calendar → Run → List Step → Run
 afterSteps p c r [] = r
 afterSteps p c r (st ∷ sts) = afterSteps p c (stepped p c r st .run) sts
+
+-- and after steps on values, which `ask`, `start_at`, `start_auto` and `finish_at` answer
+unfoldable pub afterValues : Plan → Calendar → Run → List Step → Run
+afterValues p c r [] = r
+afterValues p c r (st ∷ sts) = afterValues p c (step p c r st .run) sts
 
 -- a run that kept to its offers, with its history
 pub record ReachedWith (p : Plan) (c : Calendar) (r : Run) : Type 0 where

@@ -1,8 +1,8 @@
 -- An accepted plan is sound. It has a place for each of its jobs and bounds, so what `turn` and `boundIn` would answer past the places is never looked at
 -- (`turn-there`, `bound-there`).
-use Prim.Native.Nat.{ℕ, zero, suc, _%_, _≤_, _<_}
+use Prim.Native.Nat.{ℕ, zero, suc, _%_, _<_}
 use mathlib.Core.Path.{_≡_, refl, subst}
-use mathlib.Core.Bool.{Bool, true, false, _&&_, _||_}
+use mathlib.Core.Bool.{true, false, _&&_}
 use mathlib.Core.List.{List, [], _∷_}
 use native.Mathlib.Nat.{mod-lt}
 use native.Mathlib.Omega.{arith}
@@ -13,11 +13,11 @@ use Rattle.plan.specs.declared.EventName.{EventName}
 use Rattle.plan.specs.declared.Plan.{Plan}
 use Rattle.plan.specs.EventNames.{isNext}
 use Rattle.plan.specs.PlanRead.{isWrongPair, noJob, noBound}
-use Rattle.plan.specs.Accepted.{JobAccepted, BoundAccepted, Accepted}
+use Rattle.plan.specs.Accepted.{Accepted}
 use Rattle.bounds.specs.BuildLaws.{neither-true}
 use Rattle.strategy.specs.Histories.{turn}
 use Rattle.strategy.specs.Strategies.{boundIn}
-use Rattle.strategy.specs.Soundness.{NamesJob, SoundBound, Sound}
+use Rattle.strategy.specs.Soundness.{Sound}
 
 right-pair : (a b : EventName) (given : List Bound) → isWrongPair a b given ≡ false → isNext (a .letter) ≡ true → isNext (b .letter) ≡ false
 unfolding isWrongPair

@@ -1,15 +1,14 @@
 -- How a run is answered, of any run with any plan and calendar. A start that is answered leaves the run running since then (`started-running`). A finish is
 -- final exactly inside its times (`finish-inside`, `final-inside`, `finish-outside`), and then the run waits for the window's next job (`final-next`) or for the first
 -- job of the next window (`final-over`). While an opening is open, a start is taken exactly if it is on offer (`start-taken`, `start-refused`).
-use Prim.Native.Nat.{ℕ, suc, _+_, _*_, _-_, _≤_, _<_}
-use mathlib.Core.Path.{_≡_, refl, sym, ap, subst, _∙_}
+use Prim.Native.Nat.{ℕ, _+_, _-_, _≤_, _<_}
+use mathlib.Core.Path.{_≡_, refl, ap, _∙_}
 use mathlib.Core.Bool.{Bool, true, false, cond, _&&_}
 use native.Mathlib.Nat.{mod-eq-of-lt}
 use native.Mathlib.Omega.{arith}
-use lib.Dec.{ltb}
 use lib.IntN.{ℤ, _+ℤ_}
 use lib.Signed.{_≤ℤ_, leZ}
-use lib.ListN.{length, getD, set}
+use lib.ListN.{length, getD}
 use borrow.Author.Tests.{lt-ltb, le-ltb}
 use Rattle.whole.specs.Rules.{wholes}
 use Rattle.text.specs.Numbers.{within}
@@ -21,7 +20,6 @@ use Rattle.plan.specs.declared.Refusal.the-variants as refusal
 use Rattle.plan.specs.Refusals.{outsideLimits}
 use Rattle.plan.specs.PlanRead.{noJob}
 use Rattle.calendars.specs.declared.Calendar.{Calendar}
-use Rattle.runs.specs.declared.Probe.{Probe}
 use Rattle.runs.specs.declared.Phase.the-variants.{Waiting, Running}
 use Rattle.runs.specs.declared.Run.{Run}
 use Rattle.runs.specs.declared.Offer.{Offer}
@@ -34,7 +32,7 @@ use Rattle.runs.specs.declared.Answer.the-variants.{Offered, Started, Final, Re
 use Rattle.runs.specs.declared.Answered.{Answered}
 use Rattle.runs.specs.ValueLimits.{isTime}
 use Rattle.runs.specs.Offers.{opening}
-use Rattle.runs.specs.Steps.{noProbes, refusedWith, asked, startedAt, started, closed, finished, stepped}
+use Rattle.runs.specs.Steps.{refusedWith, asked, startedAt, started, closed, finished, stepped}
 use Rattle.strategy.specs.Histories.{History, turn}
 use Rattle.strategy.specs.Reaching.{OnOffer, InTimes, AtTurn}
 use Rattle.strategy.specs.SeenLaws.{turn-seen}

@@ -85,7 +85,7 @@ module _ (p : Plan) (c : Calendar) where
   same-reached : {r q : Run} {h : History} → q ≡ r → Reached p c r h → ReachedWith p c q
   same-reached {h = h} e k = record { history = h; reached = subst (λ r. Reached p c r h) (sym e) k }
 
-  step-reached : {r : Run} {h : History} → Reached p c r h → (st : Step) → ReachedWith p c (stepped p c r st .run)
+  pub step-reached : {r : Run} {h : History} → Reached p c r h → (st : Step) → ReachedWith p c (stepped p c r st .run)
   unfolding stepped
   step-reached {r} k Ask = same-reached (asked-same r (opening p c r)) k
   step-reached {r} {h} k (Start choice) =

@@ -27,9 +27,10 @@ use Rattle.runs.specs.declared.Choice.the-variants.{At, Auto}
 use Rattle.runs.specs.declared.Step.{Step}
 use Rattle.runs.specs.declared.Step.the-variants.{Ask, Start, Finish}
 use Rattle.runs.specs.declared.Answer.the-variants.{Offered, Started, Final, Refused}
+use Rattle.runs.specs.ValueLimits.{isTime}
 use Rattle.runs.specs.Offers.{offerOf}
 use Rattle.runs.specs.Steps.{newRun, stepped}
-use Rattle.strategy.specs.Histories.{History, turn, seenFrom}
+use Rattle.strategy.specs.Histories.{History, ranFor, turn, seenFrom}
 use Rattle.strategy.specs.Strategies.{Kept, Forced, Strategy, StrategyAfter, StrategyFor, StrategyForAll}
 use Rattle.strategy.specs.Reaching.{OnOffer, InTimes, AtTurn, Reached, afterSteps, ReachedWith}
 use Rattle.strategy.specs.Keeping.{Keeps, Timely, Extreme, Anchored, Sized}
@@ -40,7 +41,7 @@ use Rattle.strategy.specs.KeptLaws.{Punctual}
 use Rattle.strategy.specs.RoundLaws.{C, strategy-kept, strategy-keeps, keeps-strategy}
 use Rattle.strategy.specs.VerdictLaws.{settled-is, settled-from-then, settled-strategy, settled-outcome, none-is, none-outcome}
 use Rattle.strategy.specs.GameLaws.{fewer-windows}
-use Rattle.strategy.specs.ReachedLaws.{reached-kept, reached-some, reached-offer, reached-never-11, reached-waiting, reached-running, reached-ask, reached-taken, reached-refused, reached-auto, reached-final, reached-outside}
+use Rattle.strategy.specs.ReachedLaws.{reached-kept, reached-some, reached-offer, reached-never-11, reached-waiting, reached-running, reached-ask, reached-taken, reached-in-range, reached-refused, reached-auto, reached-on, reached-final, reached-outside}
 use Rattle.strategy.specs.SteppedLaws.{started-running, final-next, final-over}
 use Rattle.strategy.specs.StepsLaws.{steps-reached}
 
@@ -135,14 +136,23 @@ module _ (p : Plan) (sound : Sound p) where
         pub on-offer-taken : (t : RunTime) → OnOffer (offerOf p (calendar p c) r j i) (t .0) → stepped p (calendar p c) r (Start (At t)) .answer ≡ Started j i t
         on-offer-taken = reached-taken p sound m c accepted r h reached j i waits lasts
 
+        -- and is in the range of T,
+        pub on-offer-in-range : Accepted p → (t : RunTime) → OnOffer (offerOf p (calendar p c) r j i) (t .0) → isTime t ≡ true
+        on-offer-in-range = reached-in-range p sound m c accepted r h reached j i waits lasts
+
         -- any other start is refused by 8,
         pub off-offer-refused : (t : RunTime) → (OnOffer (offerOf p (calendar p c) r j i) (t .0) → ⊥)
             → stepped p (calendar p c) r (Start (At t)) .answer ≡ Refused refusal.OutsideOffer
         off-offer-refused = reached-refused p sound m c accepted r h reached j i waits lasts
 
-        -- and `start=auto` takes the lower end of the offer, which is in the range of T.
+        -- and `start=auto` takes the lower end of the offer.
         pub auto-taken : Accepted p → stepped p (calendar p c) r (Start Auto) .answer ≡ Started j i (offerOf p (calendar p c) r j i .from)
         auto-taken limits = reached-auto p sound m c accepted r h reached j i waits lasts limits
+
+        -- So no run is missing: from here every start on offer and every running time between min and max lead to a run with that history.
+        pub no-run-missing : (t : RunTime) → OnOffer (offerOf p (calendar p c) r j i) (t .0)
+            → (e : ℤ) → turn p (length h) .min ≤ℤ e → e ≤ℤ turn p (length h) .max → (r′ : Run) × Reached p (calendar p c) r′ (ranFor h (t .0) e)
+        no-run-missing = reached-on p sound m c accepted r h reached j i waits lasts
 
     -- The run runs job i of window j since s.
     module _ (j i : ℕ) (s : RunTime) (runs : r .phase ≡ Running j i s) where
