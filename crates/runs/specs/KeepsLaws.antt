@@ -1,7 +1,8 @@
--- A run inside its limits stays there, whatever step comes (`stepped-keeps`): a refusal leaves it as it is, a start is at a time on offer or brought with
--- the step, and a finish is recorded at a place below the next job's.
+-- A run at its beginning is inside its limits (`newRun-is`), and a run inside its limits stays there, whatever step comes (`stepped-keeps`): a refusal leaves it as
+-- it is, a start is at a time on offer or brought with the step, and a finish is recorded at a place below the next job's. So it is for steps on values, with a plan
+-- and a calendar inside theirs (`step-keeps`).
 use Prim.Native.Nat.{ℕ, zero, suc, _+_, _-_, _≤_}
-use mathlib.Core.Path.{_≡_, refl, ap, subst}
+use mathlib.Core.Path.{_≡_, refl, sym, ap, subst}
 use mathlib.Core.Bool.{Bool, true, false, cond, _&&_}
 use mathlib.Core.List.{List, [], _∷_}
 use native.Mathlib.Omega.{arith}
@@ -17,6 +18,7 @@ use Rattle.plan.specs.declared.Refusal.{Refusal}
 use Rattle.plan.specs.declared.Refusal.the-variants as refusal
 use Rattle.plan.specs.Refusals.{outsideLimits}
 use Rattle.plan.specs.PlanRead.{noJob}
+use Rattle.plan.specs.Accepted.{Accepted}
 use Rattle.calendars.specs.declared.Calendar.{Calendar}
 use Rattle.runs.specs.declared.Answer.the-variants.{Final}
 use Rattle.runs.specs.declared.Choice.{Choice}
@@ -36,6 +38,7 @@ use Rattle.runs.specs.TestLaws.{and-true, and-left, and-right, or-of-tru
 use Rattle.runs.specs.Offers.{offerOf, opened, openingIn, opening}
 use Rattle.runs.specs.Steps.{
   noProbes,
+  newRun,
   refusedWith,
   asked,
   startedAt,
@@ -45,7 +48,11 @@ use Rattle.runs.specs.Steps.{
   finished,
   isStep,
   stepped,
+  step,
 }
+use Rattle.runs.specs.Inside.{Inside}
+use Rattle.runs.specs.LimitLaws.{areTimes-none}
+use Rattle.runs.specs.StepLaws.{step-inside, step-outside}
 use Rattle.runs.specs.InsideLaws.{Turn, run-phase, run-previous, run-present, waiting-turn, running-turn, running-time}
 
 -- ---- runs put together
@@ -81,6 +88,12 @@ waiting-is p j i t = or-of-true (isTurn p j i) _ (turn-is p j i t)
 fresh : areTimes (take 0 noProbes) ≡ true
 unfolding areTimes
 fresh = refl
+
+-- ---- a run at its beginning
+
+pub newRun-is : (p : Plan) → Accepted p → isRun p newRun ≡ true
+unfolding isRun isPhase
+newRun-is p a = rw (le-leb 1 (p .last) (a .last-least), le-leb 1 (p .jobs) (a .jobs-least)) (areTimes-none noProbes)
 
 -- ---- start
 
@@ -197,3 +210,13 @@ module _ (p : Plan) (c : Calendar) (r : Run) where
     stepped-keeps Ask h = asked-keeps (opening p c r)
     stepped-keeps (Start choice) h = started-keeps choice (opening p c r) refl h
     stepped-keeps (Finish t) h = finished-keeps t (r .phase) refl h
+
+-- ---- steps on values
+
+module _ (p : Plan) (c : Calendar) (r : Run) (st : Step) (inside : Inside p c r) where
+  run-after : (b : Bool) → isStep st ≡ b → isRun p (step p c r st .run) ≡ true
+  run-after true e = subst (λ (a : Answered). isRun p (a .run) ≡ true) (sym (step-inside p c r st inside e)) (stepped-keeps p c r (inside .run) st e)
+  run-after false e = subst (λ (a : Answered). isRun p (a .run) ≡ true) (sym (step-outside p c r st inside e)) (inside .run)
+
+  pub step-keeps : Inside p c (step p c r st .run)
+  step-keeps = record { plan = inside .plan; calendar = inside .calendar; run = run-after (isStep st) refl }

@@ -128,8 +128,12 @@ module _ (p : Plan) (c : Calendar) (r : Run) (st : Step) (a : PlanAnswer) (judge
   unfolding step
   step-accepted e = rw (judgedAnswer-none (judgedPlan p) (sym judged ∙ e))
 
--- ---- a step on values inside their limits is that step of the run
+-- ---- a step on values inside their limits is that step of the run; one whose time is outside is refused
 
 pub step-inside : (p : Plan) (c : Calendar) (r : Run) (st : Step) → Inside p c r → isStep st ≡ true → step p c r st ≡ stepped p c r st
 unfolding step valuesRefused unlessRefused
 step-inside p c r st i e = rw (accepted-judged p (i .plan), i .run, i .calendar, e)
+
+pub step-outside : (p : Plan) (c : Calendar) (r : Run) (st : Step) → Inside p c r → isStep st ≡ false → step p c r st ≡ refusedWith r outsideLimits
+unfolding step valuesRefused unlessRefused
+step-outside p c r st i e = rw (accepted-judged p (i .plan), i .run, i .calendar, e)

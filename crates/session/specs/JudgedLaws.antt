@@ -2,12 +2,10 @@
 -- `judged-unsettled`). A settled plan, its calendar and a run at its beginning are inside their limits (`judged-inside`). What is decided of an accepted plan makes it a
 -- judged one (`judged-decided`).
 
-use Prim.Native.Nat.{ℕ, _≤_}
+use Prim.Native.Nat.{ℕ}
 use mathlib.Core.Path.{_≡_, refl, sym, ap, _∙_}
-use mathlib.Core.Bool.{true}
 use mathlib.Core.List.{List}
 use native.Mathlib.Omega.{arith}
-use borrow.Author.Tests.{le-leb}
 use Rattle.plan.specs.declared.Plan.{Plan}
 use Rattle.plan.specs.declared.Refusal.the-variants as refusal
 use Rattle.plan.specs.Refusals.{refusedLine}
@@ -19,9 +17,9 @@ use Rattle.calendars.specs.declared.Calendar.{Calendar}
 use Rattle.rounds.specs.Rounds.{Outcome, settled, noStrategy, unsettled, outcome, verdictOf, verdict}
 use Rattle.calendars.specs.Calendars.{calendar}
 use Rattle.calendars.specs.Decisions.{madeCalendar}
-use Rattle.runs.specs.Steps.{noProbes, newRun}
-use Rattle.runs.specs.ValueLimits.{areTimes, isPhase, isRun, isCalendar}
-use Rattle.runs.specs.LimitLaws.{areTimes-none}
+use Rattle.runs.specs.Steps.{newRun}
+use Rattle.runs.specs.ValueLimits.{isCalendar}
+use Rattle.runs.specs.KeepsLaws.{newRun-is}
 use Rattle.runs.specs.MadeLaws.{made-inside}
 use Rattle.runs.specs.Inside.{Inside}
 use Rattle.session.specs.Sessions.{answers, judgedSession}
@@ -36,10 +34,6 @@ judged-decided p a v c e d =
     record { accepted = a; verdict = e; calendar = is; inside = λ m t o. ap (isCalendar p) (is m t o) ∙ made-inside p a m t o }
 
 -- ---- what a judged session says
-
-newRun-is : (p : Plan) → Accepted p → isRun p newRun ≡ true
-unfolding isRun isPhase
-newRun-is p a = rw (le-leb 1 (p .last) (a .last-least), le-leb 1 (p .jobs) (a .jobs-least)) (areTimes-none noProbes)
 
 module _ (p : Plan) (v : Verdict) (c : Calendar) (j : Judged p v c) where
   pub judged-inside : (m : ℕ) → v ≡ Settled m → Inside p c newRun
