@@ -12,6 +12,7 @@ pub mod CalendarTextLaws
 pub mod RecordedLaws
 pub mod CalendarsLaws
 pub mod DecisionsLaws
+pub mod ToldLaws
 pub mod ValueLaws
 pub mod ValueTextLaws
 pub mod Unique

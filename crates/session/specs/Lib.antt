@@ -11,6 +11,7 @@ pub mod AnswerTextLaws
 pub mod AnswerJobLaws
 pub mod SessionLaws
 pub mod GoingLaws
+pub mod PrintedLaws
 pub mod JudgedLaws
 pub mod HeadLaws
 pub mod Unique

@@ -1,6 +1,7 @@
 -- The laws of a session's answers.
 -- Steps are answered one at a time: where nothing is left there is no answer (`answers-end`); a line that is no step is the last (`answers-refused`); a step's
--- answer is the last where it ends the session (`answers-last`), and else the answers to what follows come after it (`answers-more`).
+-- answer is the last where it ends the session (`answers-last`) or where nothing follows (`answers-only`), and else the answers to what follows come after it
+-- (`answers-more`).
 
 use Prim.Native.Nat.{ℕ, zero, suc, _+_, _≤_, _<_}
 use mathlib.Core.Path.{_≡_, refl, sym, ap, _∙_}
@@ -75,7 +76,7 @@ module _ (p : Plan) (c : Calendar) where
     answers-refused x part e = answers-read r s n h ∙ ap (λ (m : Reading Step). afterStep p c r m (answers p c)) e
 
     module _ (st : Step) (t : List ℕ) (m : ℕ) (a : Answered) (e : stepLine s n ≡ read st t m) (d : a ≡ stepped p c r st) where
-      answered : answers p c r s n ≡ answerLine (a .answer) ++ cond (endsSession (a .answer)) [] (answers p c (a .run) t m)
+      pub answered : answers p c r s n ≡ answerLine (a .answer) ++ cond (endsSession (a .answer)) [] (answers p c (a .run) t m)
       unfolding afterStep answeredStep
       answered =
           answers-read r s n h
@@ -90,3 +91,14 @@ module _ (p : Plan) (c : Calendar) where
 
       pub answers-more : endsSession (a .answer) ≡ false → answers p c r s n ≡ answerLine (a .answer) ++ answers p c (a .run) t m
       answers-more g = answered ∙ ap (λ (b : Bool). answerLine (a .answer) ++ cond b [] (answers p c (a .run) t m)) g
+
+    -- the last step, whatever its answer
+    pub answers-only : (st : Step) (m : ℕ) (a : Answered) → stepLine s n ≡ read st [] m → a ≡ stepped p c r st → answers p c r s n ≡ answerLine (a .answer)
+    answers-only st m a e d = by (endsSession (a .answer)) refl
+      where
+        by : (b : Bool) → endsSession (a .answer) ≡ b → answers p c r s n ≡ answerLine (a .answer)
+        by true g = answers-last st [] m a e d g
+        by false g =
+            answers-more st [] m a e d g
+            ∙ ap (λ (rest : List ℕ). answerLine (a .answer) ++ rest) (answers-end (a .run) [] 0 m (omega arith))
+            ∙ append-nil (answerLine (a .answer))
