@@ -1,15 +1,16 @@
--- What is promised, in the words of the definitions: that a refusal moves no run, the round trips, the verdict, the offers, and that these are the offers that
--- a session prints. Each proof cites where the work was done, above all `plan`, PlanLaws, and `strategy`, Theorems. What is promised of bytes stands in the
--- contracts of the code (docs/PROMISES.md).
+-- What is promised, in the words of the definitions: that a refusal moves no run, the round trips, the verdict, the offers, and which steps are taken. Each proof
+-- cites where the work was done, above all `plan`, PlanLaws, and `strategy`, Theorems. That these are the answers which the programs print stands in
+-- `Printed`; what is promised of bytes, in the contracts of the code (docs/PROMISES.md).
 use Prim.Native.Nat.{ℕ, _+_, _*_, _-_, _≤_, _<_}
-use mathlib.Core.Path.{_≡_, refl, ap, _∙_}
-use mathlib.Core.Bool.{true, false}
+use mathlib.Core.Path.{_≡_}
+use mathlib.Core.Bool.{true}
 use mathlib.Core.Option.{none}
 use mathlib.Core.Logic.{_↔_}
-use mathlib.Core.List.{List, [], _∷_, _++_}
+use mathlib.Core.List.{List, []}
 use lib.IntN.{ℤ}
 use lib.Signed.{_≤ℤ_}
 use lib.ListN.{length}
+use Rattle.clock.specs.declared.RunTime.{RunTime}
 use Rattle.plan.specs.declared.Plan.{Plan}
 use Rattle.plan.specs.declared.Refusal.{Refusal}
 use Rattle.plan.specs.declared.Refusal.the-variants as refusal
@@ -24,31 +25,29 @@ use Rattle.values.specs.JudgedLines.{Placed}
 use Rattle.values.specs.JudgedLaws.{judgedPlan-accepted}
 use Rattle.bounds.specs.Tables.{Rows}
 use Rattle.rounds.specs.declared.Verdict.the-variants.{Settled, NoStrategy}
-use Rattle.rounds.specs.Rounds.{Outcome, settled, outcome, verdict}
+use Rattle.rounds.specs.Rounds.{settled, outcome, verdict}
 use Rattle.calendars.specs.declared.Calendar.{Calendar}
 use Rattle.calendars.specs.Calendars.{calendar}
-use Rattle.runs.specs.declared.Phase.the-variants.{Waiting}
+use Rattle.runs.specs.declared.Phase.the-variants.{Waiting, Running}
 use Rattle.runs.specs.declared.Run.{Run}
 use Rattle.runs.specs.declared.Step.{Step}
-use Rattle.runs.specs.declared.Choice.the-variants.{Auto}
-use Rattle.runs.specs.declared.Step.the-variants.{Start}
-use Rattle.runs.specs.declared.Answer.the-variants.{Started, Refused}
+use Rattle.runs.specs.declared.Choice.{Choice}
+use Rattle.runs.specs.declared.Choice.the-variants.{At, Auto}
+use Rattle.runs.specs.declared.Step.the-variants.{Ask, Start, Finish}
+use Rattle.runs.specs.declared.Answer.the-variants.{Offered, Started, Final, Refused}
+use Rattle.runs.specs.ValueLimits.{isTime}
 use Rattle.runs.specs.Offers.{offerOf}
 use Rattle.runs.specs.Steps.{newRun, isStep, stepped, step}
 use Rattle.runs.specs.Inside.{Inside}
 use Rattle.runs.specs.MoveLaws as move-laws
 use Rattle.runs.specs.StepLaws as step-laws
-use Rattle.strategy.specs.Histories.{History}
+use Rattle.strategy.specs.Histories.{History, ranFor, turn}
 use Rattle.strategy.specs.Strategies.{Kept, StrategyAfter, StrategyFor, StrategyForAll}
-use Rattle.strategy.specs.Reaching.{OnOffer, Reached, afterSteps, ReachedWith}
+use Rattle.strategy.specs.Reaching.{OnOffer, InTimes, AtTurn, Reached, afterSteps, afterValues, ReachedWith}
 use Rattle.strategy.specs.Soundness.{Sound}
 use Rattle.strategy.specs.SoundLaws.{accepted-sound}
-use Rattle.strategy.specs.StepsLaws.{afterSteps-more}
 use Rattle.strategy.specs.Theorems as demand-3
-use Rattle.session.specs.StepRead.{stepLine}
-use Rattle.session.specs.AnswerText.{answerLine, endsSession}
-use Rattle.session.specs.Sessions.{answers, judgedSession, sessionOf, dispatchOutput}
-use Rattle.session.specs.SessionLaws.{answers-more}
+use Rattle.promises.specs.ValueRuns.{InsideReached, values-from-new}
 
 -- ---- demand 1: 'A refusal moves neither the run ..'
 
@@ -112,11 +111,6 @@ module _ (p : Plan) (good : Accepted p) where
         → OnOffer (offerOf p (calendar p c) r j i) x ↔ ((k : ℕ) → StrategyAfter p h x ((p .jobs - i) + k * p .jobs))
     offer-exact = demand-3.offer-exact p sound m c accepted r h reached
 
-    -- so while the run lasts `start=auto` starts the job, at the offer's lower end
-    pub auto-taken : (j i : ℕ) → r .phase ≡ Waiting j i → j ≤ p .last
-        → stepped p (calendar p c) r (Start Auto) .answer ≡ Started j i (offerOf p (calendar p c) r j i .from)
-    auto-taken j i waits lasts = demand-3.auto-taken p sound m c accepted r h reached j i waits good lasts
-
     -- and refusal 11 is never given
     pub never-11 : (st : Step) → stepped p (calendar p c) r st .answer ≡ Refused refusal.EmptyOffer → ⊥
     never-11 = demand-3.never-11 p sound m c accepted r h reached
@@ -124,6 +118,48 @@ module _ (p : Plan) (good : Accepted p) where
     -- and every bound whose events have been seen is kept
     pub all-kept : Kept p h
     all-kept = demand-3.all-kept p sound m c accepted r h reached
+
+    -- Which runs these are is said by the answers to starts and finishes. A run that waits is at the job whose turn it is by its history;
+    module _ (j i : ℕ) (waits : r .phase ≡ Waiting j i) where
+      pub waits-at-turn : AtTurn p h j i
+      waits-at-turn = demand-3.waits-at-turn p sound m c accepted r h reached j i waits
+
+      -- while it lasts, an ask is answered by the offer of which the theorems speak,
+      module _ (lasts : j ≤ p .last) where
+        pub ask-answered : stepped p (calendar p c) r Ask .answer ≡ Offered (offerOf p (calendar p c) r j i)
+        ask-answered = demand-3.ask-answered p sound m c accepted r h reached j i waits lasts
+
+        -- a start is taken exactly if it is on offer, and is then in the range of T,
+        pub on-offer-taken : (t : RunTime) → OnOffer (offerOf p (calendar p c) r j i) (t .0) → stepped p (calendar p c) r (Start (At t)) .answer ≡ Started j i t
+        on-offer-taken = demand-3.on-offer-taken p sound m c accepted r h reached j i waits lasts
+
+        pub off-offer-refused : (t : RunTime) → (OnOffer (offerOf p (calendar p c) r j i) (t .0) → ⊥)
+            → stepped p (calendar p c) r (Start (At t)) .answer ≡ Refused refusal.OutsideOffer
+        off-offer-refused = demand-3.off-offer-refused p sound m c accepted r h reached j i waits lasts
+
+        pub on-offer-in-range : (t : RunTime) → OnOffer (offerOf p (calendar p c) r j i) (t .0) → isTime t ≡ true
+        on-offer-in-range = demand-3.on-offer-in-range p sound m c accepted r h reached j i waits lasts good
+
+        -- `start=auto` is taken, at the offer's lower end,
+        pub auto-taken : stepped p (calendar p c) r (Start Auto) .answer ≡ Started j i (offerOf p (calendar p c) r j i .from)
+        auto-taken = demand-3.auto-taken p sound m c accepted r h reached j i waits lasts good
+
+        -- and so every start on offer, with every running time between min and max, leads to a run of which the theorems speak
+        pub no-run-missing : (t : RunTime) → OnOffer (offerOf p (calendar p c) r j i) (t .0)
+            → (e : ℤ) → turn p (length h) .min ≤ℤ e → e ≤ℤ turn p (length h) .max → (r′ : Run) × Reached p (calendar p c) r′ (ranFor h (t .0) e)
+        no-run-missing = demand-3.no-run-missing p sound m c accepted r h reached j i waits lasts
+
+    -- A run that runs a job since s is at that job's turn; a finish is final exactly if it is between s + min and s + max of the job whose turn it is.
+    module _ (j i : ℕ) (s : RunTime) (runs : r .phase ≡ Running j i s) where
+      pub runs-at-turn : AtTurn p h j i
+      runs-at-turn = demand-3.runs-at-turn p sound m c accepted r h reached j i s runs
+
+      pub inside-final : (t : RunTime) → InTimes (turn p (length h)) (s .0) (t .0) ↔ (stepped p (calendar p c) r (Finish t) .answer ≡ Final j i t)
+      inside-final = demand-3.inside-final p sound m c accepted r h reached j i s runs
+
+      pub outside-refused : (t : RunTime) → (InTimes (turn p (length h)) (s .0) (t .0) → ⊥)
+          → stepped p (calendar p c) r (Finish t) .answer ≡ Refused refusal.OutsideTimes
+      outside-refused = demand-3.outside-refused p sound m c accepted r h reached j i s runs
 
   -- and that run is any that a session comes to, whatever its steps are: those that were refused have left it as it was
   module _ (m : ℕ) (c : Rows) (accepted : outcome p ≡ settled m c) (sts : List Step) where
@@ -134,19 +170,19 @@ module _ (p : Plan) (good : Accepted p) where
     pub session-never-11 : (st : Step) → stepped p (calendar p c) (afterSteps p (calendar p c) newRun sts) st .answer ≡ Refused refusal.EmptyOffer → ⊥
     session-never-11 = never-11 m c accepted _ (session-kept .history) (session-kept .reached)
 
--- ---- and these are the answers that a session prints
+    -- and any that is made on values, from `new_run` by `ask`, `start_at`, `start_auto` and `finish_at`: it is inside its limits too, so that `value-step` speaks of it
+    pub values-kept : InsideReached p (calendar p c) (afterValues p (calendar p c) newRun sts)
+    values-kept = values-from-new p good m c accepted sts
 
--- of a settled plan, the answers to the steps behind it
-pub session-printed : (s : List ℕ) {p : Plan} {t : List ℕ} {n : ℕ} → planHead s ≡ read p t n → (m : ℕ) (c : Rows) → outcome p ≡ settled m c
-    → dispatchOutput s ≡ answers p (calendar p c) newRun t n
-unfolding sessionOf judgedSession
-session-printed s {p} {t} {n} e m c accepted = ap sessionOf e ∙ ap (λ (o : Outcome). judgedSession p o t n) accepted
+-- what a start and a finish that were taken make of any run: it runs since the time that was told; it waits for the window's next job, or for the next window's first
+module _ (p : Plan) (c : Calendar) (r : Run) (j i : ℕ) where
+  pub started-runs : (choice : Choice) (t : RunTime) → stepped p c r (Start choice) .answer ≡ Started j i t
+      → stepped p c r (Start choice) .run .phase ≡ Running j i t
+  started-runs = demand-3.started-runs p c r j i
 
--- each step's in the run after the steps before it
-pub step-printed : (p : Plan) (c : Calendar) (sts : List Step) (s : List ℕ) (n : ℕ) → 0 < length s
-    → (st : Step) (rest : List ℕ) (k : ℕ) → stepLine s n ≡ read st rest k
-    → let a = stepped p c (afterSteps p c newRun sts) st .answer in
-    endsSession a ≡ false → answers p c (afterSteps p c newRun sts) s n ≡ answerLine a ++ answers p c (afterSteps p c newRun (sts ++ (st ∷ []))) rest k
-step-printed p c sts s n some st rest k is goes =
-    rw (afterSteps-more p c newRun sts st)
-    (answers-more p c (afterSteps p c newRun sts) s n some st rest k (stepped p c (afterSteps p c newRun sts) st) is refl goes)
+  module _ (s t : RunTime) (runs : r .phase ≡ Running j i s) (final : stepped p c r (Finish t) .answer ≡ Final j i t) where
+    pub then-next-job : i < p .jobs → stepped p c r (Finish t) .run .phase ≡ Waiting j (i + 1)
+    then-next-job = demand-3.then-next-job p c r j i s t runs final
+
+    pub then-next-window : i ≡ p .jobs → stepped p c r (Finish t) .run .phase ≡ Waiting (j + 1) 1
+    then-next-window = demand-3.then-next-window p c r j i s t runs final
