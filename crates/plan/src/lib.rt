@@ -7,6 +7,9 @@ pub const MOST_JOBS: usize = 9;
 
 pub const MOST_BOUNDS: usize = 64;
 
+// The most bytes that a text can have.
+pub const LONGEST_TEXT: usize = 65_536;
+
 // ---- the plan
 
 // The limits of one job, in whole milliseconds; release and deadline are on the window's own clock.

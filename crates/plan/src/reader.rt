@@ -4,6 +4,7 @@ use crate::EventName;
 use crate::Faulty;
 use crate::Job;
 use crate::Kind;
+use crate::LONGEST_TEXT;
 use crate::Letter;
 use crate::MOST_BOUNDS;
 use crate::MOST_JOBS;
@@ -69,7 +70,7 @@ pub fn read_head(s: &[u8]) -> PlanRead
     ensures { λ r. ⌜ r ≡ planRead (now (s .entry)) (planHead (now (s .entry))) ⌝ }
 {
     let len = s.len();
-    if 65_536 < len {
+    if LONGEST_TEXT < len {
         return refused_plan(Faulty {
             refusal: Refusal::Form(0),
             at: len,
