@@ -6,6 +6,7 @@ pub mod Calendars
 pub mod CalendarText
 pub mod Decisions
 pub mod Recorded
+pub mod Whole
 -- ---- laws
 pub mod BitsLaws
 pub mod CalendarTextLaws
@@ -15,4 +16,5 @@ pub mod DecisionsLaws
 pub mod ToldLaws
 pub mod ValueLaws
 pub mod ValueTextLaws
+pub mod WholeLaws
 pub mod Unique

@@ -5,6 +5,7 @@ use mathlib.Core.Path.{_≡_, ap, ap₂}
 use mathlib.Core.Bool.{Bool}
 use mathlib.Core.List.{List, []}
 use lib.IntN.{ℤ}
+use lib.ListN.{length, take}
 use Rattle.text.specs.Unique.{only, stored-unique}
 use Rattle.text.specs.Lent.{Stored, written}
 use Rattle.plan.specs.declared.Plan.{Plan}
@@ -23,6 +24,7 @@ use Rattle.calendars.specs.declared.ValueDecision.{ValueDecision}
 use Rattle.calendars.specs.Bits.{hasEvent, eventSet, withEvent, eventCount, nextEvent}
 use Rattle.calendars.specs.Calendars.{beforeStarts, calendarOf, noCalendar}
 use Rattle.calendars.specs.CalendarText.{calendarText, calendarOutput}
+use Rattle.calendars.specs.Whole.{writtenWhole}
 use Rattle.calendars.specs.Decisions.{madeCalendar, valueVerdict, valueCalendar, valueText}
 
 -- ---- sets of events
@@ -73,6 +75,12 @@ answer-unique s out = only
 
 pub answer-bytes-unique : (s out : List ℕ) {o p : List ℕ} → o ≡ written (calendarOutput s) out → p ≡ written (calendarOutput s) out → o ≡ p
 answer-bytes-unique s out = only
+
+pub answer-read-unique : (s : List ℕ) (n : ℕ) (out : List ℕ) {r q : ℕ} {o p : List ℕ}
+    → (r ≡ length (calendarOutput (take n s))) × (o ≡ writtenWhole (calendarOutput (take n s)) out)
+    → (q ≡ length (calendarOutput (take n s))) × (p ≡ writtenWhole (calendarOutput (take n s)) out)
+    → (r ≡ q) × (o ≡ p)
+answer-read-unique s n out d e = (only (d .0) (e .0), only (d .1) (e .1))
 
 -- ---- a plan as a value
 

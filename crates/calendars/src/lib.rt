@@ -49,8 +49,8 @@ pub struct ValueDecision {
     pub calendar: Calendar,
 }
 
-// More bytes than the text of any calendar has.
-const MOST_BYTES: usize = 32_768;
+// The most bytes that a calendar's text can have.
+pub const MOST_BYTES: usize = 32_768;
 
 // The two sides of a start: the events that bound it from below, and those that bound it from above.
 enum Side {
@@ -62,6 +62,7 @@ mod bits;
 mod decided;
 mod decision_text;
 mod print;
+mod printed;
 mod program;
 mod recorded;
 mod value;
@@ -69,6 +70,7 @@ mod walk;
 
 pub use decided::decide;
 pub use print::put_calendar;
+pub use printed::answer_read;
 pub use program::answer;
 pub use value::answer_value;
 pub use value::decide_value;

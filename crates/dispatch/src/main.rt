@@ -3,23 +3,16 @@
 use libc::STDERR_FILENO;
 use libc::STDIN_FILENO;
 use libc::STDOUT_FILENO;
-use plan::Written;
+use plan::LONGEST_TEXT;
+use session::MOST_BYTES;
 
 fn main() {
     // One byte more than the longest text has, so that a longer one is told.
-    let mut text = [0u8; 65_537];
+    let mut text = [0u8; LONGEST_TEXT + 1];
     let n = io::read_full(STDIN_FILENO, &mut text);
-    // No answer is longer: 7 bytes for each byte of the longest text, and 56 more.
-    let mut out = [0u8; 458_808];
-    let told = session::answer(&text[..n], &mut out);
-    match told {
-        Written::Length(m) => {
-            if !io::write_all(STDOUT_FILENO, &out[..m]) {
-                io::write_all(STDERR_FILENO, b"dispatch: not all was written\n");
-            }
-        }
-        Written::Refused(_) => {
-            io::write_all(STDERR_FILENO, b"dispatch: no room\n");
-        }
+    let mut out = [0u8; MOST_BYTES];
+    let m = session::answer_read(&text, n, &mut out);
+    if !io::write_all(STDOUT_FILENO, &out[..m]) {
+        io::write_all(STDERR_FILENO, b"dispatch: not all was written\n");
     }
 }

@@ -2,10 +2,12 @@
 use mathlib.Core.Path.{_≡_}
 use mathlib.Core.List.{List}
 use Prim.Native.Nat.{ℕ}
+use lib.ListN.{length, take}
 use Rattle.text.specs.Unique.{only}
 use Rattle.text.specs.Lent.{written}
 use Rattle.session.specs.declared.StepLine.{StepLine}
 use Rattle.plan.specs.declared.Written.{Written}
+use Rattle.calendars.specs.Whole.{writtenWhole}
 use Rattle.session.specs.StepRead.{stepIn}
 use Rattle.session.specs.Sessions.{dispatchOutput, sessionAnswer}
 
@@ -17,3 +19,9 @@ answer-unique s out = only
 
 pub answer-bytes-unique : (s out : List ℕ) {o p : List ℕ} → o ≡ written (dispatchOutput s) out → p ≡ written (dispatchOutput s) out → o ≡ p
 answer-bytes-unique s out = only
+
+pub answer-read-unique : (s : List ℕ) (n : ℕ) (out : List ℕ) {r q : ℕ} {o p : List ℕ}
+    → (r ≡ length (dispatchOutput (take n s))) × (o ≡ writtenWhole (dispatchOutput (take n s)) out)
+    → (q ≡ length (dispatchOutput (take n s))) × (p ≡ writtenWhole (dispatchOutput (take n s)) out)
+    → (r ≡ q) × (o ≡ p)
+answer-read-unique s n out d e = (only (d .0) (e .0), only (d .1) (e .1))

@@ -4,6 +4,9 @@ use plan::Refusal;
 use runs::Step;
 use text::Fault;
 
+// The most bytes that an answer can have: a step has at least 8 bytes, and its answer at most 56.
+pub const MOST_BYTES: usize = 7 * plan::LONGEST_TEXT + 56;
+
 // A step line as it was read: the step, or what the line lacks.
 pub enum StepLine {
     Value(Step),
@@ -18,9 +21,11 @@ enum StepAt {
 
 mod judged;
 mod print;
+mod printed;
 mod program;
 mod read;
 mod steps;
 
+pub use printed::answer_read;
 pub use program::answer;
 pub use read::read_step;

@@ -1,8 +1,15 @@
--- `main`: the length that was answered counts bytes of the slice, by `written-counts`.
-use Rattle.plan.specs.WrittenLaws.{written-counts}
+-- `main`: the length that was answered counts bytes of the array.
+use Prim.Native.Nat.{ℕ, _≤_}
+use mathlib.Core.Path.{_≡_}
+use mathlib.Core.List.{List}
+use native.Mathlib.Omega.{arith}
+use lib.ListN.{length, take, length-take}
 use borrow.Author.Needs.{needs}
 use Rattle.dispatch.proofs.main.Statement.{statement}
 use Rattle.dispatch.proofs.main.Tie as tie
+
+counted : (out : List ℕ) {m : ℕ} → m ≤ length out → m ≡ length (take m out)
+counted out {m} h = omega (arith, length-take m out)
 
 slice-aggregate-read-full : tie.Need-slice-aggregate-read-full
 slice-aggregate-read-full c = search needs
@@ -10,30 +17,14 @@ slice-aggregate-read-full c = search needs
 read-full-requires : tie.Need-read-full-requires
 read-full-requires c κs = search needs
 
-array-share-prefix-text : tie.Need-array-share-prefix-text
-array-share-prefix-text c = search needs
-
-slice-aggregate-answer : tie.Need-slice-aggregate-answer
-slice-aggregate-answer c = search needs
-
-slice-aggregate-answer-2 : tie.Need-slice-aggregate-answer-2
-slice-aggregate-answer-2 c = search needs
-
-answer-requires : tie.Need-answer-requires
-answer-requires c κs = search needs
-
-enum-known-told : tie.Need-enum-known-told
-enum-known-told c = search needs
+answer-read-requires : tie.Need-answer-read-requires
+answer-read-requires c κs = search needs
 
 array-share-prefix-out : tie.Need-array-share-prefix-out
-array-share-prefix-out c =
-    let a = c .before .before .before .before .answer in
-    written-counts _ _ (a .last .1 .0) (a .ensures .0) (a .kept .1 .0) (c .before .told .given .1) .0
+array-share-prefix-out c = c .answer-read .ensures .1 .1
 
 slice-aggregate-write-all : tie.Need-slice-aggregate-write-all
-slice-aggregate-write-all c =
-    let a = c .before .before .before .before .before .answer in
-    written-counts _ _ (a .last .1 .0) (a .ensures .0) (a .kept .1 .0) (c .before .before .told .given .1) .1
+slice-aggregate-write-all c = let a = c .before .answer-read in counted (a .last .1 .1 .0) (a .ensures .1 .1)
 
 write-all-requires : tie.Need-write-all-requires
 write-all-requires c κs = search needs
@@ -44,23 +35,11 @@ slice-aggregate-write-all-2 c = search needs
 write-all-requires-2 : tie.Need-write-all-requires-2
 write-all-requires-2 c κs = search needs
 
-enum-told : tie.Need-enum-told
-enum-told c = search needs
-
-slice-aggregate-write-all-3 : tie.Need-slice-aggregate-write-all-3
-slice-aggregate-write-all-3 c = search needs
-
-write-all-requires-3 : tie.Need-write-all-requires-3
-write-all-requires-3 c κs = search needs
-
 returns : tie.Need-returns
 returns c = search needs
 
 returns-2 : tie.Need-returns-2
 returns-2 c = search needs
-
-returns-3 : tie.Need-returns-3
-returns-3 c = search needs
 
 pub main-spec : {M : Type 1} → statement M
 main-spec =
@@ -68,19 +47,11 @@ main-spec =
     (tie.spec
     slice-aggregate-read-full
     read-full-requires
-    array-share-prefix-text
-    slice-aggregate-answer
-    slice-aggregate-answer-2
-    answer-requires
-    enum-known-told
+    answer-read-requires
     array-share-prefix-out
     slice-aggregate-write-all
     write-all-requires
     slice-aggregate-write-all-2
     write-all-requires-2
-    enum-told
-    slice-aggregate-write-all-3
-    write-all-requires-3
     returns
-    returns-2
-    returns-3)
+    returns-2)

@@ -1,0 +1,32 @@
+-- `answer_whole`: the array has as many bytes as any answer, so it is answered whole (`answered-whole`) and never refused (`answered-never`).
+use native.Mathlib.Omega.{arith}
+use denote.Ref.{now}
+use Rattle.session.specs.Sessions.{dispatchOutput}
+use Rattle.calendars.specs.WholeLaws.{answered-whole, answered-never}
+use borrow.Author.Needs.{needs}
+use Rattle.session.proofs.printed.answer_whole.Statement.{statement}
+use Rattle.session.proofs.printed.answer_whole.Tie as tie
+
+answer-requires : tie.Need-answer-requires
+answer-requires c κs = search needs
+
+enum-known-told : tie.Need-enum-known-told
+enum-known-told c = search needs
+
+enum-told : tie.Need-enum-told
+enum-told c = search needs
+
+returns : tie.Need-returns
+returns c =
+    let s = c .before .before .before .before .before .before in
+    let a = c .before .before .before .answer .ensures in
+    answered-whole (dispatchOutput (now (s .args .text))) (now (s .args .out)) (omega (arith, a .1 .1)) (a .0) (a .1 .0) (c .before .told .given .1)
+
+returns-2 : tie.Need-returns-2
+returns-2 c =
+    let s = c .before .before .before .before .before in
+    let a = c .before .before .answer .ensures in
+    answered-never (dispatchOutput (now (s .args .text))) (now (s .args .out)) (omega (arith, a .1 .1)) (a .0) (c .enum-told .given .1)
+
+pub answer-whole-spec : {M : Type 1} → statement M
+answer-whole-spec = tie.close (tie.spec answer-requires enum-known-told enum-told returns returns-2)
