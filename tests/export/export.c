@@ -5,6 +5,10 @@
 #include <stdlib.h>
 #include <string.h>
 
+/* LONGEST_TEXT and MOST_BYTES are the library's own constants, from the sources of its crates. */
+_Static_assert(GEKUMOSARI_LONGEST_TEXT == LONGEST_TEXT, "the header's longest text is not the library's");
+_Static_assert(GEKUMOSARI_MOST_BYTES == MOST_BYTES, "the header's most bytes are not the library's");
+
 /* Document 01's plan P, and the steps and the whole output of P2. */
 #define PLAN \
     "window=10\nrounds=100\nlast=1000\njobs=1\nmin=2\nmax=4\nrelease=0\ndeadline=10\n" \
