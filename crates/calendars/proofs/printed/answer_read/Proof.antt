@@ -11,9 +11,7 @@ use Rattle.calendars.proofs.printed.answer_read.Statement.{statement}
 use Rattle.calendars.proofs.printed.answer_read.Tie as tie
 
 slice-aggregate-answer-whole : tie.Need-slice-aggregate-answer-whole
-slice-aggregate-answer-whole c =
-    let s = c .before .before .before in
-    omega (arith, length-take (s .args .n) (now (s .args .read)))
+slice-aggregate-answer-whole c = simp length-take (omega arith)
 
 answer-whole-requires : tie.Need-answer-whole-requires
 answer-whole-requires c κs = search needs
