@@ -1,6 +1,6 @@
 -- The calendar, as document 01 has it. In reading order: sets of events as bits, the calendar, the calendar program's output, and what is decided of a
--- plan; these files are definitions alone, and Recorded is how the code reads one side of a start. Then the laws of sets of events, of the calendar, of its text
--- and of what is decided.
+-- plan; these files are definitions alone, and Recorded is how the code reads one side of a start, Whole what an array holds that has room for every
+-- text. Then the laws of sets of events, of the calendar, of its text and of what is decided.
 pub mod Bits
 pub mod Calendars
 pub mod CalendarText

@@ -1,5 +1,5 @@
--- The laws of a text that has room in a lent slice, whatever it is: its writer answers its length and leaves the text and the bytes past it (`answered-whole`), and no
--- refusal (`answered-never`); and a text that equals it was written so too (`whole-as`).
+-- The laws of a text that has room in a lent slice, whatever it is: its writer answers its length and leaves the text and the bytes past it
+-- (`answered-whole`), and no refusal (`answered-never`); and a text that equals it was written so too (`whole-as`).
 
 use Prim.Native.Nat.{ℕ, _≤_}
 use mathlib.Core.Path.{_≡_, sym, ap, _∙_}

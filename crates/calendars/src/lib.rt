@@ -49,7 +49,7 @@ pub struct ValueDecision {
     pub calendar: Calendar,
 }
 
-// The most bytes that a calendar's text can have.
+// No calendar's text has more bytes.
 pub const MOST_BYTES: usize = 32_768;
 
 // The two sides of a start: the events that bound it from below, and those that bound it from above.

@@ -4,7 +4,7 @@ use plan::Refusal;
 use runs::Step;
 use text::Fault;
 
-// The most bytes that an answer can have: a step has at least 8 bytes, and its answer at most 56.
+// No answer has more bytes: a step has at least 8, and its answer at most 56.
 pub const MOST_BYTES: usize = 7 * plan::LONGEST_TEXT + 56;
 
 // A step line as it was read: the step, or what the line lacks.
