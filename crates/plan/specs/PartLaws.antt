@@ -1,13 +1,14 @@
 -- The faulty line is a part of the text that was read. What a reading leaves, or refuses from its faulty line on, is the text from some place on (`Tail`): so it is of a line
 -- (`line-tail`), of one reading after another (`next-tail`), of each group of a plan's lines, and of a plan (`planHead-tail`, `planAlone-tail`). So the place which the
--- reader tells is in the text (`planRead-place`), and the line that begins there is the faulty one (`partAt-read`).
+-- reader tells is where the faulty line begins (`tail-place`). What is told of an answer and its place is what is told of the reading, where that is refused there (`told-refused`; for want of
+-- a line at the text's end, `end-empty`) and where it is not refused (`told-none`).
 use mathlib.Core.Path.{_≡_, refl, sym, _∙_, ap}
 use mathlib.Core.Bool.{Bool, true, false, cond}
 use mathlib.Core.List.{List, [], _∷_, _++_, append-assoc, append-nil}
-use Prim.Native.Nat.{ℕ, zero, suc, _+_, _-_, _≤_}
+use Prim.Native.Nat.{ℕ, zero, suc, _+_, _-_, _<_}
 use native.Mathlib.Omega.{arith}
 use lib.Dec.{leb}
-use lib.ListN.{length, take, drop, length-append, take-append-drop}
+use lib.ListN.{length, take, drop, length-append, take-append-drop, drop-of-length-le}
 use lib.Seq.{drop-append-seam}
 use Rattle.text.specs.Lines.{LF, before, has, lenTo}
 use Rattle.text.specs.declared.Fault.the-variants as fault
@@ -15,10 +16,13 @@ use Rattle.plan.specs.declared.Job.{Job}
 use Rattle.plan.specs.declared.Bound.{Bound}
 use Rattle.plan.specs.declared.Plan.{Plan}
 use Rattle.plan.specs.Limits.{longestText}
+use Rattle.plan.specs.declared.PlanAnswer.{PlanAnswer}
+use Rattle.plan.specs.declared.PlanAnswer.the-variants.{Accepted, Refused}
+use Rattle.plan.specs.declared.Refusal.{Refusal}
 use Rattle.plan.specs.Refusals.{tooLong}
 use Rattle.plan.specs.Reading.{Lined, value, bad, Reading, read, refused, Reader, next, lined, line, faultyPart}
 use Rattle.plan.specs.PlanRead.{jobLines, jobsAfter, boundsAfter, planLines, planHead, nothingAfter, planAlone}
-use Rattle.plan.specs.PlanAnswers.{planRead, partAt}
+use Rattle.plan.specs.PlanAnswers.{answerNumber, answerValue, partAt, Told}
 
 -- ---- a tail of a text
 
@@ -39,7 +43,7 @@ tail-more : {s t u : List ℕ} → Tail s t → Tail t u → Tail s u
 tail-more {u = u} p q = record { head = p .head ++ q .head; is = p .is ∙ ap (λ (x : List ℕ). p .head ++ x) (q .is) ∙ sym (append-assoc (p .head) (q .head) u) }
 
 -- a tail is told by how much of the text is left there
-tail-place : {s t : List ℕ} → Tail s t → drop (length s - length t) s ≡ t
+pub tail-place : {s t : List ℕ} → Tail s t → drop (length s - length t) s ≡ t
 tail-place {s} {t} p =
     let k : length s - length t ≡ length (p .head) = omega (arith, ap length (p .is), length-append (p .head) t) in
     ap (λ (x : ℕ). drop x s) k ∙ ap (drop (length (p .head))) (p .is) ∙ drop-append-seam (p .head) t
@@ -115,15 +119,23 @@ nothingAfter-tail s (refused x t) h = h
 pub planAlone-tail : (s : List ℕ) → Tail s (leaves (planAlone s))
 planAlone-tail s = nothingAfter-tail s (planHead s) (planHead-tail s)
 
--- ---- the faulty part
+-- ---- what is told of a refusal
 
-module _ (s : List ℕ) where
-  pub planRead-place : (m : Reading Plan) → planRead s m .at ≤ length s
-  unfolding planRead
-  planRead-place (read p t n) = omega arith
-  planRead-place (refused x t) = omega arith
+-- behind a text there is nothing
+pub before-past : (s : List ℕ) (at : ℕ) → length s < at → before LF (drop at s) ≡ []
+unfolding lenTo
+before-past s at h = rw (drop-of-length-le s {i = at} (omega arith))
 
-  pub partAt-read : (m : Reading Plan) → Tail s (leaves m) → partAt s (planRead s m .at) (planRead s m .answer) ≡ faultyPart m
-  unfolding planRead faultyPart
-  partAt-read (read p t n) h = refl
-  partAt-read (refused x t) h = ap (before LF) (tail-place h)
+-- an answer, and the place in the text s where its faulty line begins
+module _ {A : Type 0} (s : List ℕ) (a : PlanAnswer) (at : ℕ) where
+  pub told-refused : (x : Refusal) {t : List ℕ} → a ≡ Refused x → drop at s ≡ t → Told {A = A} (refused x t) (partAt s at a) (answerNumber a) (answerValue a)
+  unfolding faultyPart
+  told-refused x e d = record { part-is = ap (partAt s at) e ∙ ap (before LF) d; number-is = ap answerNumber e; value-is = ap answerValue e }
+
+  pub told-none : (b : A) (t : List ℕ) (k : ℕ) → a ≡ Accepted → Told (read b t k) (partAt s at a) (answerNumber a) (answerValue a)
+  unfolding faultyPart
+  told-none b t k e = record { part-is = ap (partAt s at) e; number-is = ap answerNumber e; value-is = ap answerValue e }
+
+-- a refusal that has no faulty line is told at the text's end
+pub end-empty : (s : List ℕ) → drop (length s) s ≡ []
+end-empty s = drop-of-length-le s {i = length s} (omega arith)

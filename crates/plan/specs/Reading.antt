@@ -12,6 +12,7 @@ use Rattle.text.specs.declared.Number.{Number}
 use Rattle.text.specs.declared.Number.the-variants as number
 use Rattle.plan.specs.declared.Refusal.{Refusal}
 use Rattle.plan.specs.Refusals.{faultAt}
+use Rattle.plan.specs.Refusals as refusals
 
 -- One line taken for itself: its value, or what it lacks.
 pub data Lined (A : Type 0) : Type 0 where
@@ -56,6 +57,15 @@ linedNumber (number.Bad f) = bad f
 -- a line that is a key and a number from lo to hi
 abbrev pub numberLine : List ℕ → ℤ → ℤ → Reader ℤ
 numberLine key lo hi = line (λ l. linedNumber (numberAfter key lo hi l))
+
+-- what a reader of the refusal gets: N and D, or 0 and 0 of a text that is not refused
+abbrev pub refusedNumber : {A : Type 0} → Reading A → ℕ
+refusedNumber (read a s n) = 0
+refusedNumber (refused r s) = refusals.number r
+
+abbrev pub refusedValue : {A : Type 0} → Reading A → ℕ
+refusedValue (read a s n) = 0
+refusedValue (refused r s) = refusals.value r
 
 -- 'A reader of the refusal also gets back the faulty line as a part of the text, without its LF': of a line that is missing, and of a text that is
 -- not refused, 'as a part it is empty'

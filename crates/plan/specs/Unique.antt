@@ -13,16 +13,16 @@ use Rattle.plan.specs.declared.Bound.{Bound}
 use Rattle.plan.specs.declared.BoundLine.{BoundLine}
 use Rattle.plan.specs.declared.EventName.{EventName}
 use Rattle.plan.specs.declared.NameRead.{NameRead}
+use Rattle.plan.specs.declared.PlanAnswer.{PlanAnswer}
 use Rattle.plan.specs.declared.PlanRead.{PlanRead}
 use Rattle.plan.specs.declared.Refusal.{Refusal}
 use Rattle.plan.specs.declared.Written.{Written}
 use Rattle.plan.specs.Limits.{leastC, greatestC}
 use Rattle.plan.specs.Refusals.{number, value, ends, faultAt, refusedLine}
 use Rattle.plan.specs.EventNames.{eventName, nameRead}
-use Rattle.plan.specs.Reading.{faultyPart}
 use Rattle.plan.specs.Pairs.{pairNumber, isWrongNumbered}
 use Rattle.plan.specs.PlanRead.{judgedBound, planHead, planAlone}
-use Rattle.plan.specs.PlanAnswers.{planRead}
+use Rattle.plan.specs.PlanAnswers.{planRead, answerNumber, answerValue, partAt}
 use Rattle.plan.specs.Written.{writtenAs}
 
 pub number-unique : (r : Refusal) {n m : ℕ} → n ≡ number r → m ≡ number r → n ≡ m
@@ -55,11 +55,16 @@ read-head-unique s = only
 pub read-plan-unique : (s : List ℕ) {r q : PlanRead} → r ≡ planRead s (planAlone s) → q ≡ planRead s (planAlone s) → r ≡ q
 read-plan-unique s = only
 
-pub faulty-in-head-unique : (s : List ℕ) {r q : List ℕ} → r ≡ faultyPart (planHead s) → q ≡ faultyPart (planHead s) → r ≡ q
-faulty-in-head-unique s = only
+-- the part, and what the two numbers become
+module _ (s : List ℕ) (a : PlanAnswer) (at : ℕ) where
+  pub tell-refusal-unique : {r q : List ℕ} → r ≡ partAt s at a → q ≡ partAt s at a → r ≡ q
+  tell-refusal-unique = only
 
-pub faulty-in-plan-unique : (s : List ℕ) {r q : List ℕ} → r ≡ faultyPart (planAlone s) → q ≡ faultyPart (planAlone s) → r ≡ q
-faulty-in-plan-unique s = only
+  pub tell-refusal-number-unique : {n m : ℕ} → n ≡ answerNumber a → m ≡ answerNumber a → n ≡ m
+  tell-refusal-number-unique = only
+
+  pub tell-refusal-value-unique : {n m : ℕ} → n ≡ answerValue a → m ≡ answerValue a → n ≡ m
+  tell-refusal-value-unique = only
 
 pub put-refused-unique : (x : Refusal) {out o p : List ℕ} {at j k : ℕ} → Stored out at (refusedLine x) o j → Stored out at (refusedLine x) p k → (o ≡ p) × (j ≡ k)
 put-refused-unique x = stored-unique

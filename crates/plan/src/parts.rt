@@ -1,42 +1,42 @@
-// The faulty line of a text, as a part of that text.
+// A refusal told: its number, its value, and the faulty line as a part of the text.
 use crate::PlanAnswer;
-use crate::reader::read_head;
-use crate::reader::read_plan;
+use crate::refusals::number;
+use crate::refusals::value;
 ghost use mathlib.Core.Path.{_≡_};
-ghost use Prim.Native.Nat.{_≤_};
-ghost use lib.ListN.{length};
-ghost use Rattle.plan.specs.Reading.{faultyPart};
-ghost use Rattle.plan.specs.PlanRead.{planHead, planAlone};
-ghost use Rattle.plan.specs.PlanAnswers.{partAt};
+ghost use lib.ListN.{drop};
+ghost use Rattle.text.specs.Lines.{LF, before};
+ghost use Rattle.plan.specs.PlanAnswers.{partAt, answerNumber, answerValue};
 
-// The part that comes with an answer and its place: the line there without its LF, or nothing.
-fn faulty_part(s: &[u8], answer: PlanAnswer, at: usize) -> &[u8]
-    requires { ⌜ at ≤ length (now s) ⌝ }
-    ensures { λ r. ⌜ now r ≡ partAt (now (s .entry)) at answer ⌝ }
+// The line that begins at a place of a text, without its LF; nothing behind the text.
+fn line_at(s: &[u8], at: usize) -> &[u8]
+    ensures { λ r. ⌜ now r ≡ before LF (drop at (now (s .entry))) ⌝ }
 {
-    let PlanAnswer::Refused(_) = answer else {
+    if s.len() < at {
         return &s[..0];
-    };
+    }
     let end = text::next_line(s, at) - 1;
     &s[at..end]
 }
 
-// The faulty line of the plan at the head of a text, without its LF; empty where the line is missing, where the text is too long, and where no line is faulty.
-pub fn faulty_in_head(s: &[u8]) -> &[u8]
-    ensures { λ r. ⌜ now r ≡ faultyPart (planHead (now (s .entry))) ⌝ }
+// What is told of an answer to a text and of the place where its faulty line begins: n and d become the number and the value of the refusal, and the faulty
+// line is handed back without its LF. Where nothing is refused both are 0, and the line is empty.
+pub fn tell_refusal<'a>(
+    s: &'a [u8],
+    answer: PlanAnswer,
+    at: usize,
+    n: &mut u64,
+    d: &mut u64,
+) -> &'a [u8]
+    ensures { λ r. ⌜ now r ≡ partAt (now (s .entry)) at answer ⌝ }
+    ensures { λ _. ⌜ now (n .exit) ≡ answerNumber answer ⌝ }
+    ensures { λ _. ⌜ now (d .exit) ≡ answerValue answer ⌝ }
 {
-    let r = read_head(s);
-    let answer = r.answer;
-    let at = r.at;
-    faulty_part(s, answer, at)
-}
-
-// The same of a text that is to be a plan and nothing else.
-pub fn faulty_in_plan(s: &[u8]) -> &[u8]
-    ensures { λ r. ⌜ now r ≡ faultyPart (planAlone (now (s .entry))) ⌝ }
-{
-    let r = read_plan(s);
-    let answer = r.answer;
-    let at = r.at;
-    faulty_part(s, answer, at)
+    let PlanAnswer::Refused(x) = answer else {
+        *n = 0;
+        *d = 0;
+        return &s[..0];
+    };
+    *n = number(x);
+    *d = value(x);
+    line_at(s, at)
 }
