@@ -2,18 +2,18 @@
 use Prim.Native.Nat.{ℕ, zero, suc, _+_, _*_, _-_}
 use mathlib.Core.Bool.{Bool, true, false, cond, _&&_, _||_}
 use mathlib.Core.List.{List, [], _∷_}
-use mathlib.Core.Option.{Option, none, some}
 use lib.Dec.{eqb, leb}
 use lib.IntN.{ℤ, pos, _-ℤ_}
 use Rattle.whole.specs.Split.{eqZ}
 use Rattle.plan.specs.declared.Plan.{Plan}
-use Rattle.plan.specs.declared.Refusal.{Refusal}
 use Rattle.plan.specs.declared.Refusal.the-variants as refusal
 use Rattle.bounds.specs.Events.{nodes}
 use Rattle.bounds.specs.Tables.{Cell, off, upto, least, plus, Rows, at, leastOf, Set, contradiction, bounds, judgedSet}
 use Rattle.bounds.specs.Elimination.{thenSet, eliminated}
 use Rattle.rounds.specs.declared.Verdict.{Verdict}
 use Rattle.rounds.specs.declared.Verdict.the-variants.{Settled, NoStrategy, Unsettled}
+use Rattle.rounds.specs.declared.VerdictTold.{VerdictTold}
+use Rattle.rounds.specs.declared.VerdictTold.the-variants as told
 use Rattle.rounds.specs.Given.{ownBounds, betweenBounds}
 
 -- ---- one round
@@ -110,8 +110,8 @@ verdictOf p unsettled = Unsettled (p .rounds)
 abbrev pub verdict : Plan → Verdict
 verdict p = verdictOf p (outcome p)
 
--- '4 | no strategy | K', '5 | unsettled | rounds'
-abbrev pub refusedVerdict : Verdict → Option Refusal
-refusedVerdict (Settled m) = none
-refusedVerdict (NoStrategy K) = some (refusal.NoStrategy K)
-refusedVerdict (Unsettled rounds) = some (refusal.Unsettled rounds)
+-- '4 | no strategy | K', '5 | unsettled | rounds'; every answer that tells a verdict tells it so
+abbrev pub verdictTold : Verdict → VerdictTold
+verdictTold (Settled m) = told.Settled m
+verdictTold (NoStrategy K) = told.Refused (refusal.NoStrategy K)
+verdictTold (Unsettled rounds) = told.Refused (refusal.Unsettled rounds)

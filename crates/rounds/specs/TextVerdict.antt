@@ -1,20 +1,20 @@
 -- A plan's text judged to its end (document 01, 'Numbers of refusal': 'The verdict follows; in a session it comes before any step is read').
 use Prim.Native.Nat.{ℕ}
 use mathlib.Core.List.{List, []}
-use mathlib.Core.Option.{Option, none, some}
 use Rattle.plan.specs.declared.Plan.{Plan}
-use Rattle.plan.specs.declared.Refusal.{Refusal}
 use Rattle.plan.specs.Reading.{Reading, read, refused}
 use Rattle.plan.specs.PlanRead.{planAlone, planHead}
-use Rattle.rounds.specs.Rounds.{verdict, refusedVerdict}
+use Rattle.rounds.specs.declared.VerdictTold.{VerdictTold}
+use Rattle.rounds.specs.declared.VerdictTold.the-variants.{Settled, Refused}
+use Rattle.rounds.specs.Rounds.{verdict, verdictTold}
 
 -- 'for 4 and 5 that part is empty'
-unfoldable pub orRefused : Option Refusal → Reading Plan → Reading Plan
-orRefused none r = r
-orRefused (some x) r = refused x []
+unfoldable pub orRefused : VerdictTold → Reading Plan → Reading Plan
+orRefused (Settled m) r = r
+orRefused (Refused x) r = refused x []
 
 unfoldable pub verdictAfter : Reading Plan → Reading Plan
-verdictAfter (read p s n) = orRefused (refusedVerdict (verdict p)) (read p s n)
+verdictAfter (read p s n) = orRefused (verdictTold (verdict p)) (read p s n)
 verdictAfter (refused x part) = refused x part
 
 -- a plan alone, and a plan at the head of a session

@@ -1,11 +1,15 @@
 // Rounds and the verdict on a plan.
 
+use plan::Refusal;
+
 mod given;
 mod joined;
 mod own;
 mod same;
+mod told;
 mod verdicts;
 
+pub use told::tell_verdict;
 pub use verdicts::settle;
 
 // The verdict on a plan: settled in a round, no strategy for so many windows, or neither in so many rounds.
@@ -13,4 +17,10 @@ pub enum Verdict {
     Settled(u64),
     NoStrategy(u64),
     Unsettled(u64),
+}
+
+// A verdict as it is told: settled in a round, or the refusal that it is.
+pub enum VerdictTold {
+    Settled(u64),
+    Refused(Refusal),
 }
