@@ -13,12 +13,14 @@ use Rattle.plan.specs.Refusals.{refusedLine}
 use Rattle.plan.specs.Reading.{Reading, read, refused}
 use Rattle.plan.specs.PlanRead.{planAlone}
 use Rattle.plan.specs.PlanWritten.{keyed}
-use Rattle.plan.specs.declared.Refusal.the-variants as refusal
 use Rattle.calendars.specs.declared.Terms.{Terms}
 use Rattle.calendars.specs.declared.Calendar.{Calendar}
-use Rattle.rounds.specs.Rounds.{Outcome, settled, noStrategy, unsettled, outcome}
+use Rattle.rounds.specs.declared.Verdict.{Verdict}
+use Rattle.rounds.specs.declared.VerdictTold.{VerdictTold}
+use Rattle.rounds.specs.declared.VerdictTold.the-variants.{Settled, Refused}
+use Rattle.rounds.specs.Rounds.{Outcome, outcome, verdictOf, verdictTold}
 use Rattle.calendars.specs.Bits.{hasEvent}
-use Rattle.calendars.specs.Calendars.{eventsAhead, mostEvents, noTerms, calendar}
+use Rattle.calendars.specs.Calendars.{eventsAhead, mostEvents, noTerms, madeCalendar}
 
 -- ---- the events' names: 'p events (previous window) before t events, by job, s before f'. jobs is the plan's count of jobs.
 
@@ -79,10 +81,16 @@ mostCalendarBytes = 32768
 
 -- ---- the program: from the bytes of the input to those of the output
 
+-- the text of a verdict, with a calendar for so many jobs: 'it prints `settled=`, then for each job ..', or 'refused=N,D'
+abbrev pub toldText : ℕ → VerdictTold → Calendar → List ℕ
+toldText jobs (Settled m) c = calendarText jobs m c
+toldText jobs (Refused x) c = refusedLine x
+
+abbrev pub decisionText : ℕ → Verdict → Calendar → List ℕ
+decisionText jobs v c = toldText jobs (verdictTold v) c
+
 unfoldable pub outcomeText : Plan → Outcome → List ℕ
-outcomeText p (settled m t) = calendarText (p .jobs) m (calendar p t)
-outcomeText p (noStrategy K) = refusedLine (refusal.NoStrategy K)
-outcomeText p unsettled = refusedLine (refusal.Unsettled (p .rounds))
+outcomeText p o = decisionText (p .jobs) (verdictOf p o) (madeCalendar p o)
 
 unfoldable pub answered : Reading Plan → List ℕ
 answered (read p s n) = outcomeText p (outcome p)

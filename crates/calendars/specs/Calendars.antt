@@ -13,7 +13,7 @@ use Rattle.bounds.specs.Elimination.{withoutFinish, withoutStart, thenSet}
 use Rattle.calendars.specs.declared.Events.{Events}
 use Rattle.calendars.specs.declared.Terms.{Terms}
 use Rattle.calendars.specs.declared.Calendar.{Calendar}
-use Rattle.rounds.specs.Rounds.{C0, joined}
+use Rattle.rounds.specs.Rounds.{C0, joined, Outcome, settled, noStrategy, unsettled}
 use Rattle.calendars.specs.Bits.{eventSet}
 
 -- ---- 'the bounds on each start just before it is eliminated'
@@ -108,3 +108,9 @@ calendar p t = calendarOf p (thenTables (thenSet (C0 p) (λ c0. joined p c0 t)) 
 -- a calendar that says nothing, beside a verdict that is no `settled`
 abbrev pub noCalendar : Plan → Calendar
 noCalendar p = calendarOf p []
+
+-- 'Calendar: with the settled set, ..'; where no set is settled, the calendar says nothing
+abbrev pub madeCalendar : Plan → Outcome → Calendar
+madeCalendar p (settled m t) = calendar p t
+madeCalendar p (noStrategy K) = noCalendar p
+madeCalendar p unsettled = noCalendar p

@@ -1,7 +1,7 @@
 -- The laws of what is decided. A plan whose verdict is settled has a settled set (`verdict-settled`), and the calendar made from the joined table is the plan's
--- (`calendar-joined`, `made-settled`); beside any other verdict the calendar says nothing (`made-refused`, `made-unsettled`). The text of a decision, verdict by
--- verdict (`text-settled`, `text-refused`, `text-unsettled`), is what the program prints for the plan (`text-of-outcome`), and so for a text that was read
--- (`plan-accepted`) or refused (`plan-refused`).
+-- (`calendar-joined`, `made-settled`); beside any other verdict the calendar says nothing (`made-refused`, `made-unsettled`). The text of a decision, by how
+-- its verdict is told (`text-settled`, `text-refused`), is what the program prints for the plan (`text-of-outcome`), and so for a text that was read (`plan-accepted`) or refused
+-- (`plan-refused`).
 
 use Prim.Native.Nat.{ℕ}
 use mathlib.Core.Path.{_≡_, refl, sym, ap, subst, _∙_}
@@ -11,7 +11,6 @@ use Rattle.plan.specs.declared.Plan.{Plan}
 use Rattle.plan.specs.declared.PlanRead.{PlanRead}
 use Rattle.plan.specs.declared.PlanAnswer.the-variants as planAnswer
 use Rattle.plan.specs.declared.Refusal.{Refusal}
-use Rattle.plan.specs.declared.Refusal.the-variants as refusal
 use Rattle.plan.specs.Refusals.{refusedLine}
 use Rattle.plan.specs.Reading.{Reading, read, refused}
 use Rattle.plan.specs.PlanRead.{planAlone}
@@ -22,11 +21,12 @@ use Rattle.bounds.specs.Tables.{Rows, Set, bounds}
 use Rattle.bounds.specs.Elimination.{thenSet}
 use Rattle.rounds.specs.declared.Verdict.{Verdict}
 use Rattle.rounds.specs.declared.Verdict.the-variants.{Settled, NoStrategy, Unsettled}
-use Rattle.rounds.specs.Rounds.{C0, joined, Outcome, settled, noStrategy, unsettled, outcome, verdictOf, verdict}
+use Rattle.rounds.specs.declared.VerdictTold.{VerdictTold}
+use Rattle.rounds.specs.declared.VerdictTold.the-variants as told
+use Rattle.rounds.specs.Rounds.{C0, joined, Outcome, settled, noStrategy, unsettled, outcome, verdictOf, verdict, verdictTold}
 use Rattle.calendars.specs.declared.Calendar.{Calendar}
-use Rattle.calendars.specs.Calendars.{thenTables, beforeStarts, calendarOf, calendar, noCalendar}
-use Rattle.calendars.specs.CalendarText.{calendarText, outcomeText, answered, calendarOutput}
-use Rattle.calendars.specs.Decisions.{madeCalendar, decisionText}
+use Rattle.calendars.specs.Calendars.{thenTables, beforeStarts, calendarOf, calendar, noCalendar, madeCalendar}
+use Rattle.calendars.specs.CalendarText.{calendarText, toldText, decisionText, outcomeText, answered, calendarOutput}
 
 -- ---- the calendar by the verdict
 
@@ -40,7 +40,6 @@ pub record SettledIn (p : Plan) (m : ℕ) : Type 0 where
 
 pub made-settled : (p : Plan) (m : ℕ) (t u : Rows) → outcome p ≡ settled m t → thenSet (C0 p) (λ c0. joined p c0 t) ≡ bounds u
     → calendarOf p (beforeStarts p (p .jobs) u) ≡ madeCalendar p (outcome p)
-unfolding madeCalendar
 made-settled p m t u o e = calendar-joined p t u e ∙ sym (ap (madeCalendar p) o)
 
 module _ (p : Plan) (v : Verdict) (e : v ≡ verdict p) where
@@ -53,7 +52,6 @@ module _ (p : Plan) (v : Verdict) (e : v ≡ verdict p) where
       of unsettled h f = absurd (let z : _≡_ {A = ℕ} 0 1 = cc in omega arith)
 
   pub made-refused : (K : ℕ) → v ≡ NoStrategy K → noCalendar p ≡ madeCalendar p (outcome p)
-  unfolding madeCalendar
   made-refused K d = of (outcome p) (sym d ∙ e)
     where
       of : (o : Outcome) → NoStrategy K ≡ verdictOf p o → noCalendar p ≡ madeCalendar p o
@@ -62,7 +60,6 @@ module _ (p : Plan) (v : Verdict) (e : v ≡ verdict p) where
       of unsettled f = refl
 
   pub made-unsettled : (rounds : ℕ) → v ≡ Unsettled rounds → noCalendar p ≡ madeCalendar p (outcome p)
-  unfolding madeCalendar
   made-unsettled rounds d = of (outcome p) (sym d ∙ e)
     where
       of : (o : Outcome) → Unsettled rounds ≡ verdictOf p o → noCalendar p ≡ madeCalendar p o
@@ -72,29 +69,17 @@ module _ (p : Plan) (v : Verdict) (e : v ≡ verdict p) where
 
 -- ---- the text of a decision
 
-module _ (jobs : ℕ) (v : Verdict) (c : Calendar) where
-  pub text-settled : (m : ℕ) → v ≡ Settled m → calendarText jobs m c ≡ decisionText jobs v c
-  unfolding decisionText
-  text-settled m e = sym (ap (λ (v : Verdict). decisionText jobs v c) e)
+module _ (jobs : ℕ) (v : Verdict) (c : Calendar) (w : VerdictTold) (d : w ≡ verdictTold v) where
+  pub text-settled : (m : ℕ) → w ≡ told.Settled m → calendarText jobs m c ≡ decisionText jobs v c
+  text-settled m e = ap (λ (w : VerdictTold). toldText jobs w c) (sym e ∙ d)
 
-  pub text-refused : (K : ℕ) → v ≡ NoStrategy K → refusedLine (refusal.NoStrategy K) ≡ decisionText jobs v c
-  unfolding decisionText
-  text-refused K e = sym (ap (λ (v : Verdict). decisionText jobs v c) e)
-
-  pub text-unsettled : (rounds : ℕ) → v ≡ Unsettled rounds → refusedLine (refusal.Unsettled rounds) ≡ decisionText jobs v c
-  unfolding decisionText
-  text-unsettled rounds e = sym (ap (λ (v : Verdict). decisionText jobs v c) e)
-
-text-of : (p : Plan) (o : Outcome) → decisionText (p .jobs) (verdictOf p o) (madeCalendar p o) ≡ outcomeText p o
-unfolding decisionText madeCalendar outcomeText
-text-of p (settled m t) = refl
-text-of p (noStrategy K) = refl
-text-of p unsettled = refl
+  pub text-refused : (x : Refusal) → w ≡ told.Refused x → refusedLine x ≡ decisionText jobs v c
+  text-refused x e = ap (λ (w : VerdictTold). toldText jobs w c) (sym e ∙ d)
 
 pub text-of-outcome : (p : Plan) (v : Verdict) (c : Calendar) → v ≡ verdict p → c ≡ madeCalendar p (outcome p)
     → decisionText (p .jobs) v c ≡ outcomeText p (outcome p)
-text-of-outcome p v c e d =
-    ap (λ (v : Verdict). decisionText (p .jobs) v c) e ∙ ap (decisionText (p .jobs) (verdict p)) d ∙ text-of p (outcome p)
+unfolding outcomeText
+text-of-outcome p v c e d = ap (λ (v : Verdict). decisionText (p .jobs) v c) e ∙ ap (decisionText (p .jobs) (verdict p)) d
 
 -- ---- a text that was read, or refused
 

@@ -11,21 +11,23 @@ use Rattle.text.specs.Lent.{Stored, written}
 use Rattle.plan.specs.declared.Plan.{Plan}
 use Rattle.plan.specs.declared.Written.{Written}
 use Rattle.plan.specs.Written.{writtenAs}
+use Rattle.plan.specs.Reading.{refusedNumber, refusedValue, faultyPart}
 use Rattle.plan.specs.PlanWritten.{judgedPlan}
 use Rattle.bounds.specs.Events.{nodes}
 use Rattle.bounds.specs.Flat.{rowsOf}
 use Rattle.rounds.specs.declared.Verdict.{Verdict}
+use Rattle.rounds.specs.declared.VerdictTold.{VerdictTold}
 use Rattle.rounds.specs.Rounds.{outcome, verdict}
+use Rattle.rounds.specs.TextVerdict.{acceptedAlone}
 use Rattle.calendars.specs.declared.Events.{Events}
 use Rattle.calendars.specs.declared.Calendar.{Calendar}
 use Rattle.calendars.specs.declared.Decision.{Decision}
-use Rattle.calendars.specs.declared.ValueVerdict.{ValueVerdict}
 use Rattle.calendars.specs.declared.ValueDecision.{ValueDecision}
 use Rattle.calendars.specs.Bits.{hasEvent, eventSet, withEvent, eventCount, nextEvent}
-use Rattle.calendars.specs.Calendars.{beforeStarts, calendarOf, noCalendar}
+use Rattle.calendars.specs.Calendars.{beforeStarts, calendarOf, noCalendar, madeCalendar}
 use Rattle.calendars.specs.CalendarText.{calendarText, calendarOutput}
 use Rattle.calendars.specs.Whole.{writtenWhole}
-use Rattle.calendars.specs.Decisions.{madeCalendar, valueVerdict, valueCalendar, valueText}
+use Rattle.calendars.specs.Decisions.{valueVerdict, valueCalendar, valueText}
 
 -- ---- sets of events
 
@@ -82,12 +84,24 @@ pub answer-read-unique : (s : List ℕ) (n : ℕ) (out : List ℕ) {r q : ℕ} {
     → (r ≡ q) × (o ≡ p)
 answer-read-unique s n out d e = (only (d .0) (e .0), only (d .1) (e .1))
 
+-- ---- the refusal of a plan's text: the part, and what the two numbers become
+
+module _ (s : List ℕ) where
+  pub refused-in-plan-unique : {r q : List ℕ} → r ≡ faultyPart (acceptedAlone s) → q ≡ faultyPart (acceptedAlone s) → r ≡ q
+  refused-in-plan-unique = only
+
+  pub refused-in-plan-number-unique : {n m : ℕ} → n ≡ refusedNumber (acceptedAlone s) → m ≡ refusedNumber (acceptedAlone s) → n ≡ m
+  refused-in-plan-number-unique = only
+
+  pub refused-in-plan-value-unique : {n m : ℕ} → n ≡ refusedValue (acceptedAlone s) → m ≡ refusedValue (acceptedAlone s) → n ≡ m
+  refused-in-plan-value-unique = only
+
 -- ---- a plan as a value
 
 pub decide-value-unique : (p : Plan) {r q : ValueDecision} → (r .verdict ≡ valueVerdict p (judgedPlan p)) × (r .calendar ≡ valueCalendar p (judgedPlan p))
     → (q .verdict ≡ valueVerdict p (judgedPlan p)) × (q .calendar ≡ valueCalendar p (judgedPlan p))
     → r ≡ q
-decide-value-unique p d e = ap₂ (λ (v : ValueVerdict) (c : Calendar). record { verdict = v; calendar = c }) (only (d .0) (e .0)) (only (d .1) (e .1))
+decide-value-unique p d e = ap₂ (λ (v : VerdictTold) (c : Calendar). record { verdict = v; calendar = c }) (only (d .0) (e .0)) (only (d .1) (e .1))
 
 pub answer-value-unique : (p : Plan) (out : List ℕ) {r q : Written} → r ≡ writtenAs (valueText p (judgedPlan p)) out
     → q ≡ writtenAs (valueText p (judgedPlan p)) out

@@ -1,8 +1,6 @@
 -- The laws of a plan as a value. Of one that is judged good the verdict, the calendar and the text are the plan's (`value-verdict`,
--- `value-calendar`, `value-text`); one that is refused has its refusal, no calendar and the refusal's line (`refused-verdict`, `refused-calendar`, `refused-text`). A verdict
--- is told case by case (`told-settled`, `told-refused`, `told-unsettled`).
+-- `value-calendar`, `value-text`); one that is refused has its refusal, no calendar and the refusal's line (`refused-verdict`, `refused-calendar`, `refused-text`).
 
-use Prim.Native.Nat.{ℕ}
 use mathlib.Core.Path.{_≡_, sym, ap, _∙_}
 use mathlib.Core.List.{List}
 use mathlib.Core.Option.{none, some}
@@ -10,33 +8,17 @@ use Rattle.plan.specs.declared.Plan.{Plan}
 use Rattle.plan.specs.declared.PlanAnswer.{PlanAnswer}
 use Rattle.plan.specs.declared.PlanAnswer.the-variants as planAnswer
 use Rattle.plan.specs.declared.Refusal.{Refusal}
-use Rattle.plan.specs.declared.Refusal.the-variants as refusal
 use Rattle.plan.specs.Refusals.{refusedLine}
 use Rattle.plan.specs.PlanWritten.{judgedPlan}
 use Rattle.values.specs.PlanJudged.{judgedAnswer}
 use Rattle.values.specs.JudgedLaws.{judgedAnswer-none, judgedAnswer-some}
 use Rattle.rounds.specs.declared.Verdict.{Verdict}
-use Rattle.rounds.specs.declared.Verdict.the-variants.{Settled, NoStrategy, Unsettled}
-use Rattle.rounds.specs.Rounds.{outcome, verdict}
+use Rattle.rounds.specs.declared.VerdictTold.the-variants as told
+use Rattle.rounds.specs.Rounds.{outcome, verdict, verdictTold}
 use Rattle.calendars.specs.declared.Calendar.{Calendar}
-use Rattle.calendars.specs.declared.ValueVerdict.{ValueVerdict}
-use Rattle.calendars.specs.declared.ValueVerdict.the-variants as told
-use Rattle.calendars.specs.Calendars.{noCalendar}
+use Rattle.calendars.specs.Calendars.{noCalendar, madeCalendar}
 use Rattle.calendars.specs.CalendarText.{outcomeText}
-use Rattle.calendars.specs.Decisions.{madeCalendar, verdictTold, valueVerdict, valueCalendar, valueText}
-
-module _ (v : Verdict) where
-  pub told-settled : (m : ℕ) → v ≡ Settled m → told.Settled m ≡ verdictTold v
-  unfolding verdictTold
-  told-settled m e = sym (ap verdictTold e)
-
-  pub told-refused : (K : ℕ) → v ≡ NoStrategy K → told.Refused (refusal.NoStrategy K) ≡ verdictTold v
-  unfolding verdictTold
-  told-refused K e = sym (ap verdictTold e)
-
-  pub told-unsettled : (rounds : ℕ) → v ≡ Unsettled rounds → told.Refused (refusal.Unsettled rounds) ≡ verdictTold v
-  unfolding verdictTold
-  told-unsettled rounds e = sym (ap verdictTold e)
+use Rattle.calendars.specs.Decisions.{valueVerdict, valueCalendar, valueText}
 
 module _ (p : Plan) (a : PlanAnswer) (d : a ≡ judgedAnswer (judgedPlan p)) where
   judged-good : a ≡ planAnswer.Accepted → judgedPlan p ≡ none

@@ -1,5 +1,5 @@
--- 'A plan handed over as a value is judged as its text would be': what is answered to a plan as a value is what the program answers to its text (`valueText-text`). Of a
--- plan that is judged good, the places beyond its jobs and bounds hold zeros there, as the reader leaves them; so it is of every plan that was read.
+-- 'A plan handed over as a value is judged as its text would be': what is answered to a plan as a value is what the program answers to its text (`valueText-text`), whatever stands in
+-- the places beyond its jobs and bounds.
 use mathlib.Core.Path.{_≡_, refl, sym, ap, _∙_}
 use mathlib.Core.Option.{none}
 use Rattle.plan.specs.declared.Plan.{Plan}
@@ -11,16 +11,18 @@ use Rattle.values.specs.JudgedLaws.{judgedPlan-accepted}
 use Rattle.values.specs.AgainLaws.{accepted-again}
 use Rattle.rounds.specs.Rounds.{outcome}
 use Rattle.calendars.specs.CalendarText.{outcomeText, answered, calendarOutput}
+use Rattle.calendars.specs.TrimmedLaws.{text-trimmed}
 use Rattle.calendars.specs.Decisions.{valueText}
 
-pub valueText-text : (p : Plan) → Placed p → (judgedPlan p ≡ none → trimmed p ≡ p) → valueText p (judgedPlan p) ≡ calendarOutput (planText p)
+pub valueText-text : (p : Plan) → Placed p → valueText p (judgedPlan p) ≡ calendarOutput (planText p)
 unfolding valueText answered refusalOf
-valueText-text p placed zeros = of (planAlone (planText p)) refl
+valueText-text p placed = of (planAlone (planText p)) refl
   where
     of : (m : Reading Plan) → planAlone (planText p) ≡ m → valueText p (refusalOf m) ≡ answered m
     of (refused x t) e = refl
     of (read q t n) e =
         let good : judgedPlan p ≡ none = ap refusalOf e in
-        let again = accepted-again p (judgedPlan-accepted p placed good) in
+        let a = judgedPlan-accepted p placed good in
+        let again = accepted-again p a in
         let same : trimmed p ≡ q = cc in
-        ap (λ (q : Plan). outcomeText q (outcome q)) (sym (zeros good) ∙ same)
+        sym (text-trimmed p a) ∙ ap (λ (q : Plan). outcomeText q (outcome q)) same

@@ -9,7 +9,7 @@ use rounds::settle;
 ghost use mathlib.Core.Path.{_≡_};
 ghost use Rattle.plan.specs.Accepted.{Accepted};
 ghost use Rattle.rounds.specs.Rounds.{outcome, verdict};
-ghost use Rattle.calendars.specs.Decisions.{madeCalendar};
+ghost use Rattle.calendars.specs.Calendars.{madeCalendar};
 
 // The verdict on an accepted plan and, where it is settled, its calendar; beside any other verdict a calendar that says nothing.
 pub fn decide(p: Plan) -> Decision

@@ -6,14 +6,15 @@ use plan::Refusal;
 use plan::Written;
 use plan::put_refused;
 use rounds::Verdict;
+use rounds::VerdictTold;
+use rounds::tell_verdict;
 ghost use mathlib.Core.Path.{_≡_};
 ghost use Prim.Native.Nat.{_≤_};
 ghost use lib.ListN.{length};
 ghost use Rattle.text.specs.Lent.{Stored, written};
 ghost use Rattle.plan.specs.Limits.{mostJobs};
 ghost use Rattle.plan.specs.Written.{writtenAs};
-ghost use Rattle.calendars.specs.CalendarText.{mostCalendarBytes};
-ghost use Rattle.calendars.specs.Decisions.{decisionText};
+ghost use Rattle.calendars.specs.CalendarText.{decisionText, mostCalendarBytes};
 
 // The text of a decision, as far as there is room; answers its length.
 fn put_decision(out: &mut [u8], jobs: usize, v: Verdict, c: Calendar) -> usize
@@ -21,10 +22,10 @@ fn put_decision(out: &mut [u8], jobs: usize, v: Verdict, c: Calendar) -> usize
     ensures { λ r. ⌜ Stored (now (out .entry)) 0 (decisionText jobs v c) (now (out .exit)) r ⌝ }
     ensures { λ r. ⌜ r ≤ mostCalendarBytes ⌝ }
 {
-    match v {
-        Verdict::Settled(m) => put_calendar(out, 0, jobs, m, c),
-        Verdict::NoStrategy(windows) => put_refused(out, 0, Refusal::NoStrategy(windows)),
-        Verdict::Unsettled(rounds) => put_refused(out, 0, Refusal::Unsettled(rounds)),
+    let told = tell_verdict(v);
+    match told {
+        VerdictTold::Settled(m) => put_calendar(out, 0, jobs, m, c),
+        VerdictTold::Refused(x) => put_refused(out, 0, x),
     }
 }
 

@@ -1,8 +1,8 @@
 // The calendar of a settled plan, and its text.
 
 use clock::WindowTime;
-use plan::Refusal;
 use rounds::Verdict;
+use rounds::VerdictTold;
 
 // A set of events before a start, as bits in the calendar's order: the previous window's events first, by job, s before f, then the
 // present window's. The origin is not among them.
@@ -37,15 +37,10 @@ pub struct Decision {
     pub calendar: Calendar,
 }
 
-// The verdict on a plan that was handed over as a value: settled in a round, or refused, by 1, 2 or 3 with the line that its text would have, or by 4 or 5.
-pub enum ValueVerdict {
-    Settled(u64),
-    Refused(Refusal),
-}
-
-// What is decided of a plan that was handed over as a value; beside a refusal a calendar that says nothing.
+// What is decided of a plan that was handed over as a value: settled in a round, or refused, by 1, 2 or 3 with the line that its text would have, or by 4 or 5; beside a refusal
+// a calendar that says nothing.
 pub struct ValueDecision {
-    pub verdict: ValueVerdict,
+    pub verdict: VerdictTold,
     pub calendar: Calendar,
 }
 
@@ -65,6 +60,7 @@ mod print;
 mod printed;
 mod program;
 mod recorded;
+mod refused;
 mod value;
 mod walk;
 
@@ -72,6 +68,7 @@ pub use decided::decide;
 pub use print::put_calendar;
 pub use printed::answer_read;
 pub use program::answer;
+pub use refused::refused_in_plan;
 pub use value::answer_value;
 pub use value::decide_value;
 pub use walk::calendar_of;

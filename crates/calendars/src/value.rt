@@ -1,15 +1,14 @@
 // A plan handed over as a value: what is decided of it, and the text that tells it.
 use crate::ValueDecision;
-use crate::ValueVerdict;
 use crate::decided::decide;
 use crate::decision_text::write_decision;
 use crate::walk::empty_calendar;
 use plan::Plan;
 use plan::PlanAnswer;
-use plan::Refusal;
 use plan::Written;
 use plan::write_refused;
-use rounds::Verdict;
+use rounds::VerdictTold;
+use rounds::tell_verdict;
 use values::judge_plan;
 ghost use mathlib.Core.Path.{_≡_};
 ghost use Prim.Native.Nat.{_≤_};
@@ -18,18 +17,7 @@ ghost use Rattle.text.specs.Lent.{written};
 ghost use Rattle.plan.specs.PlanWritten.{judgedPlan};
 ghost use Rattle.plan.specs.Written.{writtenAs};
 ghost use Rattle.calendars.specs.CalendarText.{mostCalendarBytes};
-ghost use Rattle.calendars.specs.Decisions.{verdictTold, valueVerdict, valueCalendar, valueText};
-
-// A verdict as it is told of a value: no strategy is refused by 4, and unsettled by 5.
-fn told_verdict(v: Verdict) -> ValueVerdict
-    ensures { λ r. ⌜ r ≡ verdictTold v ⌝ }
-{
-    match v {
-        Verdict::Settled(m) => ValueVerdict::Settled(m),
-        Verdict::NoStrategy(windows) => ValueVerdict::Refused(Refusal::NoStrategy(windows)),
-        Verdict::Unsettled(rounds) => ValueVerdict::Refused(Refusal::Unsettled(rounds)),
-    }
-}
+ghost use Rattle.calendars.specs.Decisions.{valueVerdict, valueCalendar, valueText};
 
 // The verdict on a plan and its calendar. The plan is judged first, as its text would be.
 pub fn decide_value(p: Plan) -> ValueDecision
@@ -42,12 +30,12 @@ pub fn decide_value(p: Plan) -> ValueDecision
             let decision = decide(p);
             let decided = decision.verdict;
             let calendar = decision.calendar;
-            let verdict = told_verdict(decided);
+            let verdict = tell_verdict(decided);
             ValueDecision { verdict, calendar }
         }
         PlanAnswer::Refused(x) => {
             let calendar = empty_calendar();
-            let verdict = ValueVerdict::Refused(x);
+            let verdict = VerdictTold::Refused(x);
             ValueDecision { verdict, calendar }
         }
     }

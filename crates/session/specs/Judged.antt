@@ -8,11 +8,11 @@ use Rattle.bounds.specs.Tables.{Rows}
 use Rattle.rounds.specs.declared.Verdict.{Verdict}
 use Rattle.calendars.specs.declared.Calendar.{Calendar}
 use Rattle.rounds.specs.Rounds.{settled, outcome, verdict}
-use Rattle.calendars.specs.Calendars.{calendar}
+use Rattle.calendars.specs.Calendars.{madeCalendar}
 use Rattle.runs.specs.ValueLimits.{isCalendar}
 
 pub record Judged (p : Plan) (v : Verdict) (c : Calendar) : Type 0 where
   pub accepted : Accepted p
   pub verdict : v ≡ verdict p
-  pub calendar : (m : ℕ) (t : Rows) → outcome p ≡ settled m t → c ≡ calendar p t
+  pub calendar : c ≡ madeCalendar p (outcome p)
   pub inside : (m : ℕ) (t : Rows) → outcome p ≡ settled m t → isCalendar p c ≡ true

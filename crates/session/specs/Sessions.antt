@@ -5,7 +5,6 @@ use mathlib.Core.List.{List, [], _∷_, _++_}
 use lib.ListN.{length}
 use Rattle.text.specs.Numbers.{isEmpty}
 use Rattle.plan.specs.declared.Plan.{Plan}
-use Rattle.plan.specs.declared.Refusal.the-variants as refusal
 use Rattle.plan.specs.Limits.{longestText}
 use Rattle.plan.specs.Refusals.{refusedLine}
 use Rattle.plan.specs.Reading.{Reading, read, refused}
@@ -13,8 +12,10 @@ use Rattle.plan.specs.PlanRead.{planHead}
 use Rattle.plan.specs.declared.Written.{Written}
 use Rattle.plan.specs.Written.{writtenAs}
 use Rattle.calendars.specs.declared.Calendar.{Calendar}
-use Rattle.rounds.specs.Rounds.{Outcome, settled, noStrategy, unsettled, outcome}
-use Rattle.calendars.specs.Calendars.{calendar}
+use Rattle.rounds.specs.declared.VerdictTold.{VerdictTold}
+use Rattle.rounds.specs.declared.VerdictTold.the-variants.{Settled, Refused}
+use Rattle.rounds.specs.Rounds.{Outcome, outcome, verdictOf, verdictTold}
+use Rattle.calendars.specs.Calendars.{madeCalendar}
 use Rattle.runs.specs.declared.Step.{Step}
 use Rattle.runs.specs.declared.Answered.{Answered}
 use Rattle.runs.specs.declared.Run.{Run}
@@ -48,10 +49,12 @@ answers p c r s n = answersWithin p c (length s) r s n
 -- ---- the program: from the bytes of the input to those of the output
 
 -- 'The verdict follows; in a session it comes before any step is read.'
+abbrev pub toldSession : Plan → VerdictTold → Calendar → List ℕ → ℕ → List ℕ
+toldSession p (Settled m) c s n = answers p c newRun s n
+toldSession p (Refused x) c s n = refusedLine x
+
 unfoldable pub judgedSession : Plan → Outcome → List ℕ → ℕ → List ℕ
-judgedSession p (settled m t) s n = answers p (calendar p t) newRun s n
-judgedSession p (noStrategy K) s n = refusedLine (refusal.NoStrategy K)
-judgedSession p unsettled s n = refusedLine (refusal.Unsettled (p .rounds))
+judgedSession p o s n = toldSession p (verdictTold (verdictOf p o)) (madeCalendar p o) s n
 
 -- 'A refused plan prints its one line.' 'Line numbers count from the plan's first line.'
 unfoldable pub sessionOf : Reading Plan → List ℕ

@@ -7,6 +7,8 @@ use plan::Refusal;
 use plan::Written;
 use plan::put_refused;
 use rounds::Verdict;
+use rounds::VerdictTold;
+use rounds::tell_verdict;
 ghost use mathlib.Core.Path.{_≡_};
 ghost use Prim.Native.Nat.{_+_, _*_, _-_, _≤_};
 ghost use lib.ListN.{length, drop};
@@ -37,10 +39,10 @@ fn put_session(
     ensures { λ r. ⌜ Stored (now (out .entry)) 0 (judgedSession p (outcome p) (drop from (now (text .entry))) line) (now (out .exit)) r ⌝ }
     ensures { λ r. ⌜ r + 7 * from ≤ 7 * length (now (text .entry)) + 56 ⌝ }
 {
-    match v {
-        Verdict::Settled(_) => { put_answers(text, from, line, p, c, out, 0) }
-        Verdict::NoStrategy(windows) => put_refused(out, 0, Refusal::NoStrategy(windows)),
-        Verdict::Unsettled(rounds) => put_refused(out, 0, Refusal::Unsettled(rounds)),
+    let told = tell_verdict(v);
+    match told {
+        VerdictTold::Settled(_) => { put_answers(text, from, line, p, c, out, 0) }
+        VerdictTold::Refused(x) => put_refused(out, 0, x),
     }
 }
 

@@ -16,8 +16,8 @@ decide-requires : tie.Need-decide-requires
 decide-requires c κs =
     c .before .before .judge-plan .ensures .1 (c .enum-told .given .1)
 
-told-verdict-requires : tie.Need-told-verdict-requires
-told-verdict-requires c κs = search needs
+tell-verdict-requires : tie.Need-tell-verdict-requires
+tell-verdict-requires c κs = search needs
 
 enum-known-judged : tie.Need-enum-known-judged
 enum-known-judged c = search needs
@@ -31,7 +31,7 @@ returns c =
     let j = c .before .before .before .before .before .judge-plan in
     let d = c .before .before .decide in
     let e = c .before .before .before .enum-told .given .1 in (
-      c .told-verdict .ensures ∙ value-verdict (s .args .p) (j .result) (j .ensures .0) e (d .result .verdict) (d .ensures .0),
+      c .tell-verdict .ensures ∙ value-verdict (s .args .p) (j .result) (j .ensures .0) e (d .result .verdict) (d .ensures .0),
       value-calendar (s .args .p) (j .result) (j .ensures .0) e (d .result .calendar) (d .ensures .1),
     )
 
@@ -51,7 +51,7 @@ decide-value-spec =
     judge-plan-requires
     enum-told
     decide-requires
-    told-verdict-requires
+    tell-verdict-requires
     enum-known-judged
     empty-calendar-requires
     returns
