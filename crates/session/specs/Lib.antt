@@ -1,8 +1,9 @@
--- Sessions, as document 01 has them. In reading order: steps read, answers printed, and the dispatch program's output. These files are
+-- Sessions, as document 01 has them. In reading order: steps read, answers printed, the dispatch program's output, and what ends a session. These files are
 -- definitions alone; the laws stand after them.
 pub mod StepRead
 pub mod AnswerText
 pub mod Sessions
+pub mod SessionRead
 pub mod StepAt
 pub mod Judged
 -- ---- laws
@@ -10,6 +11,7 @@ pub mod StepReadLaws
 pub mod AnswerTextLaws
 pub mod AnswerJobLaws
 pub mod SessionLaws
+pub mod SessionReadLaws
 pub mod GoingLaws
 pub mod PrintedLaws
 pub mod JudgedLaws

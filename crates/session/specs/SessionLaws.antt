@@ -25,7 +25,7 @@ use Rattle.session.specs.AnswerText.{answerLine, endsSession}
 use Rattle.session.specs.Sessions.{answeredStep, afterStep, answersWithin, answers}
 
 -- what follows a step's line is shorter than the text from that line on
-stepLine-shorter : (s : List ℕ) (n : ℕ) {st : Step} {t : List ℕ} {m : ℕ} → 0 < length s → stepLine s n ≡ read st t m → length t < length s
+pub stepLine-shorter : (s : List ℕ) (n : ℕ) {st : Step} {t : List ℕ} {m : ℕ} → 0 < length s → stepLine s n ≡ read st t m → length t < length s
 unfolding stepLine
 stepLine-shorter s n h e =
     omega (arith, ap length (line-read (λ l. linedStep (stepIn l)) s n e .rest), length-drop (lenTo LF s + 1) s)

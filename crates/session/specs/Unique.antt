@@ -8,7 +8,9 @@ use Rattle.text.specs.Lent.{written}
 use Rattle.session.specs.declared.StepLine.{StepLine}
 use Rattle.plan.specs.declared.Written.{Written}
 use Rattle.calendars.specs.Whole.{writtenWhole}
+use Rattle.plan.specs.Reading.{refusedNumber, refusedValue, faultyPart}
 use Rattle.session.specs.StepRead.{stepIn}
+use Rattle.session.specs.SessionRead.{sessionRead}
 use Rattle.session.specs.Sessions.{dispatchOutput, sessionAnswer}
 
 pub read-step-unique : (l : List ℕ) {r q : StepLine} → r ≡ stepIn l → q ≡ stepIn l → r ≡ q
@@ -25,3 +27,14 @@ pub answer-read-unique : (s : List ℕ) (n : ℕ) (out : List ℕ) {r q : ℕ} {
     → (q ≡ length (dispatchOutput (take n s))) × (p ≡ writtenWhole (dispatchOutput (take n s)) out)
     → (r ≡ q) × (o ≡ p)
 answer-read-unique s n out d e = (only (d .0) (e .0), only (d .1) (e .1))
+
+-- what ends a session: the part, and what the two numbers become
+module _ (s : List ℕ) where
+  pub refused-in-session-unique : {r q : List ℕ} → r ≡ faultyPart (sessionRead s) → q ≡ faultyPart (sessionRead s) → r ≡ q
+  refused-in-session-unique = only
+
+  pub refused-in-session-number-unique : {n m : ℕ} → n ≡ refusedNumber (sessionRead s) → m ≡ refusedNumber (sessionRead s) → n ≡ m
+  refused-in-session-number-unique = only
+
+  pub refused-in-session-value-unique : {n m : ℕ} → n ≡ refusedValue (sessionRead s) → m ≡ refusedValue (sessionRead s) → n ≡ m
+  refused-in-session-value-unique = only

@@ -1,5 +1,6 @@
 // Sessions: a plan followed by steps, and the answer text to them.
 
+use plan::PlanAnswer;
 use plan::Refusal;
 use runs::Step;
 use text::Fault;
@@ -19,13 +20,21 @@ enum StepAt {
     Bad(Refusal),
 }
 
+// What the step lines of a text come to: nothing refused, or the first refusal and where its line begins.
+struct StepsRead {
+    answer: PlanAnswer,
+    at: usize,
+}
+
 mod judged;
 mod print;
 mod printed;
 mod program;
 mod read;
+mod refused;
 mod steps;
 
 pub use printed::answer_read;
 pub use program::answer;
 pub use read::read_step;
+pub use refused::refused_in_session;

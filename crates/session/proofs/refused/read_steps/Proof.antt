@@ -1,0 +1,74 @@
+-- `read_steps`: the invariant is `Walking`, that what is left to read is all there was to read; one law a way, `walking-..`.
+use Prim.Native.Nat.{_-_}
+use mathlib.Core.Path.{refl}
+use native.Mathlib.Omega.{arith}
+use denote.Ref.{now}
+use lib.ListN.{length}
+use Rattle.session.specs.SessionReadLaws.{Walking, walking-start, walking-end, walking-refused, walking-more}
+use borrow.Author.Needs.{needs}
+use Rattle.session.proofs.refused.read_steps.Statement.{statement}
+use Rattle.session.proofs.refused.read_steps.Tie as tie
+
+abbrev Inv-loop : tie.InvT-loop
+Inv-loop text from line place₀ number₀ place number = Walking text from line place number
+
+abbrev μ-loop : tie.MeasureT-loop
+μ-loop text from line place₀ number₀ place number = length text - place
+
+loop-holds : tie.Need-loop-holds Inv-loop μ-loop
+loop-holds c =
+    let s = c .before in
+    walking-start (now (s .args .text)) (s .args .from) (s .args .line) (s .pre .0)
+
+read-step-at-requires : tie.Need-read-step-at-requires Inv-loop μ-loop
+read-step-at-requires c κs = c .before .loop .inv .placed
+
+enum-known-read : tie.Need-enum-known-read Inv-loop μ-loop
+enum-known-read c = search needs
+
+returns : tie.Need-returns Inv-loop μ-loop
+returns c =
+    let l = c .before .before .before .before .before .loop in
+    let a = c .before .before .before .before .before .before .before .args in
+    walking-refused (now (a .text)) (a .from) (a .line) (l .place) (l .number) (l .inv) (c .before .before .before .before .loop-test .taken) _ (c .before .before .before .read-step-at .ensures .0) (c .before .read .given .1) refl
+
+enum-known-read-2 : tie.Need-enum-known-read-2 Inv-loop μ-loop
+enum-known-read-2 c = search needs
+
+add-number : tie.Need-add-number Inv-loop μ-loop
+add-number c = omega arith
+
+loop-less : tie.Need-loop-less Inv-loop μ-loop
+loop-less c =
+    let w = c .before .before .before .read-step-at .ensures .1 in
+    let e = c .before .read2 .given .1 in
+    omega (arith, w .least _ _ e, w .most _ _ e)
+
+loop-again : tie.Need-loop-again Inv-loop μ-loop
+loop-again c =
+    let l = c .before .before .before .before .before .loop in
+    let a = c .before .before .before .before .before .before .before .args in
+    let w = c .before .before .before .read-step-at .ensures in
+    walking-more (now (a .text)) (a .from) (a .line) (l .place) (l .number) (l .inv) (c .before .before .before .before .loop-test .taken) _ _ (w .0) (c .before .read2 .given .1) (w .1)
+
+returns-2 : tie.Need-returns-2 Inv-loop μ-loop
+returns-2 c =
+    let l = c .before .loop in
+    let a = c .before .before .before .args in
+    walking-end (now (a .text)) (a .from) (a .line) (l .place) (l .number) (l .inv) (omega (arith, c .loop-test .left)) (l .place) refl
+
+pub read-steps-spec : {M : Type 1} → statement M
+read-steps-spec =
+    tie.close
+    (tie.spec
+    Inv-loop
+    μ-loop
+    loop-holds
+    read-step-at-requires
+    enum-known-read
+    returns
+    enum-known-read-2
+    add-number
+    loop-less
+    loop-again
+    returns-2)

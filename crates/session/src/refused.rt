@@ -1,0 +1,73 @@
+// What ends a session before the end of its text.
+use crate::StepAt;
+use crate::StepsRead;
+use crate::read::read_step_at;
+use calendars::decide;
+use plan::PlanAnswer;
+use plan::tell_refusal;
+use rounds::VerdictTold;
+use rounds::tell_verdict;
+ghost use mathlib.Core.Path.{_≡_};
+ghost use Prim.Native.Nat.{_≤_};
+ghost use lib.ListN.{length, drop};
+ghost use Rattle.plan.specs.Reading.{refusedNumber, refusedValue, faultyPart};
+ghost use Rattle.plan.specs.PlanAnswers.{answerNumber, answerValue, partAt, Told};
+ghost use Rattle.session.specs.SessionRead.{stepLines, sessionRead};
+
+// The first step line of a text that is refused, from a place on, whose line has number line.
+fn read_steps(text: &[u8], from: usize, line: usize) -> StepsRead
+    requires { ⌜ from ≤ length (now text) ⌝ }
+    requires { ⌜ length (now text) ≤ 65536 ⌝ }
+    requires { ⌜ line ≤ 65537 ⌝ }
+    ensures { λ r. ⌜ Told (stepLines (drop from (now (text .entry))) line) (partAt (now (text .entry)) (r .at) (r .answer)) (answerNumber (r .answer)) (answerValue (r .answer)) ⌝ }
+{
+    let mut place = from;
+    let mut number = line;
+    while place < text.len() {
+        let read = read_step_at(text, place, number);
+        match read {
+            StepAt::Bad(x) => {
+                return StepsRead {
+                    answer: PlanAnswer::Refused(x),
+                    at: place,
+                };
+            }
+            StepAt::Value(_, next) => {
+                place = next;
+                number += 1;
+            }
+        }
+    }
+    StepsRead {
+        answer: PlanAnswer::Accepted,
+        at: place,
+    }
+}
+
+// What ends a session: the refusal of its plan, of its verdict, or of the first step line that is refused by 1 or 2. n and d become its number and its value, and the faulty line is
+// handed back as a part of the text, without its LF. The part is empty for 4 and 5; n, d and the part are 0, 0 and empty where every line is taken.
+pub fn refused_in_session<'a>(text: &'a [u8], n: &mut u64, d: &mut u64) -> &'a [u8]
+    ensures { λ r. ⌜ now r ≡ faultyPart (sessionRead (now (text .entry))) ⌝ }
+    ensures { λ _. ⌜ now (n .exit) ≡ refusedNumber (sessionRead (now (text .entry))) ⌝ }
+    ensures { λ _. ⌜ now (d .exit) ≡ refusedValue (sessionRead (now (text .entry))) ⌝ }
+{
+    let head = plan::read_head(text);
+    let told = head.answer;
+    let at = head.at;
+    let PlanAnswer::Accepted = told else {
+        return tell_refusal(text, told, at, n, d);
+    };
+    let p = head.plan;
+    let decision = decide(p);
+    let decided = decision.verdict;
+    let verdict = tell_verdict(decided);
+    let VerdictTold::Refused(x) = verdict else {
+        let line = head.line;
+        let steps = read_steps(text, at, line);
+        let answer = steps.answer;
+        let place = steps.at;
+        return tell_refusal(text, answer, place, n, d);
+    };
+    let end = text.len();
+    tell_refusal(text, PlanAnswer::Refused(x), end, n, d)
+}
