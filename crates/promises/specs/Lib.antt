@@ -1,6 +1,6 @@
 -- The front page of the proofs. In reading order: a case, the worked examples of document 01 as one list with one theorem, the readings of the
 -- document where it leaves room, plans that tell right from nearly right, the table of refusals, faulty lines, and steps on values, as closed
--- cases; then what is promised of every plan and every run, and what the printed bytes mean.
+-- cases; then what is promised of every plan and every run, what the printed bytes mean, and what ends a session.
 pub mod Case
 pub mod Examples
 pub mod Readings
@@ -12,4 +12,5 @@ pub mod OnValues
 pub mod ValueRuns
 pub mod Demands
 pub mod Printed
+pub mod Endings
 pub mod Uniqueness

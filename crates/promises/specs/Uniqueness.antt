@@ -14,7 +14,8 @@ use Rattle.bounds.specs.declared.Event.{Event}
 use Rattle.bounds.specs.Events.{eventOf}
 use Rattle.bounds.specs.Flat.{Flat, flat, putAt, noBounds}
 use Rattle.rounds.specs.declared.Verdict.{Verdict}
-use Rattle.rounds.specs.Rounds.{verdict}
+use Rattle.rounds.specs.declared.VerdictTold.{VerdictTold}
+use Rattle.rounds.specs.Rounds.{verdict, verdictTold}
 
 -- ---- clock
 
@@ -50,3 +51,6 @@ put-unique early late y z v a ws e f = let s = only e f in (ap (λ (r : Flat). r
 
 pub settle-unique : (p : Plan) {r q : Verdict} → r ≡ verdict p → q ≡ verdict p → r ≡ q
 settle-unique p = only
+
+pub tell-verdict-unique : (v : Verdict) {r q : VerdictTold} → r ≡ verdictTold v → q ≡ verdictTold v → r ≡ q
+tell-verdict-unique v = only

@@ -1,0 +1,261 @@
+-- What ends a session before the end of its text, and what `refused_in_session` of the crate `session` hands back: where a session's text is refused, the dispatch program's output
+-- ends with the line of that refusal (`refused-ends`); where it is not, every line was taken, and the output is the answers to all steps, none of which ends a session
+-- (`taken-whole`). For no step of a settled plan's session is answered by 1 or 2 (`goes-on`): an auto start outside the range of T is not reached (`auto-taken`).
+use Prim.Native.Nat.{ℕ, zero, suc, _-_, _≤_, _<_}
+use mathlib.Core.Path.{_≡_, refl, sym, ap, subst, _∙_}
+use mathlib.Core.Bool.{Bool, true, false, cond}
+use mathlib.Core.List.{List, [], _∷_, _++_, append-assoc}
+use native.Mathlib.Omega.{arith}
+use lib.Dec.{ltb}
+use lib.Signed.{ltZ}
+use lib.IntN.{_+ℤ_}
+use lib.ListN.{length, getD}
+use borrow.Author.Tests.{ltb-true, ltb-false}
+use Rattle.text.specs.Numbers.{within}
+use Rattle.clock.specs.declared.RunTime.{RunTime}
+use Rattle.plan.specs.declared.Plan.{Plan}
+use Rattle.plan.specs.declared.Refusal.{Refusal}
+use Rattle.plan.specs.declared.Refusal.the-variants as refusal
+use Rattle.plan.specs.Refusals.{refusedLine, ends}
+use Rattle.plan.specs.Reading.{Reading, read, refused, next}
+use Rattle.plan.specs.PlanRead.{planHead, noJob}
+use Rattle.plan.specs.PlanLaws.{planHead-accepted}
+use Rattle.plan.specs.Accepted.{Accepted}
+use Rattle.bounds.specs.Tables.{Rows}
+use Rattle.rounds.specs.Rounds.{Outcome, settled, noStrategy, unsettled, outcome, verdictOf, verdictTold}
+use Rattle.rounds.specs.TextVerdict.{orRefused, verdictAfter}
+use Rattle.calendars.specs.declared.Calendar.{Calendar}
+use Rattle.calendars.specs.Calendars.{calendar}
+use Rattle.runs.specs.declared.Phase.{Phase}
+use Rattle.runs.specs.declared.Phase.the-variants.{Waiting, Running}
+use Rattle.runs.specs.declared.Run.{Run}
+use Rattle.runs.specs.declared.Offer.{Offer}
+use Rattle.runs.specs.declared.Opening.{Opening}
+use Rattle.runs.specs.declared.Opening.the-variants.{Open, Shut}
+use Rattle.runs.specs.declared.Choice.the-variants.{At, Auto}
+use Rattle.runs.specs.declared.Step.{Step}
+use Rattle.runs.specs.declared.Step.the-variants.{Ask, Start, Finish}
+use Rattle.runs.specs.declared.Answer.the-variants.{Final}
+use Rattle.runs.specs.Offers.{offerOf, opened, openingIn, opening}
+use Rattle.runs.specs.Steps.{newRun, refusedWith, asked, startedAt, started, closed, finished, stepped}
+use Rattle.runs.specs.DueLaws.{opening-over, opening-running}
+use Rattle.strategy.specs.Reaching.{afterSteps}
+use Rattle.strategy.specs.StepsLaws.{afterSteps-more}
+use Rattle.session.specs.StepRead.{stepLine}
+use Rattle.session.specs.AnswerText.{answerLine, endsSession}
+use Rattle.session.specs.Sessions.{answersWithin, answers, judgedSession, sessionOf, dispatchOutput}
+use Rattle.session.specs.SessionLaws.{stepLine-shorter, answers-refused}
+use Rattle.session.specs.SessionRead.{stepsWithin, stepLines, sessionRead}
+use Rattle.session.specs.SessionReadLaws.{stepLines-refused, stepLines-more}
+use Rattle.promises.specs.Demands.{session-kept, auto-taken, session-printed, step-printed}
+
+-- ---- no step of a settled plan's session is answered by 1 or 2
+
+-- an offer that is closed, if it is, by a refusal that goes on
+abbrev Quiet : Opening → Type 0
+Quiet (Open j i o) = Unit
+Quiet (Shut x) = ends x ≡ false
+
+opened-quiet : (j i : ℕ) (o : Offer) → Quiet (opened j i o)
+opened-quiet j i o = of (ltZ (o .to .0) (o .from .0))
+  where
+    of : (b : Bool) → Quiet (cond b (Shut refusal.EmptyOffer) (Open j i o))
+    of true = refl
+    of false = tt
+
+opening-quiet : (p : Plan) (c : Calendar) (r : Run) (φ : Phase) → Quiet (openingIn p c r φ)
+unfolding openingIn
+opening-quiet p c r (Waiting j i) = of (ltb (p .last) j)
+  where
+    of : (b : Bool) → Quiet (cond b (Shut refusal.Over) (opened j i (offerOf p c r j i)))
+    of true = refl
+    of false = opened-quiet j i (offerOf p c r j i)
+opening-quiet p c r (Running j i t) = refl
+
+asked-goes : (r : Run) (o : Opening) → Quiet o → endsSession (asked r o .answer) ≡ false
+unfolding asked endsSession
+asked-goes r (Open j i o) q = refl
+asked-goes r (Shut x) q = q
+
+started-goes : (r : Run) (t : RunTime) (o : Opening) → Quiet o → endsSession (started r (At t) o .answer) ≡ false
+unfolding started endsSession
+started-goes r t (Open j i o) q = of (within (o .from .0) (o .to .0) (t .0))
+  where
+    of : (b : Bool) → endsSession (cond b (startedAt r j i t) (refusedWith r refusal.OutsideOffer) .answer) ≡ false
+    of true = refl
+    of false = refl
+started-goes r t (Shut x) q = q
+
+finished-goes : (p : Plan) (r : Run) (t : RunTime) (φ : Phase) → endsSession (finished p r t φ .answer) ≡ false
+unfolding finished endsSession
+finished-goes p r t (Waiting j i) = refl
+finished-goes p r t (Running j i s) = of (within (s .0 +ℤ getD (p .job) (i - 1) noJob .min) (s .0 +ℤ getD (p .job) (i - 1) noJob .max) (t .0))
+  where
+    of : (b : Bool) → endsSession (cond b (record { answer = Final j i t; run = closed p r j i (record { start = s; finish = t }) }) (refusedWith r refusal.OutsideTimes) .answer) ≡ false
+    of true = refl
+    of false = refl
+
+module _ (p : Plan) (good : Accepted p) (m : ℕ) (c : Rows) (accepted : outcome p ≡ settled m c) (sts : List Step) where
+  abbrev run : Run
+  run = afterSteps p (calendar p c) newRun sts
+
+  auto-goes : endsSession (stepped p (calendar p c) run (Start Auto) .answer) ≡ false
+  unfolding stepped started endsSession
+  auto-goes = of (run .phase) refl
+    where
+      over : (j i : ℕ) → run .phase ≡ Waiting j i → (b : Bool) → ltb (p .last) j ≡ b → endsSession (stepped p (calendar p c) run (Start Auto) .answer) ≡ false
+      over j i e true d = ap (λ (o : Opening). endsSession (started run Auto o .answer)) (opening-over p (calendar p c) run j i e (ltb-true (p .last) j d))
+      over j i e false d =
+          let k = session-kept p good m c accepted sts in
+          ap endsSession (auto-taken p good m c accepted run (k .history) (k .reached) j i e (ltb-false (p .last) j d))
+
+      of : (φ : Phase) → run .phase ≡ φ → endsSession (stepped p (calendar p c) run (Start Auto) .answer) ≡ false
+      of (Waiting j i) e = over j i e (ltb (p .last) j) refl
+      of (Running j i t) e = ap (λ (o : Opening). endsSession (started run Auto o .answer)) (opening-running p (calendar p c) run j i t e)
+
+  pub goes-on : (st : Step) → endsSession (stepped p (calendar p c) run st .answer) ≡ false
+  unfolding stepped
+  goes-on Ask = asked-goes run (opening p (calendar p c) run) (opening-quiet p (calendar p c) run (run .phase))
+  goes-on (Start (At t)) = started-goes run t (opening p (calendar p c) run) (opening-quiet p (calendar p c) run (run .phase))
+  goes-on (Start Auto) = auto-goes
+  goes-on (Finish t) = finished-goes p run t (run .phase)
+
+-- ---- a text that is refused
+
+-- an output that ends with the line of a refusal
+pub record EndsWith (out : List ℕ) (x : Refusal) : Type 0 where
+  pub earlier : List ℕ
+  pub is : out ≡ earlier ++ refusedLine x
+
+only-line : {out : List ℕ} {x y : Refusal} → y ≡ x → out ≡ refusedLine y → EndsWith out x
+only-line e d = record { earlier = []; is = d ∙ ap refusedLine e }
+
+module _ (p : Plan) (good : Accepted p) (m : ℕ) (c : Rows) (accepted : outcome p ≡ settled m c) (x : Refusal) (part : List ℕ) where
+  steps-end : (left : ℕ) (sts : List Step) (s : List ℕ) (n : ℕ) → length s ≤ left → stepLines s n ≡ refused x part
+      → EndsWith (answers p (calendar p c) (afterSteps p (calendar p c) newRun sts) s n) x
+  unfolding stepsWithin
+  steps-end zero sts [] n h e = absurd (let z : _≡_ {A = ℕ} 0 1 = cc in omega arith)
+  steps-end zero sts (b ∷ s) n h e = absurd (omega arith)
+  steps-end (suc left) sts [] n h e = absurd (let z : _≡_ {A = ℕ} 0 1 = cc in omega arith)
+  steps-end (suc left) sts (b ∷ s) n h e = of (stepLine (b ∷ s) n) refl (λ st u k l d. steps-end left (sts ++ (st ∷ [])) u k l d)
+    where
+      some : 0 < length (b ∷ s)
+      some = omega arith
+
+      of : (m : Reading Step) → stepLine (b ∷ s) n ≡ m
+          → ((st : Step) (u : List ℕ) (k : ℕ) → length u ≤ left → stepLines u k ≡ refused x part → EndsWith (answers p (calendar p c) (afterSteps p (calendar p c) newRun (sts ++ (st ∷ []))) u k) x)
+          → EndsWith (answers p (calendar p c) (afterSteps p (calendar p c) newRun sts) (b ∷ s) n) x
+      of (refused y u) d later =
+          let f = stepLines-refused (b ∷ s) n some y u d in
+          let same : y ≡ x = cc in
+          only-line same (answers-refused p (calendar p c) (afterSteps p (calendar p c) newRun sts) (b ∷ s) n some y u d)
+      of (read st u k) d later =
+          let l = stepLine-shorter (b ∷ s) n some d in
+          let rest = later st u k (omega arith) (sym (stepLines-more (b ∷ s) n some st u k d) ∙ e) in
+          let line = answerLine (stepped p (calendar p c) (afterSteps p (calendar p c) newRun sts) st .answer) in
+          record {
+            earlier = line ++ rest .earlier;
+            is =
+                step-printed p (calendar p c) sts (b ∷ s) n some st u k d (goes-on p good m c accepted sts st)
+                ∙ ap (λ (o : List ℕ). line ++ o) (rest .is)
+                ∙ sym (append-assoc line (rest .earlier) (refusedLine x));
+          }
+
+pub refused-ends : (s : List ℕ) (x : Refusal) (part : List ℕ) → sessionRead s ≡ refused x part → EndsWith (dispatchOutput s) x
+unfolding verdictAfter orRefused next sessionOf judgedSession afterSteps
+refused-ends s x part e = of (planHead s) refl e
+  where
+    by-outcome : (p : Plan) (u : List ℕ) (n : ℕ) → planHead s ≡ read p u n → (o : Outcome) → outcome p ≡ o
+        → next (orRefused (verdictTold (verdictOf p o)) (read p u n)) (λ p. stepLines) ≡ refused x part → EndsWith (dispatchOutput s) x
+    by-outcome p u n d (settled m c) a f =
+        subst (λ (out : List ℕ). EndsWith out x) (sym (session-printed s d m c a)) (steps-end p (planHead-accepted s d) m c a x part (length u) [] u n (omega arith) f)
+    by-outcome p u n d (noStrategy K) a f =
+        let same : refusal.NoStrategy K ≡ x = cc in
+        only-line same (ap sessionOf d ∙ ap (λ (o : Outcome). judgedSession p o u n) a)
+    by-outcome p u n d unsettled a f =
+        let same : refusal.Unsettled (p .rounds) ≡ x = cc in
+        only-line same (ap sessionOf d ∙ ap (λ (o : Outcome). judgedSession p o u n) a)
+
+    of : (k : Reading Plan) → planHead s ≡ k → next (verdictAfter k) (λ p. stepLines) ≡ refused x part → EndsWith (dispatchOutput s) x
+    of (read p u n) d f = by-outcome p u n d (outcome p) refl f
+    of (refused y u) d f =
+        let same : y ≡ x = cc in
+        only-line same (ap sessionOf d)
+
+-- ---- a text that is not refused
+
+-- the answers to steps, one after the other, from a run on
+unfoldable pub answersTo : Plan → Calendar → Run → List Step → List ℕ
+answersTo p c r [] = []
+answersTo p c r (st ∷ sts) = answerLine (stepped p c r st .answer) ++ answersTo p c (stepped p c r st .run) sts
+
+-- every line behind a settled plan is a step, and the output is the answers to all of them; none ends the session (`goes-on`)
+pub record TakenWhole (s : List ℕ) : Type 0 where
+  pub plan : Plan
+  pub steps-text : List ℕ
+  pub first-line : ℕ
+  pub plan-read : planHead s ≡ read plan steps-text first-line
+  pub round : ℕ
+  pub set : Rows
+  pub plan-settled : outcome plan ≡ settled round set
+  pub steps : List Step
+  pub printed : dispatchOutput s ≡ answersTo plan (calendar plan set) newRun steps
+
+module _ (p : Plan) (good : Accepted p) (m : ℕ) (c : Rows) (accepted : outcome p ≡ settled m c) where
+  record StepsTaken (done : List Step) (s : List ℕ) (n : ℕ) : Type 0 where
+    later : List Step
+    is : answers p (calendar p c) (afterSteps p (calendar p c) newRun done) s n ≡ answersTo p (calendar p c) (afterSteps p (calendar p c) newRun done) later
+
+  steps-taken : (left : ℕ) (done : List Step) (s : List ℕ) (n : ℕ) → length s ≤ left → {t : List ℕ} {k : ℕ} → stepLines s n ≡ read tt t k → StepsTaken done s n
+  unfolding answersWithin answersTo
+  steps-taken zero done [] n h e = record { later = []; is = refl }
+  steps-taken zero done (b ∷ s) n h e = absurd (omega arith)
+  steps-taken (suc left) done [] n h e = record { later = []; is = refl }
+  steps-taken (suc left) done (b ∷ s) n h {t} {k} e = of (stepLine (b ∷ s) n) refl (λ st u i l d. steps-taken left (done ++ (st ∷ [])) u i l d)
+    where
+      some : 0 < length (b ∷ s)
+      some = omega arith
+
+      of : (m : Reading Step) → stepLine (b ∷ s) n ≡ m → ((st : Step) (u : List ℕ) (i : ℕ) → length u ≤ left → stepLines u i ≡ read tt t k → StepsTaken (done ++ (st ∷ [])) u i)
+          → StepsTaken done (b ∷ s) n
+      of (refused y u) d more =
+          let f = stepLines-refused (b ∷ s) n some y u d in
+          absurd (let z : _≡_ {A = ℕ} 0 1 = cc in omega arith)
+      of (read st u i) d more =
+          let l = stepLine-shorter (b ∷ s) n some d in
+          let rest = more st u i (omega arith) (sym (stepLines-more (b ∷ s) n some st u i d) ∙ e) in
+          let r = afterSteps p (calendar p c) newRun done in
+          let line = answerLine (stepped p (calendar p c) r st .answer) in
+          record {
+            later = st ∷ rest .later;
+            is =
+                step-printed p (calendar p c) done (b ∷ s) n some st u i d (goes-on p good m c accepted done st)
+                ∙ ap (λ (o : List ℕ). line ++ o)
+                (rest .is ∙ ap (λ (r : Run). answersTo p (calendar p c) r (rest .later)) (afterSteps-more p (calendar p c) newRun done st));
+          }
+
+pub taken-whole : (s t : List ℕ) (k : ℕ) → sessionRead s ≡ read tt t k → TakenWhole s
+unfolding verdictAfter orRefused next afterSteps
+taken-whole s t k e = of (planHead s) refl e
+  where
+    by-outcome : (p : Plan) (u : List ℕ) (n : ℕ) → planHead s ≡ read p u n → (o : Outcome) → outcome p ≡ o
+        → next (orRefused (verdictTold (verdictOf p o)) (read p u n)) (λ p. stepLines) ≡ read tt t k → TakenWhole s
+    by-outcome p u n d (settled m c) a f =
+        let w = steps-taken p (planHead-accepted s d) m c a (length u) [] u n (omega arith) f in
+        record {
+          plan = p;
+          steps-text = u;
+          first-line = n;
+          plan-read = d;
+          round = m;
+          set = c;
+          plan-settled = a;
+          steps = w .later;
+          printed = session-printed s d m c a ∙ w .is;
+        }
+    by-outcome p u n d (noStrategy K) a f = absurd (let z : _≡_ {A = ℕ} 0 1 = cc in omega arith)
+    by-outcome p u n d unsettled a f = absurd (let z : _≡_ {A = ℕ} 0 1 = cc in omega arith)
+
+    of : (m : Reading Plan) → planHead s ≡ m → next (verdictAfter m) (λ p. stepLines) ≡ read tt t k → TakenWhole s
+    of (read p u n) d f = by-outcome p u n d (outcome p) refl f
+    of (refused y u) d f = absurd (let z : _≡_ {A = ℕ} 0 1 = cc in omega arith)
