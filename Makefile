@@ -3,7 +3,7 @@
 # make test        the gate: everything that must hold before a change lands
 # make install     command, programs, library, header, manual pages and pkg-config file below PREFIX
 # make uninstall   takes them away again
-# make lint        the manual pages, read by a linter
+# make lint        the manual pages, the proved sources' layout, the scripts and the second implementation, each read by its linter
 # make figures     measures, and writes docs/FIGURES.md
 # make picture     draws docs/window.svg and docs/day.svg from sessions of examples/
 
@@ -85,8 +85,15 @@ uninstall:
 	    bin/gekumosari lib/pkgconfig/gekumosari.pc include/gekumosari.h share/man/man3/gekumosari_session.3; do rm -f "$$tree/$$file"; done
 	rmdir "$$tree/libexec/gekumosari" 2>/dev/null || true
 
+# Of the scripts, programs for sed, awk and bash stand in single quotes, and are meant so (SC2016).
 lint:
 	mandoc -T lint -W warning man/*.1 man/*.3
+	rt fmt --check
+	shellcheck -e SC2016 tests/apply.sh $$(grep -lE '^#!.*[/ ](ba)?sh$$' .ci/run bin/* tests/*/run harness/fuzz/run)
+	pyflakes3 $$(grep -lE '^#!.*python3$$' tests/*/run)
+	cd harness && cargo fmt --check
+	cd harness && cargo clippy --offline --quiet --all-targets -- -D warnings
+	cd harness && GEKUMOSARI_ARCHIVE=/dev/null cargo clippy --offline --quiet --all-targets --features export -- -D warnings
 
 figures: $(archive)
 	cd harness && GEKUMOSARI_ARCHIVE="$(abspath $(archive))" cargo run --release --offline --quiet --features export -- figures > ../target/figures

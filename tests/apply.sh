@@ -1,3 +1,4 @@
+# shellcheck shell=bash
 # Sourced by what tries edits: applies one to the files below a folder. An edit is lines `file:`, `old:`, `new:`, as those of `rt must-fail`; each `old:`
 # text stands exactly once in its file.
 apply() { # EDIT FOLDER
