@@ -90,7 +90,7 @@ lint:
 	mandoc -T lint -W warning man/*.1 man/*.3
 	rt fmt --check
 	shellcheck -e SC2016 tests/apply.sh $$(grep -lE '^#!.*[/ ](ba)?sh$$' .ci/run bin/* tests/*/run harness/fuzz/run)
-	pyflakes3 $$(grep -lE '^#!.*python3$$' tests/*/run)
+	pyflakes3 $$(grep -lE '^#!.*python3$$' tests/*/run tests/*/test) tests/*/*.py
 	cd harness && cargo fmt --check
 	cd harness && cargo clippy --offline --quiet --all-targets -- -D warnings
 	cd harness && GEKUMOSARI_ARCHIVE=/dev/null cargo clippy --offline --quiet --all-targets --features export -- -D warnings

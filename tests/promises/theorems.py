@@ -1,0 +1,107 @@
+"""The theorems that the pages name. Each is stated: in a file that its paragraph or row names, if that names one; what docs/DEMAND-3.md names may stand in
+`Theorems` and on the front page too. Of the table of demand 3 each theorem, up to a semicolon, is on the front page and there stated of an accepted plan.
+And each theorem of the front page has its name on a page, so that none is lost unseen."""
+import re
+
+from contracts import bare, cut, tree
+
+THEOREM = re.compile(r"[A-Za-z0-9]+(-[A-Za-z0-9′]+)+$")
+DEMAND = 'docs/DEMAND-3.md'
+FRONT = 'crates/promises/specs/'
+STRATEGY = 'crates/strategy/specs/'
+
+
+def coded(text):
+    """What stands in code letters."""
+    return re.findall(r'`([^`\n]+)`', text)
+
+
+def stated(text):
+    """The theorems of a file, each with its statement and the heads of the modules around it."""
+    found, modules, lines = {}, [], text.split('\n')
+    for at, line in enumerate(lines):
+        indent = len(line) - len(line.lstrip())
+        if line.strip() and not line.strip().startswith('--'):
+            modules = [one for one in modules if one[0] < indent]
+        module = re.match(r' *module \S+ (.*) where$', line)
+        if module:
+            modules.append((indent, module.group(1)))
+        law = re.match(r" *pub ([\w′-]+)(?: \{[^}]*\})? :(?: (.*))?$", line)
+        if law:
+            said = [law.group(2) or '']
+            for after in lines[at + 1:]:
+                if after.startswith(' ' * indent + law.group(1)) or re.match(r' *unfolding\b', after) or not after.strip():
+                    break
+                said.append(after.strip())
+            found[law.group(1)] = (' '.join(said), [head for _, head in modules])
+    return found
+
+
+def front(read):
+    """The files of the front page: those that its list has below the laws."""
+    return [FRONT + name + '.antt' for name in re.findall(r'(?m)^pub mod (\w+)', read(FRONT + 'Lib.antt').partition('-- ---- laws')[2])]
+
+
+def is_of_accepted(said, heads):
+    """Whether a theorem is stated of an accepted plan: a module around it takes one, or a premise is that the plan is."""
+    premises = [tree(head) or [] for head in heads] + cut(tree(said) or [], '→')[:-1]
+    takes = [part for premise in premises for part in [bare(premise)] + premise]
+    plans = [part[-1] for part in takes if part[-2:-1] == ['Accepted'] and (len(part) == 2 or part[1:-2] == [':'])]
+    return any(re.search(r'(?<![\w.])%s(?![\w′])' % plan, said) for plan in plans)
+
+
+def blocks(page):
+    """The paragraphs, list items and rows of a page."""
+    return re.split(r'\n\s*\n|\n(?=[-|]|\d+\. )', page)
+
+
+def named(block, exists):
+    """The theorems that a block names, and the files of laws that it names; a file of the crate `strategy` goes by its name alone."""
+    names, files = [], []
+    for code in coded(block):
+        short = STRATEGY + (code if code.endswith('.antt') else code + '.antt')
+        if code.endswith('.antt') and exists(code):
+            files.append(code)
+        elif re.fullmatch(r'[A-Z]\w+(\.antt)?', code) and exists(short):
+            files.append(short)
+        elif THEOREM.match(code):
+            names.append(code)
+    return names, files
+
+
+def section(page, number):
+    """A section of a page by its number."""
+    return (re.split(r'(?m)^## %d\. ' % number, page) + [''])[1].split('\n## ')[0]
+
+
+def demanded(page):
+    """The theorems of the table of demand 3, without what stands behind a semicolon."""
+    table = [line.strip('| ').split(' | ') for line in section(page, 2).split('\n') if re.match(r'\| (?!the demand)', line)]
+    return [name for row in table for name in coded(row[-1].split(';')[0])]
+
+
+def faults(read, exists, every, pages, apart):
+    """What is wrong: `every` are all files of specs/, `pages` the texts of the pages, and `apart` the files of the front page whose laws are looked up by
+    operation."""
+    texts = {path: stated(read(path)) for path in every}
+    shown = front(read)
+    known = set()
+    for page, text in pages.items():
+        always = [STRATEGY + 'Theorems.antt'] + shown if page == DEMAND else []
+        for block in blocks(text):
+            names, files = named(block, exists)
+            known |= set(names)
+            within = files + always or every
+            yield from ('%s: the theorem `%s` is not stated%s' % (page, name, ' in ' + ', '.join(files) if files else '')
+                        for name in names if not any(name in texts.get(path, {}) for path in within))
+    laws = {name: said for path in shown for name, said in texts.get(path, {}).items()}
+    if not demanded(pages[DEMAND]):
+        yield '%s: section 2 has no table of theorems' % DEMAND
+    for name in demanded(pages[DEMAND]):
+        if name not in laws:
+            yield '%s: the theorem `%s` is not on the front page' % (DEMAND, name)
+        elif not is_of_accepted(*laws[name]):
+            yield '%s: on the front page `%s` is not stated of an accepted plan' % (DEMAND, name)
+    for path in shown:
+        if path not in apart:
+            yield from ('%s: the theorem `%s` is named on no page' % (path, name) for name in texts.get(path, {}) if name not in known)
