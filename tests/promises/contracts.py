@@ -3,7 +3,7 @@ of it, or a lent slice at the exit, and the other is a definition of what came i
 import re
 
 # What an `ensures` may say to determine something. In a form R is the result, X a parameter that is lent to be written, .F a field; T is a term of what came
-# in, and D one whose first word is a definition that the function's row of docs/PROMISES.md names. With each stands the law by which it determines R and X, and
+# in, and D one whose first word is a definition that the function's row of docs/PROMISES.md names, or the length of one. With each stands the law by which it determines R and X, and
 # the law's file; a form without a law leaves something open, and is for the operations which the page's table of exceptions names.
 ONLY = ('only', 'crates/text/specs/Unique.antt')
 FORMS = (
@@ -170,7 +170,8 @@ def equation(form, term, contract, result, defined):
         return None
     right = bare(sides[-1])
     if len(forms) == 2:
-        head = right[0] if right and isinstance(right[0], str) else ''
+        counted = bare(right[1]) if right[:1] == ['length'] and len(right) == 2 and isinstance(right[1], list) else right
+        head = counted[0] if counted and isinstance(counted[0], str) else ''
         if plain(head) not in defined or head in contract.parameters or not closed(right, result):
             return None
     elif plain(forms[0][0]) not in defined:

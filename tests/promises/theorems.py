@@ -1,6 +1,6 @@
 """The theorems that the pages name. Each is stated: in a file that its paragraph or row names, if that names one; what docs/DEMAND-3.md names may stand in
-`Theorems` and on the front page too. Of the table of demand 3 each theorem, up to a semicolon, is on the front page and there stated of an accepted plan.
-And each theorem of the front page has its name on a page, so that none is lost unseen."""
+`Theorems` and on the front page too. Of the table of demand 3 each theorem, up to a semicolon, is on the front page and there stated of an accepted plan;
+behind 'of any plan' it is there without that premise. And each theorem of the front page has its name on a page, so that none is lost unseen."""
 import re
 
 from contracts import bare, cut, tree
@@ -17,17 +17,20 @@ def coded(text):
 
 
 def stated(text):
-    """The theorems of a file, each with its statement and the heads of the modules around it."""
-    found, modules, lines = {}, [], text.split('\n')
+    """The theorems of a file, each with its statement and the heads of the modules around it. The fields of a record are none."""
+    found, modules, record, lines = {}, [], None, text.split('\n')
     for at, line in enumerate(lines):
         indent = len(line) - len(line.lstrip())
         if line.strip() and not line.strip().startswith('--'):
             modules = [one for one in modules if one[0] < indent]
+            record = record if record is not None and record < indent else None
+        if re.match(r' *(pub )?record .* where$', line):
+            record = indent
         module = re.match(r' *module \S+ (.*) where$', line)
         if module:
             modules.append((indent, module.group(1)))
         law = re.match(r" *pub ([\w′-]+)(?: \{[^}]*\})? :(?: (.*))?$", line)
-        if law:
+        if law and record is None:
             said = [law.group(2) or '']
             for after in lines[at + 1:]:
                 if after.startswith(' ' * indent + law.group(1)) or re.match(r' *unfolding\b', after) or not after.strip():
@@ -75,9 +78,10 @@ def section(page, number):
 
 
 def demanded(page):
-    """The theorems of the table of demand 3, without what stands behind a semicolon."""
+    """The theorems of the table of demand 3, each with whether it is to be stated of an accepted plan: behind 'of any plan' it is not."""
     table = [line.strip('| ').split(' | ') for line in section(page, 2).split('\n') if re.match(r'\| (?!the demand)', line)]
-    return [name for row in table for name in coded(row[-1].split(';')[0])]
+    parts = [(at, part) for row in table for at, part in enumerate(row[-1].split(';'))]
+    return [(name, at == 0) for at, part in parts if at == 0 or part.startswith(' of any plan,') for name in coded(part)]
 
 
 def faults(read, exists, every, pages, apart):
@@ -97,10 +101,10 @@ def faults(read, exists, every, pages, apart):
     laws = {name: said for path in shown for name, said in texts.get(path, {}).items()}
     if not demanded(pages[DEMAND]):
         yield '%s: section 2 has no table of theorems' % DEMAND
-    for name in demanded(pages[DEMAND]):
+    for name, of_accepted in demanded(pages[DEMAND]):
         if name not in laws:
             yield '%s: the theorem `%s` is not on the front page' % (DEMAND, name)
-        elif not is_of_accepted(*laws[name]):
+        elif of_accepted and not is_of_accepted(*laws[name]):
             yield '%s: on the front page `%s` is not stated of an accepted plan' % (DEMAND, name)
     for path in shown:
         if path not in apart:
