@@ -5,6 +5,7 @@ use Prim.Native.Nat.{ℕ, _<_}
 use mathlib.Core.Path.{_≡_, refl, ap, _∙_}
 use mathlib.Core.Bool.{true, false}
 use mathlib.Core.List.{List, [], _∷_, _++_}
+use native.Mathlib.Omega.{arith}
 use lib.ListN.{length}
 use Rattle.plan.specs.declared.Plan.{Plan}
 use Rattle.plan.specs.declared.Refusal.{Refusal}
@@ -21,6 +22,7 @@ use Rattle.calendars.specs.declared.Calendar.{Calendar}
 use Rattle.calendars.specs.Calendars.{calendar}
 use Rattle.calendars.specs.CalendarText.{calendarOutput}
 use Rattle.calendars.specs.ToldLaws.{ToldNone, calendar-told}
+use Rattle.runs.specs.declared.Run.{Run}
 use Rattle.runs.specs.declared.Step.{Step}
 use Rattle.runs.specs.Steps.{newRun, stepped}
 use Rattle.strategy.specs.Strategies.{StrategyFor}
@@ -29,7 +31,7 @@ use Rattle.strategy.specs.StepsLaws.{afterSteps-more}
 use Rattle.session.specs.StepRead.{stepLine}
 use Rattle.session.specs.AnswerText.{answerLine, endsSession}
 use Rattle.session.specs.Sessions.{answers, judgedSession, sessionOf, dispatchOutput}
-use Rattle.session.specs.SessionLaws.{answers-refused, answers-last, answers-more, answers-only}
+use Rattle.session.specs.SessionLaws.{answers-end, answers-refused, answers-last, answers-more, answers-only}
 use Rattle.session.specs.PrintedLaws.{dispatch-told}
 use Rattle.promises.specs.Demands.{no-strategy-means}
 
@@ -42,10 +44,14 @@ unfolding sessionOf judgedSession
 session-printed s {p} {t} {n} e m c accepted = ap sessionOf e ∙ ap (λ (o : Outcome). judgedSession p o t n) accepted
 
 module _ (p : Plan) (c : Calendar) where
+  -- for no steps, nothing
+  pub nothing-printed : (r : Run) (n : ℕ) → answers p c r [] n ≡ []
+  nothing-printed r n = answers-end p c r [] 0 n (omega arith)
+
   -- the text from a step on, after the steps before it
   module _ (sts : List Step) (s : List ℕ) (n : ℕ) (some : 0 < length s) where
     module _ (st : Step) (rest : List ℕ) (k : ℕ) (is : stepLine s n ≡ read st rest k) where
-      -- each step's answer in the run after the steps before it, and then the answers to the steps behind it;
+      -- each step's answer in the run after the steps before it, and then the answers to the steps behind it
       pub step-printed : let a = stepped p c (afterSteps p c newRun sts) st .answer in
           endsSession a ≡ false → answers p c (afterSteps p c newRun sts) s n ≡ answerLine a ++ answers p c (afterSteps p c newRun (sts ++ (st ∷ []))) rest k
       step-printed goes =
