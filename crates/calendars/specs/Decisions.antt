@@ -12,7 +12,8 @@ use Rattle.calendars.specs.declared.Calendar.{Calendar}
 use Rattle.calendars.specs.Calendars.{noCalendar, madeCalendar}
 use Rattle.calendars.specs.CalendarText.{outcomeText}
 
--- 'A plan handed over as a value is judged as its text would be.' 'The verdict follows'; by the plan's judgement: its verdict, its calendar, and the text that tells them
+-- 'A plan handed over as a value is judged as its text would be.' 'The verdict follows'; by the plan's judgement: its verdict, its calendar, and the text that
+-- tells them
 unfoldable pub valueVerdict : Plan → Option Refusal → VerdictTold
 valueVerdict p none = verdictTold (verdict p)
 valueVerdict p (some x) = Refused x

@@ -1,7 +1,7 @@
 -- The laws of what is decided. A plan whose verdict is settled has a settled set (`verdict-settled`), and the calendar made from the joined table is the plan's
 -- (`calendar-joined`, `made-settled`); beside any other verdict the calendar says nothing (`made-refused`, `made-unsettled`). The text of a decision, by how
--- its verdict is told (`text-settled`, `text-refused`), is what the program prints for the plan (`text-of-outcome`), and so for a text that was read (`plan-accepted`) or refused
--- (`plan-refused`).
+-- its verdict is told (`text-settled`, `text-refused`), is what the program prints for the plan (`text-of-outcome`), and so for a text that was read
+-- (`plan-accepted`) or refused (`plan-refused`).
 
 use Prim.Native.Nat.{ℕ}
 use mathlib.Core.Path.{_≡_, refl, sym, ap, subst, _∙_}

@@ -1,5 +1,5 @@
--- What is told of a plan's text, judged to its end, by what its reader answered: the refusal of its lines (`alone-refused`), nothing (`alone-settled`), or the refusal of its
--- verdict (`alone-judged`). a is the answer that is told.
+-- What is told of a plan's text, judged to its end, by what its reader answered: the refusal of its lines (`alone-refused`), nothing (`alone-settled`), or the
+-- refusal of its verdict (`alone-judged`). a is the answer that is told.
 use Prim.Native.Nat.{ℕ}
 use mathlib.Core.Path.{_≡_, refl, sym, ap, subst, _∙_}
 use mathlib.Core.List.{List}

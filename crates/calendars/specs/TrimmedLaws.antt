@@ -1,7 +1,8 @@
--- The places beyond a plan's jobs and bounds have no part in its calendar: two plans that differ in such places alone have the same tables before each start (`beforeStarts-agrees`),
--- the same calendar of a settled set (`calendar-agrees`) and the same text of an outcome (`outcomeText-agrees`). So an accepted plan and the same plan with zeros in these places
--- have one calendar and one text (`calendar-trimmed`, `text-trimmed`). That they have one outcome says `TrimmedLaws` of `rounds`.
-use Prim.Native.Nat.{ℕ, zero, suc, _+_, _*_, _≤_, _<_}
+-- The places beyond a plan's jobs and bounds have no part in its calendar: two plans that differ in such places alone have the same tables before each start
+-- (`beforeStarts-agrees`), the same calendar of a settled set (`calendar-agrees`) and the same text of an outcome (`outcomeText-agrees`). So an accepted plan
+-- and the same plan with zeros in these places have one calendar and one text (`calendar-trimmed`, `text-trimmed`). That they have one outcome says
+-- `TrimmedLaws` of `rounds`.
+use Prim.Native.Nat.{ℕ, zero, suc, _+_, _≤_, _<_}
 use mathlib.Core.Path.{_≡_, refl, ap, ap₂, _∙_}
 use mathlib.Core.List.{List, [], _∷_, _++_}
 use native.Mathlib.Omega.{arith}
@@ -9,17 +10,14 @@ use lib.IntN.{ℤ, pos}
 use Rattle.plan.specs.declared.Job.{Job}
 use Rattle.plan.specs.declared.Bound.{Bound}
 use Rattle.plan.specs.declared.Plan.{Plan}
-use Rattle.plan.specs.Limits.{mostJobs}
 use Rattle.plan.specs.PlanRead.{filled}
 use Rattle.plan.specs.PlanWritten.{trimmed}
 use Rattle.plan.specs.Accepted.{Accepted}
 use Rattle.bounds.specs.Tables.{Rows, Set, contradiction, bounds}
-use Rattle.bounds.specs.Elimination.{thenSet}
-use Rattle.rounds.specs.Rounds.{C0, joined, Outcome, settled, noStrategy, unsettled, outcome}
-use Rattle.rounds.specs.TrimmedLaws.{withPlaces, SamePlaces, thenSet-same, withoutFinish-agrees, withoutStart-agrees, C0-agrees, joined-agrees, outcome-agrees, trimmed-agrees, outcome-trimmed}
+use Rattle.rounds.specs.Rounds.{Outcome, settled, noStrategy, unsettled, outcome}
+use Rattle.rounds.specs.TrimmedLaws.{withPlaces, SamePlaces, thenSet-same, withoutFinish-agrees, withoutStart-agrees, C0-agrees, joined-agrees, trimmed-agrees, outcome-trimmed}
 use Rattle.calendars.specs.declared.Terms.{Terms}
-use Rattle.calendars.specs.declared.Calendar.{Calendar}
-use Rattle.calendars.specs.Calendars.{thenTables, beforeStarts, termsOf, leastCs, mostCs, mostEvents, noTerms, allTerms, allCs, calendarOf, calendar}
+use Rattle.calendars.specs.Calendars.{thenTables, beforeStarts, termsOf, leastCs, mostCs, mostEvents, allTerms, allCs, calendarOf, calendar}
 use Rattle.calendars.specs.CalendarText.{calendarText, outcomeText}
 
 thenTables-same : {s u : Set} {f g : Rows → List Rows} → s ≡ u → ((t : Rows) → f t ≡ g t) → thenTables s f ≡ thenTables u g

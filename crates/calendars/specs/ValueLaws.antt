@@ -2,7 +2,6 @@
 -- `value-calendar`, `value-text`); one that is refused has its refusal, no calendar and the refusal's line (`refused-verdict`, `refused-calendar`, `refused-text`).
 
 use mathlib.Core.Path.{_≡_, sym, ap, _∙_}
-use mathlib.Core.List.{List}
 use mathlib.Core.Option.{none, some}
 use Rattle.plan.specs.declared.Plan.{Plan}
 use Rattle.plan.specs.declared.PlanAnswer.{PlanAnswer}

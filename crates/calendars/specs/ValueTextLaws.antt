@@ -1,5 +1,5 @@
--- 'A plan handed over as a value is judged as its text would be': what is answered to a plan as a value is what the program answers to its text (`valueText-text`), whatever stands in
--- the places beyond its jobs and bounds.
+-- 'A plan handed over as a value is judged as its text would be': what is answered to a plan as a value is what the program answers to its text
+-- (`valueText-text`), whatever stands in the places beyond its jobs and bounds.
 use mathlib.Core.Path.{_≡_, refl, sym, ap, _∙_}
 use mathlib.Core.Option.{none}
 use Rattle.plan.specs.declared.Plan.{Plan}

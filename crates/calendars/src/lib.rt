@@ -37,8 +37,8 @@ pub struct Decision {
     pub calendar: Calendar,
 }
 
-// What is decided of a plan that was handed over as a value: settled in a round, or refused, by 1, 2 or 3 with the line that its text would have, or by 4 or 5; beside a refusal
-// a calendar that says nothing.
+// What is decided of a plan that was handed over as a value: settled in a round, or refused, by 1, 2 or 3 with the line that its text would have, or by 4 or 5;
+// beside a refusal a calendar that says nothing.
 pub struct ValueDecision {
     pub verdict: VerdictTold,
     pub calendar: Calendar,

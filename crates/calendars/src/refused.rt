@@ -8,8 +8,9 @@ ghost use mathlib.Core.Path.{_≡_};
 ghost use Rattle.plan.specs.Reading.{refusedNumber, refusedValue, faultyPart};
 ghost use Rattle.rounds.specs.TextVerdict.{acceptedAlone};
 
-// What refuses a text that is to be a plan and nothing else, its verdict included: n and d become the number and the value of the refusal, and the faulty line is handed back as a
-// part of the text, without its LF. The part is empty for 4 and 5; n, d and the part are 0, 0 and empty where the plan is accepted and settled.
+// What refuses a text that is to be a plan and nothing else, its verdict included: n and d become the number and the value of the refusal, and the faulty line
+// is handed back as a part of the text, without its LF. The part is empty for 4 and 5; n, d and the part are 0, 0 and empty where the plan is accepted and
+// settled.
 pub fn refused_in_plan<'a>(s: &'a [u8], n: &mut u64, d: &mut u64) -> &'a [u8]
     ensures { λ r. ⌜ now r ≡ faultyPart (acceptedAlone (now (s .entry))) ⌝ }
     ensures { λ _. ⌜ now (n .exit) ≡ refusedNumber (acceptedAlone (now (s .entry))) ⌝ }

@@ -1,7 +1,8 @@
--- The faulty line is a part of the text that was read. What a reading leaves, or refuses from its faulty line on, is the text from some place on (`Tail`): so it is of a line
--- (`line-tail`), of one reading after another (`next-tail`), of each group of a plan's lines, and of a plan (`planHead-tail`, `planAlone-tail`). So the place which the
--- reader tells is where the faulty line begins (`tail-place`). What is told of an answer and its place is what is told of the reading, where that is refused there (`told-refused`; for want of
--- a line at the text's end, `end-empty`) and where it is not refused (`told-none`).
+-- The faulty line is a part of the text that was read. What a reading leaves, or refuses from its faulty line on, is the text from some place on (`Tail`): so
+-- it is of a line (`line-tail`), of one reading after another (`next-tail`), of each group of a plan's lines, and of a plan (`planHead-tail`,
+-- `planAlone-tail`). So the place which the reader tells is where the faulty line begins (`tail-place`); behind the text there is none
+-- (`before-past`, `end-empty`). What is told of an answer and its place is what is told of the reading, where that is refused there (`told-refused`) and where
+-- it is not refused (`told-none`).
 use mathlib.Core.Path.{_≡_, refl, sym, _∙_, ap}
 use mathlib.Core.Bool.{Bool, true, false, cond}
 use mathlib.Core.List.{List, [], _∷_, _++_, append-assoc, append-nil}

@@ -1,6 +1,7 @@
--- What ends a session before the end of its text, and what `refused_in_session` of the crate `session` hands back: where a session's text is refused, the dispatch program's output
--- ends with the line of that refusal (`refused-ends`); where it is not, every line was taken, and the output is the answers to all steps, none of which ends a session
--- (`taken-whole`). For no step of a settled plan's session is answered by 1 or 2 (`goes-on`): an auto start outside the range of T is not reached (`auto-taken`).
+-- What ends a session before the end of its text, and what `refused_in_session` of the crate `session` hands back: where a session's text is refused, the
+-- dispatch program's output ends with the line of that refusal (`refused-ends`); where it is not, every line was taken, and the output is the answers to all
+-- steps, none of which ends a session (`taken-whole`). For no step of a settled plan's session is answered by 1 or 2 (`goes-on`): an auto start outside the
+-- range of T is not reached (`auto-taken`).
 use Prim.Native.Nat.{ℕ, zero, suc, _-_, _≤_, _<_}
 use mathlib.Core.Path.{_≡_, refl, sym, ap, subst, _∙_}
 use mathlib.Core.Bool.{Bool, true, false, cond}

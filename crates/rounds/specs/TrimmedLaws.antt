@@ -1,13 +1,14 @@
 -- The places beyond a plan's jobs and bounds are no part of it: nothing that decides reads them. Two plans that differ in such places alone have the same jobs
--- (`jobAt-agrees`), judge every bound alike (`judgedSet-agrees`), eliminate alike (`eliminated-agrees`), begin alike (`C0-agrees`), join alike (`joined-agrees`) and come to one
--- outcome (`outcome-agrees`). So an accepted plan and the same plan with zeros in these places do (`trimmed-agrees`, `outcome-trimmed`).
-use Prim.Native.Nat.{ℕ, zero, suc, _+_, _*_, _-_, _/_, _%_, _≤_, _<_}
-use mathlib.Core.Path.{_≡_, refl, sym, ap, ap₂, _∙_}
+-- (`jobAt-agrees`), judge every bound alike (`judgedSet-agrees`), eliminate alike (`eliminated-agrees`), begin alike (`C0-agrees`), join alike
+-- (`joined-agrees`) and come to one outcome (`outcome-agrees`). So an accepted plan and the same plan with zeros in these places do (`trimmed-agrees`,
+-- `outcome-trimmed`).
+use Prim.Native.Nat.{ℕ, zero, suc, _+_, _-_, _/_, _%_, _≤_, _<_}
+use mathlib.Core.Path.{_≡_, refl, ap, ap₂, _∙_}
 use mathlib.Core.Bool.{Bool, true, false, cond}
 use mathlib.Core.List.{List, [], _∷_, _++_}
 use native.Mathlib.Omega.{arith}
-use lib.Dec.{eqb, ltb}
-use lib.IntN.{ℤ, negℤ}
+use lib.Dec.{eqb}
+use lib.IntN.{ℤ}
 use lib.ListN.{length, take, getD, length-take}
 use borrow.Author.Tests.{ltb-true, ltb-false}
 use Rattle.plan.specs.declared.Letter.{Letter}
@@ -38,7 +39,6 @@ use Rattle.bounds.specs.Tables.{
   judgement,
   isContradiction,
   keptCell,
-  anyBelow,
   Set,
   contradiction,
   bounds,
@@ -88,10 +88,6 @@ module _ (p : Plan) (job : List Job) (bound : List Bound) (same : SamePlaces p j
   Near Origin = Unit
   Near (Start k) = k < p .jobs + p .jobs
   Near (Finish k) = k < p .jobs + p .jobs
-
-  shift-agrees : (k : ℕ) → shift q k ≡ shift p k
-  unfolding shift
-  shift-agrees k = refl
 
   earliest-agrees : (e : Event) → Near e → earliest q e ≡ earliest p e
   unfolding earliest shift

@@ -1,5 +1,6 @@
--- What a session says by its plan's verdict: the answers to its steps from a run at its beginning (`judged-settled`), or the plan's one line (`judged-refused`). A settled plan, its calendar and a run at its beginning are inside their limits (`judged-inside`). What is decided of an accepted plan makes it a
--- judged one (`judged-decided`).
+-- What a session says by its plan's verdict: the answers to its steps from a run at its beginning (`judged-settled`), or the plan's one line
+-- (`judged-refused`). A settled plan, its calendar and a run at its beginning are inside their limits (`judged-inside`). What is decided of an accepted plan
+-- makes it a judged one (`judged-decided`).
 
 use Prim.Native.Nat.{ℕ}
 use mathlib.Core.Path.{_≡_, refl, sym, ap, _∙_}
@@ -9,7 +10,6 @@ use Rattle.plan.specs.declared.Plan.{Plan}
 use Rattle.plan.specs.declared.Refusal.{Refusal}
 use Rattle.plan.specs.Refusals.{refusedLine}
 use Rattle.plan.specs.Accepted.{Accepted}
-use Rattle.bounds.specs.Tables.{Rows}
 use Rattle.rounds.specs.declared.Verdict.{Verdict}
 use Rattle.rounds.specs.declared.Verdict.the-variants.{Settled}
 use Rattle.rounds.specs.declared.VerdictTold.{VerdictTold}

@@ -1,5 +1,5 @@
--- A session's text read to its end: what ends it stands in its lines and in its plan's verdict (document 01, 'Offers and runs': 'A step refused by 1 or 2 ends the program; other
--- refusals go on.'). An auto start outside the range of T, which ends a session too, is not reached by any text.
+-- A session's text read to its end: what ends it stands in its lines and in its plan's verdict (document 01, 'Offers and runs': 'A step refused by 1 or 2 ends
+-- the program; other refusals go on.'). An auto start outside the range of T, which ends a session too, is not reached by any text.
 use Prim.Native.Nat.{ℕ, zero, suc}
 use mathlib.Core.List.{List, [], _∷_}
 use lib.ListN.{length}

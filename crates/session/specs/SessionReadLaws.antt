@@ -1,6 +1,7 @@
--- The laws of a session's text, read to its end. Its step lines are read one at a time: where nothing is left they are read (`stepLines-end`), a line that is no step is the last
--- (`stepLines-refused`), and else the lines behind it follow (`stepLines-more`). The text is refused by its plan's lines (`sessionRead-refused`) or by its verdict
--- (`sessionRead-judged`), and else by what its step lines come to (`sessionRead-settled`). `Walking` is the loop over the step lines.
+-- The laws of a session's text, read to its end. Its step lines are read one at a time: where nothing is left they are read (`stepLines-end`), a line that is
+-- no step is the last (`stepLines-refused`), and else the lines behind it follow (`stepLines-more`). The text is refused by its plan's lines
+-- (`sessionRead-refused`) or by its verdict (`sessionRead-judged`), and else by what its step lines come to (`sessionRead-settled`). `Walking` is the loop over
+-- the step lines.
 use Prim.Native.Nat.{ℕ, zero, suc, _+_, _≤_, _<_}
 use mathlib.Core.Path.{_≡_, refl, sym, ap, subst, _∙_}
 use mathlib.Core.List.{List, [], _∷_}

@@ -1,4 +1,5 @@
--- `refused_in_session`: by what the reader of the plan answered and how the verdict is told, `sessionRead-refused`, `sessionRead-judged`, and by the step lines, `sessionRead-settled`.
+-- `refused_in_session`: by what the reader of the plan answered and how the verdict is told, `sessionRead-refused`, `sessionRead-judged`, and by the step
+-- lines, `sessionRead-settled`.
 use mathlib.Core.Path.{refl, sym, ap, _∙_}
 use denote.Ref.{now}
 use Rattle.plan.specs.Reading.{refusedNumber, refusedValue, faultyPart}
