@@ -2,6 +2,7 @@
 use crate::StepAt;
 use crate::StepsRead;
 use crate::read::read_step_at;
+use crate::read::step_refusal;
 use calendars::decide;
 use plan::PlanAnswer;
 use plan::tell_refusal;
@@ -25,18 +26,15 @@ fn read_steps(text: &[u8], from: usize, line: usize) -> StepsRead
     let mut number = line;
     while place < text.len() {
         let read = read_step_at(text, place, number);
-        match read {
-            StepAt::Bad(x) => {
-                return StepsRead {
-                    answer: PlanAnswer::Refused(x),
-                    at: place,
-                };
-            }
-            StepAt::Value(_, next) => {
-                place = next;
-                number += 1;
-            }
-        }
+        let StepAt::Value(_, next) = read else {
+            let refusal = step_refusal(read);
+            return StepsRead {
+                answer: PlanAnswer::Refused(refusal),
+                at: place,
+            };
+        };
+        place = next;
+        number += 1;
     }
     StepsRead {
         answer: PlanAnswer::Accepted,

@@ -1,9 +1,11 @@
 -- `read_steps`: the invariant is `Walking`, that what is left to read is all there was to read; one law a way, `walking-..`.
 use Prim.Native.Nat.{_-_}
-use mathlib.Core.Path.{refl}
+use mathlib.Core.Path.{refl, ap, _∙_}
 use native.Mathlib.Omega.{arith}
 use denote.Ref.{now}
 use lib.ListN.{length}
+use Rattle.plan.specs.declared.PlanAnswer.the-variants.{Refused}
+use Rattle.session.specs.StepAt.{stepRefusal}
 use Rattle.session.specs.SessionReadLaws.{Walking, walking-start, walking-end, walking-refused, walking-more}
 use borrow.Author.Needs.{needs}
 use Rattle.session.proofs.refused.read_steps.Statement.{statement}
@@ -26,14 +28,19 @@ read-step-at-requires c κs = c .before .loop .inv .placed
 enum-known-read : tie.Need-enum-known-read Inv-loop μ-loop
 enum-known-read c = search needs
 
+enum-told : tie.Need-enum-told Inv-loop μ-loop
+enum-told c = search needs
+
+step-refusal-requires : tie.Need-step-refusal-requires Inv-loop μ-loop
+step-refusal-requires c κs = search needs
+
 returns : tie.Need-returns Inv-loop μ-loop
 returns c =
     let l = c .before .before .before .before .before .loop in
     let a = c .before .before .before .before .before .before .before .args in
-    walking-refused (now (a .text)) (a .from) (a .line) (l .place) (l .number) (l .inv) (c .before .before .before .before .loop-test .taken) _ (c .before .before .before .read-step-at .ensures .0) (c .before .read .given .1) refl
-
-enum-known-read-2 : tie.Need-enum-known-read-2 Inv-loop μ-loop
-enum-known-read-2 c = search needs
+    let bad = c .before .enum-told .given .1 in
+    walking-refused (now (a .text)) (a .from) (a .line) (l .place) (l .number) (l .inv) (c .before .before .before .before .loop-test .taken) _
+    (c .before .before .before .read-step-at .ensures .0) bad (ap Refused (c .step-refusal .ensures ∙ ap stepRefusal bad))
 
 add-number : tie.Need-add-number Inv-loop μ-loop
 add-number c = omega arith
@@ -41,7 +48,7 @@ add-number c = omega arith
 loop-less : tie.Need-loop-less Inv-loop μ-loop
 loop-less c =
     let w = c .before .before .before .read-step-at .ensures .1 in
-    let e = c .before .read2 .given .1 in
+    let e = c .before .read .given .1 in
     omega (arith, w .least _ _ e, w .most _ _ e)
 
 loop-again : tie.Need-loop-again Inv-loop μ-loop
@@ -49,7 +56,7 @@ loop-again c =
     let l = c .before .before .before .before .before .loop in
     let a = c .before .before .before .before .before .before .before .args in
     let w = c .before .before .before .read-step-at .ensures in
-    walking-more (now (a .text)) (a .from) (a .line) (l .place) (l .number) (l .inv) (c .before .before .before .before .loop-test .taken) _ _ (w .0) (c .before .read2 .given .1) (w .1)
+    walking-more (now (a .text)) (a .from) (a .line) (l .place) (l .number) (l .inv) (c .before .before .before .before .loop-test .taken) _ _ (w .0) (c .before .read .given .1) (w .1)
 
 returns-2 : tie.Need-returns-2 Inv-loop μ-loop
 returns-2 c =
@@ -66,8 +73,9 @@ read-steps-spec =
     loop-holds
     read-step-at-requires
     enum-known-read
+    enum-told
+    step-refusal-requires
     returns
-    enum-known-read-2
     add-number
     loop-less
     loop-again
