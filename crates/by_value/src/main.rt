@@ -1,6 +1,7 @@
 // The operations on values, run: what other programs read from a text is put together by hand here, and handed over. It reads no input; what it
 // prints is compared with the crate's file `stdout`, which was written from document 01 and not by this program.
 
+mod faulty;
 mod limits;
 mod made;
 mod plans;
@@ -17,4 +18,5 @@ fn main() {
     limits::of_runs();
     limits::of_calendars();
     limits::of_times();
+    faulty::lines();
 }

@@ -10,11 +10,11 @@ use crate::told::say;
 use crate::told::tell_line;
 use crate::told::tell_numbers;
 use crate::told::tell_refused;
-use calendars::ValueVerdict;
 use plan::Letter;
 use plan::Plan;
 use plan::PlanAnswer;
 use plan::Written;
+use rounds::VerdictTold;
 
 // The text that tells what is decided of a plan.
 fn answered(p: Plan) {
@@ -31,11 +31,11 @@ fn decided(p: Plan) {
     let d = calendars::decide_value(p);
     let v = d.verdict;
     match v {
-        ValueVerdict::Settled(m) => {
+        VerdictTold::Settled(m) => {
             tell_line(b"settled=", m);
             tell_numbers(d.calendar);
         }
-        ValueVerdict::Refused(x) => tell_refused(x),
+        VerdictTold::Refused(x) => tell_refused(x),
     }
 }
 

@@ -41,6 +41,14 @@ pub fn tell_refused(x: Refusal) {
     tell_count(value, b"\n");
 }
 
+// The number and the value of a refusal, 0 and 0 where there is none, and the faulty line between brackets.
+pub fn tell_faulty(n: u64, d: u64, part: &[u8]) {
+    tell_count(n, b",");
+    tell_count(d, b" [");
+    say(part);
+    say(b"]\n");
+}
+
 // A time, and the byte behind it.
 fn tell_time(t: RunTime, end: u8) {
     tell_number(t.0, end);
