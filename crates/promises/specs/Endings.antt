@@ -48,7 +48,8 @@ use Rattle.session.specs.Sessions.{answersWithin, answers, judgedSession, sessi
 use Rattle.session.specs.SessionLaws.{stepLine-shorter, answers-refused}
 use Rattle.session.specs.SessionRead.{stepsWithin, stepLines, sessionRead}
 use Rattle.session.specs.SessionReadLaws.{stepLines-refused, stepLines-more}
-use Rattle.promises.specs.Demands.{session-kept, auto-taken, session-printed, step-printed}
+use Rattle.promises.specs.Demands.{session-kept, auto-taken}
+use Rattle.promises.specs.Printed.{session-printed, step-printed}
 
 -- ---- no step of a settled plan's session is answered by 1 or 2
 
