@@ -1,6 +1,7 @@
 -- What `refused=N,D` tells back. A line has one number and one value, whatever follows it (`refusedLine-same`, `refusedLine-one`). A text that is
 -- refused as it is read is refused by 1, 2 or 3 (`planHead-form`, `planAlone-form`; a single line, `line-form`). So where the calendar program
--- prints `refused=4,K`, its text was read as a plan whose verdict is 'no strategy', K (`calendar-told`).
+-- prints `refused=4,K`, its text was read as a plan whose verdict is 'no strategy', K (`calendar-told`); and where what it prints begins with
+-- `settled=`, as a plan that is settled (`calendar-settled`).
 use Prim.Native.Nat.{ℕ, zero, suc, _≤_}
 use mathlib.Core.Path.{_≡_, refl, sym, ap, _∙_}
 use mathlib.Core.Bool.{Bool, true, false, cond}
@@ -27,7 +28,7 @@ use Rattle.plan.specs.Reading.{Lined, Reading, read, refused, Reader, next, lin
 use Rattle.plan.specs.Reading as reading
 use Rattle.plan.specs.PlanRead.{countLine, jobLines, jobsAfter, boundsAfter, planLines, planHead, nothingAfter, planAlone}
 use Rattle.plan.specs.PlanWritten.{keyed}
-use Rattle.rounds.specs.declared.Verdict.the-variants.{NoStrategy}
+use Rattle.rounds.specs.declared.Verdict.the-variants.{Settled, NoStrategy}
 use Rattle.rounds.specs.Rounds.{Outcome, settled, noStrategy, unsettled, outcome, verdictOf, verdict}
 use Rattle.calendars.specs.Calendars.{calendar}
 use Rattle.calendars.specs.CalendarText.{jobTexts, calendarText, outcomeText, answered, calendarOutput}
@@ -179,3 +180,30 @@ calendar-told s K e = by (planAlone s) refl (planAlone-form s) e
     by : (m : Reading Plan) → planAlone s ≡ m → ByForm m → answered m ≡ refusedLine (refusal.NoStrategy K) → ToldNone (planAlone s) K
     by (read p t n) d h f = record { plan = p; rest = t; line = n; read = d; none = outcome-told p (outcome p) K f }
     by (refused x t) d h f = absurd (omega (arith, refusedLine-one x (refusal.NoStrategy K) f .number))
+
+-- the plan that a text was read as, settled in some round
+pub record ToldSettled (m : Reading Plan) : Type 0 where
+  pub plan : Plan
+  pub rest : List ℕ
+  pub line : ℕ
+  pub read : m ≡ reading.read plan rest line
+  pub round : ℕ
+  pub settled : verdict plan ≡ Settled round
+
+refused-not-settled : (x : Refusal) (t : List ℕ) → refusedLine x ≡ bytes "settled=" ++ t → ⊥
+unfolding refusedLine bytes
+refused-not-settled x t e = let d : _≡_ {A = ℕ} 114 115 = ap (λ (s : List ℕ). getD s 0 0) e in omega arith
+
+pub calendar-settled : (s t : List ℕ) → calendarOutput s ≡ bytes "settled=" ++ t → ToldSettled (planAlone s)
+unfolding answered outcomeText
+calendar-settled s t e = by (planAlone s) refl e
+  where
+    by-outcome : (p : Plan) (u : List ℕ) (n : ℕ) → planAlone s ≡ read p u n → (o : Outcome) → outcome p ≡ o
+        → outcomeText p o ≡ bytes "settled=" ++ t → ToldSettled (planAlone s)
+    by-outcome p u n d (settled m c) a f = record { plan = p; rest = u; line = n; read = d; round = m; settled = ap (verdictOf p) a }
+    by-outcome p u n d (noStrategy K) a f = absurd (refused-not-settled (refusal.NoStrategy K) t f)
+    by-outcome p u n d unsettled a f = absurd (refused-not-settled (refusal.Unsettled (p .rounds)) t f)
+
+    by : (m : Reading Plan) → planAlone s ≡ m → answered m ≡ bytes "settled=" ++ t → ToldSettled (planAlone s)
+    by (read p u n) d f = by-outcome p u n d (outcome p) refl f
+    by (refused x u) d f = absurd (refused-not-settled x t f)

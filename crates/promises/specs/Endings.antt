@@ -19,14 +19,15 @@ use Rattle.plan.specs.declared.Refusal.{Refusal}
 use Rattle.plan.specs.declared.Refusal.the-variants as refusal
 use Rattle.plan.specs.Refusals.{refusedLine, ends}
 use Rattle.plan.specs.Reading.{Reading, read, refused, next}
-use Rattle.plan.specs.PlanRead.{planHead, noJob}
+use Rattle.plan.specs.PlanRead.{planHead, planAlone, noJob}
 use Rattle.plan.specs.PlanLaws.{planHead-accepted}
 use Rattle.plan.specs.Accepted.{Accepted}
 use Rattle.bounds.specs.Tables.{Rows}
 use Rattle.rounds.specs.Rounds.{Outcome, settled, noStrategy, unsettled, outcome, verdictOf, verdictTold}
-use Rattle.rounds.specs.TextVerdict.{orRefused, verdictAfter}
+use Rattle.rounds.specs.TextVerdict.{orRefused, verdictAfter, acceptedAlone}
 use Rattle.calendars.specs.declared.Calendar.{Calendar}
 use Rattle.calendars.specs.Calendars.{calendar}
+use Rattle.calendars.specs.CalendarText.{outcomeText, answered, calendarOutput}
 use Rattle.runs.specs.declared.Phase.{Phase}
 use Rattle.runs.specs.declared.Phase.the-variants.{Waiting, Running}
 use Rattle.runs.specs.declared.Run.{Run}
@@ -184,12 +185,32 @@ refused-ends s x part e = of (planHead s) refl e
         let same : y ≡ x = cc in
         only-line same (ap sessionOf d)
 
+-- a plan's text that is refused, its verdict included, has that line for its whole answer
+pub refused-printed : (s : List ℕ) (x : Refusal) (part : List ℕ) → acceptedAlone s ≡ refused x part → calendarOutput s ≡ refusedLine x
+unfolding verdictAfter orRefused answered outcomeText
+refused-printed s x part e = of (planAlone s) e
+  where
+    by-outcome : (p : Plan) (u : List ℕ) (n : ℕ) (o : Outcome) → orRefused (verdictTold (verdictOf p o)) (read p u n) ≡ refused x part
+        → outcomeText p o ≡ refusedLine x
+    by-outcome p u n (settled m c) f = absurd (let z : _≡_ {A = ℕ} 0 1 = cc in omega arith)
+    by-outcome p u n (noStrategy K) f = let same : refusal.NoStrategy K ≡ x = cc in ap refusedLine same
+    by-outcome p u n unsettled f = let same : refusal.Unsettled (p .rounds) ≡ x = cc in ap refusedLine same
+
+    of : (m : Reading Plan) → verdictAfter m ≡ refused x part → answered m ≡ refusedLine x
+    of (read p u n) f = by-outcome p u n (outcome p) f
+    of (refused y u) f = let same : y ≡ x = cc in ap refusedLine same
+
 -- ---- a text that is not refused
 
 -- the answers to steps, one after the other, from a run on
 unfoldable pub answersTo : Plan → Calendar → Run → List Step → List ℕ
 answersTo p c r [] = []
 answersTo p c r (st ∷ sts) = answerLine (stepped p c r st .answer) ++ answersTo p c (stepped p c r st .run) sts
+
+-- a text whose lines are just these steps, one after the other
+pub data LinesAre : List ℕ → ℕ → List Step → Type 0 where
+  none : {n : ℕ} → LinesAre [] n []
+  then : {s u : List ℕ} {n k : ℕ} {st : Step} {sts : List Step} → stepLine s n ≡ read st u k → LinesAre u k sts → LinesAre s n (st ∷ sts)
 
 -- every line behind a settled plan is a step, and the output is the answers to all of them; none ends the session (`goes-on`)
 pub record TakenWhole (s : List ℕ) : Type 0 where
@@ -201,18 +222,20 @@ pub record TakenWhole (s : List ℕ) : Type 0 where
   pub set : Rows
   pub plan-settled : outcome plan ≡ settled round set
   pub steps : List Step
+  pub lines : LinesAre steps-text first-line steps
   pub printed : dispatchOutput s ≡ answersTo plan (calendar plan set) newRun steps
 
 module _ (p : Plan) (good : Accepted p) (m : ℕ) (c : Rows) (accepted : outcome p ≡ settled m c) where
   record StepsTaken (done : List Step) (s : List ℕ) (n : ℕ) : Type 0 where
     later : List Step
+    lines : LinesAre s n later
     is : answers p (calendar p c) (afterSteps p (calendar p c) newRun done) s n ≡ answersTo p (calendar p c) (afterSteps p (calendar p c) newRun done) later
 
   steps-taken : (left : ℕ) (done : List Step) (s : List ℕ) (n : ℕ) → length s ≤ left → {t : List ℕ} {k : ℕ} → stepLines s n ≡ read tt t k → StepsTaken done s n
   unfolding answersWithin answersTo
-  steps-taken zero done [] n h e = record { later = []; is = refl }
+  steps-taken zero done [] n h e = record { later = []; lines = none; is = refl }
   steps-taken zero done (b ∷ s) n h e = absurd (omega arith)
-  steps-taken (suc left) done [] n h e = record { later = []; is = refl }
+  steps-taken (suc left) done [] n h e = record { later = []; lines = none; is = refl }
   steps-taken (suc left) done (b ∷ s) n h {t} {k} e = of (stepLine (b ∷ s) n) refl (λ st u i l d. steps-taken left (done ++ (st ∷ [])) u i l d)
     where
       some : 0 < length (b ∷ s)
@@ -230,6 +253,7 @@ module _ (p : Plan) (good : Accepted p) (m : ℕ) (c : Rows) (accepted : outcome
           let line = answerLine (stepped p (calendar p c) r st .answer) in
           record {
             later = st ∷ rest .later;
+            lines = then d (rest .lines);
             is =
                 step-printed p (calendar p c) done (b ∷ s) n some st u i d (goes-on p good m c accepted done st)
                 ∙ ap (λ (o : List ℕ). line ++ o)
@@ -253,6 +277,7 @@ taken-whole s t k e = of (planHead s) refl e
           set = c;
           plan-settled = a;
           steps = w .later;
+          lines = w .lines;
           printed = session-printed s d m c a ∙ w .is;
         }
     by-outcome p u n d (noStrategy K) a f = absurd (let z : _≡_ {A = ℕ} 0 1 = cc in omega arith)

@@ -1,12 +1,13 @@
 -- From the theorems to the bytes that the two programs print. Of a settled plan the dispatch program prints the answers to the steps behind it, each in the
 -- run after the steps before it; and `refused=4,K`, from either program, means that there is no way to choose the starts for K windows and one for every
--- smaller number. That the programs write these bytes is the contracts' (docs/PROMISES.md). Each proof cites where the work was done.
+-- smaller number, and `settled=`, from the calendar program, that there is one for every number. That the programs write these bytes is the contracts' (docs/PROMISES.md). Each proof cites where the work was done.
 use Prim.Native.Nat.{ℕ, _<_}
 use mathlib.Core.Path.{_≡_, refl, ap, _∙_}
 use mathlib.Core.Bool.{true, false}
 use mathlib.Core.List.{List, [], _∷_, _++_}
 use native.Mathlib.Omega.{arith}
 use lib.ListN.{length}
+use Rattle.text.specs.Bytes.{bytes}
 use Rattle.plan.specs.declared.Plan.{Plan}
 use Rattle.plan.specs.declared.Refusal.{Refusal}
 use Rattle.plan.specs.declared.Refusal.the-variants as refusal
@@ -21,11 +22,11 @@ use Rattle.rounds.specs.Rounds.{Outcome, settled, outcome}
 use Rattle.calendars.specs.declared.Calendar.{Calendar}
 use Rattle.calendars.specs.Calendars.{calendar}
 use Rattle.calendars.specs.CalendarText.{calendarOutput}
-use Rattle.calendars.specs.ToldLaws.{ToldNone, calendar-told}
+use Rattle.calendars.specs.ToldLaws.{ToldNone, calendar-told, calendar-settled}
 use Rattle.runs.specs.declared.Run.{Run}
 use Rattle.runs.specs.declared.Step.{Step}
 use Rattle.runs.specs.Steps.{newRun, stepped}
-use Rattle.strategy.specs.Strategies.{StrategyFor}
+use Rattle.strategy.specs.Strategies.{StrategyFor, StrategyForAll}
 use Rattle.strategy.specs.Reaching.{afterSteps}
 use Rattle.strategy.specs.StepsLaws.{afterSteps-more}
 use Rattle.session.specs.StepRead.{stepLine}
@@ -33,7 +34,7 @@ use Rattle.session.specs.AnswerText.{answerLine, endsSession}
 use Rattle.session.specs.Sessions.{answers, judgedSession, sessionOf, dispatchOutput}
 use Rattle.session.specs.SessionLaws.{answers-end, answers-refused, answers-last, answers-more, answers-only}
 use Rattle.session.specs.PrintedLaws.{dispatch-told}
-use Rattle.promises.specs.Demands.{no-strategy-means}
+use Rattle.promises.specs.Demands.{settled-means, no-strategy-means}
 
 -- ---- the answers that a session prints
 
@@ -95,3 +96,20 @@ calendar-refused-4 s K e = let t = calendar-told s K e in means (planAlone s) K 
 
 pub dispatch-refused-4 : (s : List ℕ) (K : ℕ) → dispatchOutput s ≡ refusedLine (refusal.NoStrategy K) → NoWayFor (planHead s) K
 dispatch-refused-4 s K e = let t = dispatch-told s K e in means (planHead s) K t (planHead-accepted s (t .read))
+
+-- ---- what `settled=` means
+
+-- of a text that was read as an accepted plan: from the beginning there is a way to choose the starts for every number of windows
+pub record WayForAll (m : Reading Plan) : Type 0 where
+  pub plan : Plan
+  pub rest : List ℕ
+  pub line : ℕ
+  pub read : m ≡ reading.read plan rest line
+  pub accepted : Accepted plan
+  pub always : StrategyForAll plan
+
+pub calendar-settled-means : (s t : List ℕ) → calendarOutput s ≡ bytes "settled=" ++ t → WayForAll (planAlone s)
+calendar-settled-means s t e =
+    let r = calendar-settled s t e in
+    let a = planAlone-accepted s (r .read) in
+    record { plan = r .plan; rest = r .rest; line = r .line; read = r .read; accepted = a; always = settled-means (r .plan) a (r .round) (r .settled) }
