@@ -280,21 +280,26 @@ def fits(pattern, term, names, taken):
     return len(pattern) == len(term) and all(fits(one, other, names, taken) for one, other in zip(pattern, term))
 
 
-def says(law, names, part):
-    """Whether a premise of a law is a part of a contract."""
+def says(law, names, part, parameters, result):
+    """Whether a premise of a law is a part of a contract: each name of the law stands for something that came in or for the answer, and a name that is also a
+    parameter's for that parameter."""
     for premise in cut(law, '→')[:-1]:
         for piece in conjuncts(premise):
             sides, others = cut(bare(piece), '≡'), cut(part, '≡')
             taken = {}
             if len(sides) == len(others) and all(fits(held(bare(one)), held(bare(other)), names, taken) for one, other in zip(sides, others)):
-                return True
+                spoken = {name: {plain(word).strip('«»') for word in words([term])} for name, term in taken.items()}
+                if all(said & ({name} if name in parameters else parameters | {result}) for name, said in spoken.items()):
+                    return True
     return False
 
 
 def unsaid(contract, defined, laws):
     """The parts of a contract that determine something and of which no law of uniqueness speaks; each law is its statement and its names."""
-    for _, part, form, law, _ in told(contract, defined):
-        if form and law and not any(says(one, names, part) for one, names in laws if one):
+    every = [bare(term)[0][0] for _, term in contract.ensures if isinstance(bare(term)[0], list) and bare(term)[0][1:] == [':', 'Plan']]
+    parameters = {name.strip('«»') for name in contract.parameters + every}
+    for result, part, form, law, _ in told(contract, defined):
+        if form and law and not any(says(one, names, part, parameters, result) for one, names in laws if one):
             yield '`%s`' % shown(part)
 
 

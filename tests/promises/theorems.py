@@ -1,6 +1,7 @@
 """The theorems that the pages name. Each is stated: in a file that its paragraph or row names, if that names one; what docs/DEMAND-3.md names may stand in
 `Theorems` and on the front page too. Of the table of demand 3 each theorem, up to a semicolon, is on the front page and there stated of an accepted plan;
-behind 'of any plan' it is there without that premise. And each theorem of the front page has its name on a page, so that none is lost unseen."""
+behind 'of any plan' it is there without that premise; and what it says, with the modules around it, is what the page's last section has of it, word by word.
+And each theorem of the front page has its name on a page, so that none is lost unseen."""
 import re
 
 from contracts import bare, cut, tree
@@ -10,15 +11,23 @@ DEMAND = 'docs/DEMAND-3.md'
 FRONT = 'crates/promises/specs/'
 STRATEGY = 'crates/strategy/specs/'
 
+# What demand 3 cannot be without.
+LEAST = {'settled-means', 'no-strategy-means', 'offer-not-empty', 'offer-exact', 'on-offer-taken', 'inside-final', 'no-run-missing', 'all-kept'}
+
 
 def coded(text):
     """What stands in code letters."""
     return re.findall(r'`([^`\n]+)`', text)
 
 
+def bared(text):
+    """A text without what stands between `{-` and `-}`."""
+    return re.sub(r'\{-.*?-\}', '', text, flags=re.S)
+
+
 def stated(text):
     """The theorems of a file, each with its statement and the heads of the modules around it. The fields of a record are none."""
-    found, modules, record, lines = {}, [], None, text.split('\n')
+    found, modules, record, lines = {}, [], None, bared(text).split('\n')
     for at, line in enumerate(lines):
         indent = len(line) - len(line.lstrip())
         if line.strip() and not line.strip().startswith('--'):
@@ -42,7 +51,7 @@ def stated(text):
 
 def front(read):
     """The files of the front page: those that its list has below the laws."""
-    return [FRONT + name + '.antt' for name in re.findall(r'(?m)^pub mod (\w+)', read(FRONT + 'Lib.antt').partition('-- ---- laws')[2])]
+    return [FRONT + name + '.antt' for name in re.findall(r'(?m)^pub mod (\w+)', bared(read(FRONT + 'Lib.antt')).partition('-- ---- laws')[2])]
 
 
 def is_of_accepted(said, heads):
@@ -84,6 +93,18 @@ def demanded(page):
     return [(name, at == 0) for at, part in parts if at == 0 or part.startswith(' of any plan,') for name in coded(part)]
 
 
+def whole(page):
+    """What the last section of a page has of each theorem: its name, and below it the heads of the modules around it and the statement."""
+    found, name = {}, None
+    for line in section(page, 6).split('\n'):
+        if re.match(r' {4}\S+$', line):
+            name = line.strip()
+            found[name] = ''
+        elif name and re.match(r' {8}', line):
+            found[name] += ' ' + line.strip()
+    return {name: ' '.join(said.split()) for name, said in found.items()}
+
+
 def faults(read, exists, every, pages, apart):
     """What is wrong: `every` are all files of specs/, `pages` the texts of the pages, and `apart` the files of the front page whose laws are looked up by
     operation."""
@@ -99,6 +120,7 @@ def faults(read, exists, every, pages, apart):
             yield from ('%s: the theorem `%s` is not stated%s' % (page, name, ' in ' + ', '.join(files) if files else '')
                         for name in names if not any(name in texts.get(path, {}) for path in within))
     laws = {name: said for path in shown for name, said in texts.get(path, {}).items()}
+    said = whole(pages[DEMAND])
     if not demanded(pages[DEMAND]):
         yield '%s: section 2 has no table of theorems' % DEMAND
     for name, of_accepted in demanded(pages[DEMAND]):
@@ -106,6 +128,9 @@ def faults(read, exists, every, pages, apart):
             yield '%s: the theorem `%s` is not on the front page' % (DEMAND, name)
         elif of_accepted and not is_of_accepted(*laws[name]):
             yield '%s: on the front page `%s` is not stated of an accepted plan' % (DEMAND, name)
+        elif said.get(name) != ' '.join(' '.join(laws[name][1] + [laws[name][0]]).split()):
+            yield '%s: section 6 does not have `%s` as the front page states it' % (DEMAND, name)
+    yield from ('%s: the table of theorems has no `%s`' % (DEMAND, name) for name in sorted(LEAST - {name for name, _ in demanded(pages[DEMAND])}))
     for path in shown:
         if path not in apart:
             yield from ('%s: the theorem `%s` is named on no page' % (path, name) for name in texts.get(path, {}) if name not in known)
