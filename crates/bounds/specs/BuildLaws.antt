@@ -1,15 +1,21 @@
+-- Lists that are listed: their places (`getD-listed`, `listed-past`), their length, and one more element (`listed-more`). A set of events made of a listed list has
+-- the events that the list holds true (`hasEvent-listed`), a bit for each place (`eventSet-listed-fits`), and with one place more one event more, or none
+-- (`eventSet-listed`).
 -- What stands in a table that was built: `at (build k f) y z` is f y z below k, and nothing past it. What two tests joined say of each. A test
 -- of `anyBelow` that holds, holds somewhere; one that does not, holds nowhere. Events and nodes are one to one, and a node is the origin, a start or a
 -- finish (`byNode`).
-use Prim.Native.Nat.{ℕ, zero, suc, _+_, _*_, _/_, _%_, _≤_, _<_}
+use Prim.Native.Nat.{ℕ, zero, suc, _+_, _*_, _/_, _%_, _^_, _≤_, _<_}
 use mathlib.Core.Path.{_≡_, refl, ap, subst, _∙_}
 use mathlib.Core.Logic.{_⊎_, inl, inr, ⊎-elim}
 use mathlib.Core.Bool.{Bool, true, false, cond, _&&_, _||_}
-use mathlib.Core.List.{[]}
+use mathlib.Core.List.{List, [], _∷_, _++_}
+use native.Mathlib.Numerals.{add-one}
 use native.Mathlib.Omega.{arith}
 use lib.Dec.{eqb, ltb}
 use lib.ListN.{length, getD}
 use borrow.Author.Tests.{eq-eqb, ne-eqb, ltb-true, ltb-false}
+use Rattle.events.specs.Bits.{hasEvent, eventSet, withIf}
+use Rattle.events.specs.BitsLaws.{hasEvent-set, eventSet-fits, eventSet-more}
 use Rattle.bounds.specs.declared.Event.{Event}
 use Rattle.bounds.specs.declared.Event.the-variants.{Origin, Start, Finish}
 use Rattle.bounds.specs.Events.{startNode, finishNode, nodeOf, eventOf}
@@ -33,6 +39,29 @@ unfolding listed
 listed-past zero f i d h = refl
 listed-past (suc k) f zero d h = absurd (omega arith)
 listed-past (suc k) f (suc i) d h = listed-past k (λ i. f (suc i)) i d (omega arith)
+
+pub listed-nil : {A : Type 0} (f : ℕ → A) → [] ≡ listed 0 f
+unfolding listed
+listed-nil f = refl
+
+pub listed-more : {A : Type 0} (k : ℕ) (f : ℕ → A) → listed (suc k) f ≡ listed k f ++ (f k ∷ [])
+unfolding listed
+listed-more zero f = refl
+listed-more {A} (suc k) f = ap (λ (xs : List A). f 0 ∷ xs) (listed-more k (λ i. f (suc i)))
+
+-- ---- sets of events that are listed
+
+module _ (k : ℕ) (f : ℕ → Bool) where
+  pub hasEvent-listed : (e : ℕ) → e < k → hasEvent e (eventSet (listed k f)) ≡ f e
+  hasEvent-listed e h = hasEvent-set (listed k f) e ∙ getD-listed k f e false h
+
+  pub eventSet-listed : eventSet (listed (k + 1) f) ≡ withIf (f k) k (eventSet (listed k f))
+  eventSet-listed =
+      ap (λ (n : ℕ). eventSet (listed n f)) (add-one k) ∙ ap eventSet (listed-more k f) ∙ eventSet-more (listed k f) (f k)
+      ∙ ap (λ (n : ℕ). withIf (f k) n (eventSet (listed k f))) (length-listed k f)
+
+  pub eventSet-listed-fits : eventSet (listed k f) < 2 ^ k
+  eventSet-listed-fits = rw (length-listed k f) at (eventSet-fits (listed k f))
 
 -- ---- tables that are built
 

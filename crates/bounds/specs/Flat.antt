@@ -105,8 +105,11 @@ unfoldable pub bitsFrom : (ℕ → Bool) → ℕ → ℕ → ℕ
 bitsFrom f e zero = 0
 bitsFrom f e (suc count) = cond (f e) 1 0 + 2 * bitsFrom f (e + 1) count
 
+abbrev pub isBound : ℤ → Bool
+isBound w = not (eqZ w noBound)
+
 abbrev pub isBounded : List ℤ → ℕ → ℕ → Bool
-isBounded ws s z = not (eqZ (weightAt ws s z) noBound)
+isBounded ws s z = isBound (weightAt ws s z)
 
 -- the nodes z before s for which z - s has a bound, as bits
 abbrev pub boundedBits : List ℤ → ℕ → ℕ

@@ -4,18 +4,23 @@ use mathlib.Core.Path.{_≡_, refl, sym, ap, subst, _∙_}
 use mathlib.Core.Bool.{Bool, true, false, cond, not}
 use mathlib.Core.List.{List, [], _∷_}
 use native.Mathlib.Omega.{arith}
+use lib.Dec.{eqb}
 use lib.IntN.{ℤ, pos, _+ℤ_}
 use lib.Signed.{leZ}
 use lib.ListN.{length, getD, length-set}
 use lib.Seq.{getD-set-other}
 use borrow.Author.Tests.{not-false}
+use mir.Syntax.{w32}
+use mir.Val.{SFits, ofZ}
+use mir.Facts.{sfits-lit}
 use Rattle.whole.specs.Split.{eqZ}
+use Rattle.whole.specs.SplitLaws.{bits-eqb}
 use Rattle.bounds.specs.declared.Judgement.{Judgement}
 use Rattle.bounds.specs.declared.Judgement.the-variants.{Contradiction, LeftOut, Kept}
 use Rattle.bounds.specs.Events.{nodeOf}
 use Rattle.bounds.specs.Tables.{Between}
 use Rattle.bounds.specs.Spans.{judgedAt}
-use Rattle.bounds.specs.Flat.{noBound, place, weightAt, Flat, flat, stored, keptAt, putAt, thenFlat, eachNode, putBounds, bitsFrom, isBounded, joinedAt, joinedCells, joinedRow, joinedRows, movedAt, movedRows}
+use Rattle.bounds.specs.Flat.{noBound, place, weightAt, Flat, flat, stored, keptAt, putAt, thenFlat, eachNode, putBounds, bitsFrom, isBound, isBounded, joinedAt, joinedCells, joinedRow, joinedRows, movedAt, movedRows}
 use Rattle.bounds.specs.BitsLaws.{bitsFrom-ext}
 
 module _ (early late : List ℤ) (y z : ℕ) (v a : ℤ) (ws : List ℤ) where
@@ -164,6 +169,10 @@ putBounds-length early late (b ∷ bs) ws =
     (λ us e. putBounds-length early late bs us ∙ e)
 
 -- ---- a row of a start that is eliminated
+
+-- whether a weight is a bound, as the machine tests it
+pub isBound-read : {w : ℤ} → SFits w32 w → not (eqb (ofZ w32 w) 2147483647) ≡ isBound w
+isBound-read f = ap not (bits-eqb f (sfits-lit tt))
 
 -- the nodes to which row s has a bound are told by row s
 pub boundedBits-same : (s : ℕ) (ws us : List ℤ) (e n : ℕ) → ((z : ℕ) → e ≤ z → z < e + n → weightAt us s z ≡ weightAt ws s z)

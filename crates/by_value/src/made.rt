@@ -1,10 +1,10 @@
 // Plans, calendars and runs, put together by hand.
 
 use calendars::Calendar;
-use calendars::Events;
 use calendars::Terms;
 use clock::RunTime;
 use clock::WindowTime;
+use events::Events;
 use plan::Bound;
 use plan::EventName;
 use plan::Job;

@@ -19,7 +19,7 @@ use Rattle.rounds.specs.declared.Verdict.{Verdict}
 use Rattle.rounds.specs.declared.VerdictTold.{VerdictTold}
 use Rattle.rounds.specs.declared.VerdictTold.the-variants.{Settled, Refused}
 use Rattle.rounds.specs.Rounds.{Outcome, outcome, verdictOf, verdictTold}
-use Rattle.calendars.specs.Bits.{hasEvent}
+use Rattle.events.specs.Bits.{hasEvent}
 use Rattle.calendars.specs.Calendars.{eventsAhead, mostEvents, noTerms, madeCalendar}
 
 -- ---- the events' names: 'p events (previous window) before t events, by job, s before f'. jobs is the plan's count of jobs.

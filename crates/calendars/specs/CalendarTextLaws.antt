@@ -6,7 +6,7 @@
 -- What writers did: an event's name from its parts (`stored-event`), and how far a term moves the place (`stored-term-near`); of lines, `PlanWrittenLaws` of `values` tells.
 
 use Prim.Native.Nat.{ℕ, zero, suc, _+_, _*_, _-_, _/_, _^_, _≤_, _<_}
-use mathlib.Core.Path.{_≡_, sym, ap, _∙_, subst}
+use mathlib.Core.Path.{_≡_, refl, sym, ap, _∙_, subst}
 use mathlib.Core.Bool.{Bool, true, false, cond}
 use mathlib.Core.List.{List, [], _∷_, _++_}
 use native.Mathlib.Numerals.{add-one}
@@ -27,8 +27,8 @@ use Rattle.text.specs.DigitLaws.{digits-short}
 use Rattle.text.specs.NumberLaws.{decimal-short, decimal-above}
 use Rattle.plan.specs.Limits.{mostJobs}
 use Rattle.plan.specs.PlanWritten.{keyed}
-use Rattle.calendars.specs.Bits.{hasEvent, mostBits, nextEvent}
-use Rattle.calendars.specs.BitsLaws.{nextFrom-past, nextFrom-has, nextFrom-skips}
+use Rattle.events.specs.Bits.{hasEvent, mostBits, nextEvent}
+use Rattle.events.specs.BitsLaws.{nextEvent-has, nextEvent-skips}
 use Rattle.calendars.specs.declared.Terms.{Terms}
 use Rattle.calendars.specs.declared.Calendar.{Calendar}
 use Rattle.calendars.specs.Calendars.{eventsAhead, mostEvents, noTerms}
@@ -152,35 +152,37 @@ module _ (jobs : ℕ) (key : List ℕ) (set : ℕ) (cs : List ℤ) (row : ℕ) w
 
   -- count events, of which those from event e on are left; k is the next one in the set
   module _ (e k count : ℕ) (next : k ≡ nextEvent set e) where
-    pub termLines-next : e + 1 ≤ count → k < count → count ≤ mostBits
+    skipped : termLines jobs key set cs row e (count - e) ≡ termLines jobs key set cs row k (count - k)
+    unfolding termLines
+    skipped =
+        nextEvent-skips set count (termLines jobs key set cs row) (λ e n l. termLines-past e n) (λ e d. refl) e
+        ∙ ap (λ (j : ℕ). termLines jobs key set cs row j (count - j)) (sym next)
+
+    pub termLines-next : k < count → count ≤ mostBits
         → termLines jobs key set cs row e (count - e)
         ≡ termLine jobs key k (getD cs (row + k) (pos 0)) ++ termLines jobs key set cs row (k + 1) (count - (k + 1))
-    termLines-next l h m =
+    termLines-next h m =
         let left : count - k ≡ suc (count - (k + 1)) = omega arith in
-        nextFrom-skips set (termLines jobs key set cs row) termLines-past e mostBits k count (omega (arith, nextFrom-past set e mostBits)) (omega arith) (omega arith)
-        ∙ ap (termLines jobs key set cs row k) left
-        ∙ termLines-here k (count - (k + 1)) (rw next (nextFrom-has set e mostBits (omega arith)))
+        skipped ∙ ap (termLines jobs key set cs row k) left
+        ∙ termLines-here k (count - (k + 1)) (rw next (nextEvent-has set e (omega arith)))
         ∙ ap (λ (j : ℕ). termLine jobs key k (getD cs (row + k) (pos 0)) ++ termLines jobs key set cs row j (count - (k + 1))) (sym (add-one k))
 
-    pub termLines-stop : e ≤ count → count ≤ k → termLines jobs key set cs row e (count - e) ≡ []
+    pub termLines-stop : count ≤ k → termLines jobs key set cs row e (count - e) ≡ []
     unfolding termLines
-    termLines-stop l h =
-        let none : count - count ≡ 0 = omega arith in
-        nextFrom-skips set (termLines jobs key set cs row) termLines-past e mostBits count count l (omega arith) (omega arith)
-        ∙ ap (termLines jobs key set cs row count) none
+    termLines-stop h = let none : count - k ≡ 0 = omega arith in skipped ∙ ap (termLines jobs key set cs row k) none
 
     -- what is left of a text, before and after the next term
     module _ {out s o : List ℕ} {at j : ℕ} (l : Left out at s o j (termLines jobs key set cs row e (count - e))) where
-      pub left-term : {o′ : List ℕ} {j′ : ℕ} → e + 1 ≤ count → k < count → count ≤ mostBits → SFits w32 (getD cs (row + k) (pos 0))
+      pub left-term : {o′ : List ℕ} {j′ : ℕ} → k < count → count ≤ mostBits → SFits w32 (getD cs (row + k) (pos 0))
           → Stored o j (termLine jobs key k (toZ w32 (ofZ w32 (getD cs (row + k) (pos 0))))) o′ j′
           → Left out at s o′ j′ (termLines jobs key set cs row (k + 1) (count - (k + 1)))
-      left-term {o′} {j′} a b m f d =
+      left-term {o′} {j′} b m f d =
           left-past
-          (subst (λ (t : List ℕ). Left out at s o j t) (termLines-next a b m) l)
+          (subst (λ (t : List ℕ). Left out at s o j t) (termLines-next b m) l)
           (subst (λ (z : ℤ). Stored o j (termLine jobs key k z) o′ j′) (toZ-ofZ f) d)
 
-      pub left-terms : e ≤ count → count ≤ k → Stored out at s o j
-      left-terms a b = left-end (subst (λ (t : List ℕ). Left out at s o j t) (termLines-stop a b) l)
+      pub left-terms : count ≤ k → Stored out at s o j
+      left-terms b = left-end (subst (λ (t : List ℕ). Left out at s o j t) (termLines-stop b) l)
 
 -- ---- the jobs
 

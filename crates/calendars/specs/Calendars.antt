@@ -10,11 +10,10 @@ use Rattle.plan.specs.PlanRead.{filled}
 use Rattle.bounds.specs.Events.{startNode}
 use Rattle.bounds.specs.Tables.{Cell, off, upto, Rows, at, listed, Set, contradiction, bounds}
 use Rattle.bounds.specs.Elimination.{withoutFinish, withoutStart, thenSet}
-use Rattle.calendars.specs.declared.Events.{Events}
 use Rattle.calendars.specs.declared.Terms.{Terms}
 use Rattle.calendars.specs.declared.Calendar.{Calendar}
 use Rattle.rounds.specs.Rounds.{C0, joined, Outcome, settled, noStrategy, unsettled}
-use Rattle.calendars.specs.Bits.{eventSet}
+use Rattle.events.specs.Bits.{eventsOf, eventSet}
 
 -- ---- 'the bounds on each start just before it is eliminated'
 
@@ -65,8 +64,8 @@ termsOf p i t =
     record {
       low = record { 0 = negℤ (weight (at t s 0)) -ℤ p .window };
       high = record { 0 = weight (at t 0 s) -ℤ p .window };
-      below = record { 0 = eventSet (listed (eventsBefore p i) (λ e. isOn (fromBelow t s e))) };
-      above = record { 0 = eventSet (listed (eventsBefore p i) (λ e. isOn (fromAbove t s e))) };
+      below = eventsOf (eventSet (listed (eventsBefore p i) (λ e. isOn (fromBelow t s e))));
+      above = eventsOf (eventSet (listed (eventsBefore p i) (λ e. isOn (fromAbove t s e))));
     }
 
 -- the c of each event in `atleast=E,c` (start >= E + c), and in `atmost=E,c` (start <= E + c)
@@ -82,7 +81,7 @@ abbrev pub mostEvents : ℕ
 mostEvents = 36
 
 abbrev pub noTerms : Terms
-noTerms = record { low = record { 0 = pos 0 }; high = record { 0 = pos 0 }; below = record { 0 = 0 }; above = record { 0 = 0 } }
+noTerms = record { low = record { 0 = pos 0 }; high = record { 0 = pos 0 }; below = eventsOf 0; above = eventsOf 0 }
 
 unfoldable pub allTerms : Plan → ℕ → List Rows → List Terms
 allTerms p i [] = []

@@ -1,7 +1,7 @@
 -- The laws of the calendar as a value, while the walk over the next window's jobs makes it, last job first.
 -- Sizes: the c of a job have room in its row (`leastCs-short`, `mostCs-short`), and rows have their lengths (`allTerms-length`, `allCs-length`).
 -- A job recorded before those after it: its terms set at its place (`allTerms-more`), its c stored from its row's beginning on (`allCs-more`).
--- The table before a start comes after those of the jobs before it (`beforeStarts-more`). A calendar that says nothing is all zeros (`noCalendar-is`).
+-- The table before a start comes after those of the jobs before it (`beforeStarts-more`). A calendar that says nothing is all zeros (`noCalendar-is`, `noCalendar-made`).
 -- `Walked` is the walk with so many jobs left. It holds at the beginning (`Walked-start`); one job leads from it to the next (`Walked-some`, `Walked-more`), and what the
 -- code's two eliminations rest on holds (`Walked-finish`, `Walked-last`); with no job left the calendar is `calendarOf` (`Walked-end`).
 use Prim.Native.Nat.{ℕ, suc, _+_, _*_, _-_, _≤_, _<_}
@@ -17,6 +17,9 @@ use Rattle.plan.specs.Limits.{mostJobs}
 use Rattle.plan.specs.PlanRead.{filled}
 use Rattle.plan.specs.ListLaws.{filled-length}
 use Rattle.plan.specs.Accepted.{Accepted}
+use Rattle.events.specs.declared.Events.{Events}
+use Rattle.events.specs.Bits.{bitsOf, eventsOf, eventSet}
+use Rattle.events.specs.BitsLaws.{eventSet-nil}
 use Rattle.bounds.specs.Events.{startNode, finishNode, nodes}
 use Rattle.bounds.specs.Tables.{Rows, Set, contradiction, bounds}
 use Rattle.bounds.specs.Elimination.{withoutFinish, withoutStart, withoutPlace, thenSet, eliminated}
@@ -167,6 +170,25 @@ noCalendar-is p =
     ∙ ap₂ (λ (x y : List ℤ). record { terms = filled mostJobs noTerms (allTerms p 0 []); «at_least» = filled (mostJobs * mostEvents) (pos 0) x; «at_most» = filled (mostJobs * mostEvents) (pos 0) y })
     (no-cs (leastCs p) 0)
     (no-cs (mostCs p) 0)
+
+-- the same, made of a set of no events
+pub noCalendar-made : (none : Events) → bitsOf none ≡ eventSet [] → (p : Plan)
+    → _≡_ {A = Calendar}
+    (record {
+      terms = replicate mostJobs (record { low = record { 0 = pos 0 }; high = record { 0 = pos 0 }; below = none; above = none });
+      «at_least» = replicate (mostJobs * mostEvents) (pos 0);
+      «at_most» = replicate (mostJobs * mostEvents) (pos 0);
+    })
+    (noCalendar p)
+noCalendar-made none h p =
+    ap (λ (bits : ℕ).
+    record {
+      terms = replicate mostJobs (record { low = record { 0 = pos 0 }; high = record { 0 = pos 0 }; below = eventsOf bits; above = eventsOf bits });
+      «at_least» = replicate (mostJobs * mostEvents) (pos 0);
+      «at_most» = replicate (mostJobs * mostEvents) (pos 0);
+    })
+    (h ∙ eventSet-nil)
+    ∙ noCalendar-is p
 
 module _ (p : Plan) (a : Accepted p) where
   zeros-split : (cs : ℕ → Rows → List ℤ)

@@ -8,7 +8,7 @@ use Rattle.bounds.specs.Tables.{Cell, listed}
 use Rattle.bounds.specs.Flat.{weightAt, cellOf}
 use Rattle.calendars.specs.declared.Side.{Side}
 use Rattle.calendars.specs.declared.Side.the-variants.{Below, Above}
-use Rattle.calendars.specs.Bits.{eventSet}
+use Rattle.events.specs.Bits.{eventSet}
 use Rattle.calendars.specs.Calendars.{isOn, weight, nodeOfEvent, mostEvents}
 
 -- the weight by which event e bounds the start s

@@ -1,12 +1,12 @@
 -- The laws of what is recorded for a start.
--- Lists: one more element of a listed list (`listed-more`), two that agree are one (`listed-same`), and one more store (`sets-more`).
+-- Lists: one more store (`sets-more`).
 -- Cells: the c of the mark is 0 (`cOn-mark`), and of a bound it is the weight on its side (`cOn-below`, `cOn-above`); the weight on a side is read in the start's
--- row or in its column (`weightOn-below`, `weightOn-above`). A bound is an event more, and the mark is none (`bound-more`, `bound-none`).
+-- row or in its column (`weightOn-below`, `weightOn-above`).
 -- One turn of the walk over the events: `eventsOn-more` and `csOn-more`.
 -- In a fit table the weights lie in range (`weightOn-fits`), the c are `leastCs` and `mostCs` (`csOn-least`, `csOn-most`), and the terms are `termsOf` (`termsOf-is`).
 use Prim.Native.Nat.{ℕ, zero, suc, _+_, _*_, _<_}
 use mathlib.Core.Path.{_≡_, refl, sym, ap, ap₂, subst, _∙_}
-use mathlib.Core.Bool.{Bool, true, false, cond}
+use mathlib.Core.Bool.{Bool, true, false, not}
 use mathlib.Core.List.{List, [], _∷_, _++_}
 use native.Mathlib.Nat.{add-zero}
 use native.Mathlib.Numerals.{add-one}
@@ -25,32 +25,21 @@ use Rattle.plan.specs.declared.Plan.{Plan}
 use Rattle.plan.specs.Accepted.{Accepted}
 use Rattle.bounds.specs.Events.{startNode}
 use Rattle.bounds.specs.Tables.{Cell, upto, Rows, at, listed}
-use Rattle.bounds.specs.Flat.{noBound, weightAt, cellOf, cellAt, rowsOf, Weighed}
+use Rattle.bounds.specs.Flat.{noBound, isBound, weightAt, cellOf, cellAt, rowsOf, Weighed}
 use Rattle.bounds.specs.Fit.{Fit, AtMost}
-use Rattle.bounds.specs.BuildLaws.{length-listed, at-build}
+use Rattle.bounds.specs.BuildLaws.{length-listed, listed-more, eventSet-listed, at-build}
+use Rattle.bounds.specs.TablesLaws.{listed-ext}
 use Rattle.bounds.specs.PutLaws.{cellOf-mark, cellOf-on}
 use Rattle.bounds.specs.FitLaws.{fit-weighed}
-use Rattle.calendars.specs.declared.Events.{Events}
+use Rattle.events.specs.declared.Events.{Events}
 use Rattle.calendars.specs.declared.Terms.{Terms}
 use Rattle.calendars.specs.declared.Side.{Side}
 use Rattle.calendars.specs.declared.Side.the-variants.{Below, Above}
-use Rattle.calendars.specs.Bits.{eventSet, withEvent}
-use Rattle.calendars.specs.BitsLaws.{eventSet-more}
+use Rattle.events.specs.Bits.{bitsOf, eventsOf, eventSet, withIf}
 use Rattle.calendars.specs.Calendars.{isOn, weight, fromBelow, fromAbove, eventsBefore, termsOf, leastCs, mostCs}
 use Rattle.calendars.specs.Recorded.{weightOn, cOn, isOnSide, cOnSide, eventsOn, csOn}
 
 -- ---- lists
-
-pub listed-more : {A : Type 0} (k : ℕ) (f : ℕ → A) → listed (suc k) f ≡ listed k f ++ (f k ∷ [])
-unfolding listed
-listed-more zero f = refl
-listed-more {A} (suc k) f = ap (λ (xs : List A). f 0 ∷ xs) (listed-more k (λ i. f (suc i)))
-
-pub listed-same : {A : Type 0} (k : ℕ) (f g : ℕ → A) → ((i : ℕ) → i < k → f i ≡ g i) → listed k f ≡ listed k g
-unfolding listed
-listed-same zero f g h = refl
-listed-same {A} (suc k) f g h =
-    ap₂ (λ (x : A) (xs : List A). x ∷ xs) (h 0 (omega arith)) (listed-same k (λ i. f (suc i)) (λ i. g (suc i)) (λ i l. h (suc i) (omega arith)))
 
 pub sets-more : {A : Type 0} (l : List A) (i : ℕ) (xs : List A) (a : A) → sets l i (xs ++ (a ∷ [])) ≡ set (sets l i xs) (i + length xs) a
 sets-more l i [] a = ap (λ (k : ℕ). set l k a) (sym (add-zero i))
@@ -84,23 +73,11 @@ weightOn-below side ws s e h = ap (weightAt ws s) (add-one e) ∙ sym (ap (λ (s
 pub weightOn-above : (side : Side) (ws : List ℤ) (s e : ℕ) → side ≡ Above → weightAt ws (e + 1) s ≡ weightOn side ws s e
 weightOn-above side ws s e h = ap (λ (y : ℕ). weightAt ws y s) (add-one e) ∙ sym (ap (λ (side : Side). weightOn side ws s e) h)
 
-module _ (s e : ℕ) (w : ℤ) where
-  pub bound-none : eqZ w noBound ≡ true → s ≡ cond (isOn (cellOf w)) (withEvent e s) s
-  bound-none h = sym (ap (λ (c : Cell). cond (isOn c) (withEvent e s) s) (cellOf-mark w h))
-
-  pub bound-more : eqZ w noBound ≡ false → withEvent e s ≡ cond (isOn (cellOf w)) (withEvent e s) s
-  bound-more h = sym (ap (λ (c : Cell). cond (isOn c) (withEvent e s) s) (cellOf-on w h))
-
 -- ---- one turn of the walk over the events
 
-pub listed-nil : {A : Type 0} (f : ℕ → A) → [] ≡ listed 0 f
-unfolding listed
-listed-nil f = refl
-
-eventSet-listed : (e : ℕ) (f : ℕ → Bool) → eventSet (listed (e + 1) f) ≡ cond (f e) (withEvent e (eventSet (listed e f))) (eventSet (listed e f))
-eventSet-listed e f =
-    ap (λ (k : ℕ). eventSet (listed k f)) (add-one e) ∙ ap eventSet (listed-more e f) ∙ eventSet-more (listed e f) (f e)
-    ∙ ap (λ (k : ℕ). cond (f e) (withEvent k (eventSet (listed e f))) (eventSet (listed e f))) (length-listed e f)
+isOn-read : (w : ℤ) (b : Bool) → eqZ w noBound ≡ b → not b ≡ isOn (cellOf w)
+isOn-read w true e = sym (ap isOn (cellOf-mark w e))
+isOn-read w false e = sym (ap isOn (cellOf-on w e))
 
 sets-listed : (cs : List ℤ) (row e : ℕ) (f : ℕ → ℤ) → sets cs row (listed (e + 1) f) ≡ set (sets cs row (listed e f)) (row + e) (f e)
 sets-listed cs row e f =
@@ -108,10 +85,11 @@ sets-listed cs row e f =
     ∙ ap (λ (k : ℕ). set (sets cs row (listed e f)) (row + k) (f e)) (length-listed e f)
 
 module _ (side : Side) (ws : List ℤ) (count e : ℕ) (w : ℤ) (read : w ≡ weightOn side ws (suc count) e) where
-  pub eventsOn-more : (s r : ℕ) → s ≡ eventSet (listed e (isOnSide side ws count)) → r ≡ cond (isOn (cellOf w)) (withEvent e s) s
+  pub eventsOn-more : (s r : ℕ) → s ≡ eventSet (listed e (isOnSide side ws count)) → r ≡ withIf (isBound w) e s
       → r ≡ eventSet (listed (e + 1) (isOnSide side ws count))
   eventsOn-more s r h did =
-      did ∙ ap₂ (λ (w : ℤ) (s : ℕ). cond (isOn (cellOf w)) (withEvent e s) s) read h ∙ sym (eventSet-listed e (isOnSide side ws count))
+      did ∙ ap₂ (λ (b : Bool) (s : ℕ). withIf b e s) (isOn-read w (eqZ w noBound) refl ∙ ap (λ (w : ℤ). isOn (cellOf w)) read) h
+      ∙ sym (eventSet-listed e (isOnSide side ws count))
 
   pub csOn-more : (cs us : List ℤ) (row : ℕ) (c : ℤ) → us ≡ sets cs row (listed e (cOnSide side ws count)) → c ≡ cOn side (cellOf w)
       → set us (row + e) c ≡ sets cs row (listed (e + 1) (cOnSide side ws count))
@@ -154,17 +132,17 @@ module _ (p : Plan) (a : Accepted p) (i : ℕ) (job : i < p .jobs) (ws : List �
 
   pub csOn-least : csOn Below ws count ≡ leastCs p i t
   unfolding leastCs
-  csOn-least = listed-same count (cOnSide Below ws count) (λ e. negℤ (weight (fromBelow t s e))) (λ e h. ap (cOn Below) (cell-below e h))
+  csOn-least = listed-ext count (cOnSide Below ws count) (λ e. negℤ (weight (fromBelow t s e))) (λ e h. ap (cOn Below) (cell-below e h))
 
   pub csOn-most : csOn Above ws count ≡ mostCs p i t
   unfolding mostCs
-  csOn-most = listed-same count (cOnSide Above ws count) (λ e. weight (fromAbove t s e)) (λ e h. ap (cOn Above) (cell-above e h))
+  csOn-most = listed-ext count (cOnSide Above ws count) (λ e. weight (fromAbove t s e)) (λ e h. ap (cOn Above) (cell-above e h))
 
   events-below : eventsOn Below ws count ≡ eventSet (listed (eventsBefore p i) (λ e. isOn (fromBelow t s e)))
-  events-below = ap eventSet (listed-same count (isOnSide Below ws count) (λ e. isOn (fromBelow t s e)) (λ e h. ap isOn (cell-below e h)))
+  events-below = ap eventSet (listed-ext count (isOnSide Below ws count) (λ e. isOn (fromBelow t s e)) (λ e h. ap isOn (cell-below e h)))
 
   events-above : eventsOn Above ws count ≡ eventSet (listed (eventsBefore p i) (λ e. isOn (fromAbove t s e)))
-  events-above = ap eventSet (listed-same count (isOnSide Above ws count) (λ e. isOn (fromAbove t s e)) (λ e h. ap isOn (cell-above e h)))
+  events-above = ap eventSet (listed-ext count (isOnSide Above ws count) (λ e. isOn (fromAbove t s e)) (λ e h. ap isOn (cell-above e h)))
 
   -- the origin's two bounds are always there
   origin-weight : (y z : ℕ) (v : ℤ) → y < suc s → z < suc s → AtMost (at t y z) v → weightAt ws y z ≡ weight (at t y z)
@@ -175,8 +153,8 @@ module _ (p : Plan) (a : Accepted p) (i : ℕ) (job : i < p .jobs) (ws : List �
   pub termsOf-is : (low high : WindowTime) (below above : Events)
       → low .0 ≡ negℤ (weightAt ws s 0) -ℤ p .window
       → high .0 ≡ weightAt ws 0 s -ℤ p .window
-      → below .0 ≡ eventsOn Below ws count
-      → above .0 ≡ eventsOn Above ws count
+      → bitsOf below ≡ eventsOn Below ws count
+      → bitsOf above ≡ eventsOn Above ws count
       → _≡_ {A = Terms} (record { low = low; high = high; below = below; above = above }) (termsOf p i t)
   unfolding termsOf
   termsOf-is low high below above l h b u =
@@ -186,11 +164,11 @@ module _ (p : Plan) (a : Accepted p) (i : ℕ) (job : i < p .jobs) (ws : List �
       let high-is = h ∙ ap (λ (w : ℤ). w -ℤ p .window) last in
       made low-is high-is (b ∙ events-below) (u ∙ events-above)
     where
-      made : {x y : ℤ} {m n : ℕ} → low .0 ≡ x → high .0 ≡ y → below .0 ≡ m → above .0 ≡ n
+      made : {x y : ℤ} {m n : ℕ} → low .0 ≡ x → high .0 ≡ y → bitsOf below ≡ m → bitsOf above ≡ n
           → _≡_ {A = Terms} (record { low = low; high = high; below = below; above = above })
-          (record { low = record { 0 = x }; high = record { 0 = y }; below = record { 0 = m }; above = record { 0 = n } })
+          (record { low = record { 0 = x }; high = record { 0 = y }; below = eventsOf m; above = eventsOf n })
       made {x} {y} {m} l h b u =
           ap (λ (z : ℤ). record { low = record { 0 = z }; high = high; below = below; above = above }) l
           ∙ ap (λ (z : ℤ). record { low = record { 0 = x }; high = record { 0 = z }; below = below; above = above }) h
-          ∙ ap (λ (k : ℕ). record { low = record { 0 = x }; high = record { 0 = y }; below = record { 0 = k }; above = above }) b
-          ∙ ap (λ (k : ℕ). record { low = record { 0 = x }; high = record { 0 = y }; below = record { 0 = m }; above = record { 0 = k } }) u
+          ∙ ap (λ (k : ℕ). record { low = record { 0 = x }; high = record { 0 = y }; below = eventsOf k; above = above }) b
+          ∙ ap (λ (k : ℕ). record { low = record { 0 = x }; high = record { 0 = y }; below = eventsOf m; above = eventsOf k }) u

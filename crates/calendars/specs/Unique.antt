@@ -1,5 +1,4 @@
--- No two answers meet the promise of a public operation: each promise is an equation, and `only` of the crate `text` says the rest. A set of events is its number
--- (`events-unique`); what a writer of the calendar leaves and answers is one slice and one place (`stored-unique` of `text`).
+-- No two answers meet the promise of a public operation: each promise is an equation, and `only` of the crate `text` says the rest. What a writer of the calendar leaves and answers is one slice and one place (`stored-unique` of `text`).
 use Prim.Native.Nat.{ℕ, _+_}
 use mathlib.Core.Path.{_≡_, ap, ap₂}
 use mathlib.Core.Bool.{Bool}
@@ -19,35 +18,13 @@ use Rattle.rounds.specs.declared.Verdict.{Verdict}
 use Rattle.rounds.specs.declared.VerdictTold.{VerdictTold}
 use Rattle.rounds.specs.Rounds.{outcome, verdict}
 use Rattle.rounds.specs.TextVerdict.{acceptedAlone}
-use Rattle.calendars.specs.declared.Events.{Events}
 use Rattle.calendars.specs.declared.Calendar.{Calendar}
 use Rattle.calendars.specs.declared.Decision.{Decision}
 use Rattle.calendars.specs.declared.ValueDecision.{ValueDecision}
-use Rattle.calendars.specs.Bits.{hasEvent, eventSet, withEvent, eventCount, nextEvent}
 use Rattle.calendars.specs.Calendars.{beforeStarts, calendarOf, noCalendar, madeCalendar}
 use Rattle.calendars.specs.CalendarText.{calendarText, calendarOutput}
 use Rattle.calendars.specs.Whole.{writtenWhole}
 use Rattle.calendars.specs.Decisions.{valueVerdict, valueCalendar, valueText}
-
--- ---- sets of events
-
-events-unique : {r q : Events} {n : ℕ} → r .0 ≡ n → q .0 ≡ n → r ≡ q
-events-unique d e = ap (λ (n : ℕ). record { 0 = n }) (only d e)
-
-pub empty-unique : {r q : Events} → r .0 ≡ eventSet [] → q .0 ≡ eventSet [] → r ≡ q
-empty-unique = events-unique
-
-pub has-unique : (e : ℕ) (s : Events) {r q : Bool} → r ≡ hasEvent e (s .0) → q ≡ hasEvent e (s .0) → r ≡ q
-has-unique e s = only
-
-pub with-unique : (e : ℕ) (s : Events) {r q : Events} → r .0 ≡ withEvent e (s .0) → q .0 ≡ withEvent e (s .0) → r ≡ q
-with-unique e s = events-unique
-
-pub count-unique : (s : Events) {r q : ℕ} → r ≡ eventCount (s .0) → q ≡ eventCount (s .0) → r ≡ q
-count-unique s = only
-
-pub next-unique : (s : Events) (e : ℕ) {r q : ℕ} → r ≡ nextEvent (s .0) e → q ≡ nextEvent (s .0) e → r ≡ q
-next-unique s e = only
 
 -- ---- the calendar and its text
 

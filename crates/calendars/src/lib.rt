@@ -1,15 +1,13 @@
 // The calendar of a settled plan, and its text.
 
 use clock::WindowTime;
+use events::Events;
 use rounds::Verdict;
 use rounds::VerdictTold;
 
-// A set of events before a start, as bits in the calendar's order: the previous window's events first, by job, s before f, then the
-// present window's. The origin is not among them.
-pub struct Events(pub u64);
-
 // What bounds the start of one job: the origin's two bounds on the window's own clock, and the events that bound it from below and
-// from above.
+// from above. Events are numbered in the calendar's order: the previous window's events first, by job, s before f, then the present window's. The origin is
+// not among them.
 pub struct Terms {
     pub low: WindowTime,
     pub high: WindowTime,
@@ -53,7 +51,6 @@ enum Side {
     Above,
 }
 
-mod bits;
 mod decided;
 mod decision_text;
 mod print;

@@ -1,14 +1,15 @@
 // The calendar's text, written into a lent slice.
 use crate::Calendar;
-use crate::Events;
 use crate::MOST_EVENTS;
 use crate::MOST_TERMS;
 use crate::Terms;
+use events::Events;
 ghost use mathlib.Core.Path.{_≡_};
 ghost use lib.ListN.{length};
 ghost use Prim.Native.Nat.{_+_, _*_, _^_, _≤_, _<_};
 ghost use Rattle.text.specs.Lent.{Stored};
 ghost use Rattle.plan.specs.Limits.{mostJobs};
+ghost use Rattle.events.specs.Bits.{bitsOf};
 ghost use Rattle.calendars.specs.Calendars.{mostEvents};
 ghost use Rattle.calendars.specs.CalendarText.{eventLetter, eventKind, eventJob, eventBytes, termLine, termLines, jobHead, jobText, jobTexts, calendarText, mostJobBytes, mostCalendarBytes};
 
@@ -91,7 +92,7 @@ fn put_terms(
     requires { ⌜ jobs ≤ mostJobs ⌝ }
     requires { ⌜ count ≤ mostEvents ⌝ }
     requires { ⌜ row + count ≤ mostJobs * mostEvents ⌝ }
-    ensures { λ r. ⌜ Stored (now (out .entry)) at (termLines jobs (now (key .entry)) (set .0) (now (cs .entry)) row 0 count) (now (out .exit)) r ⌝ }
+    ensures { λ r. ⌜ Stored (now (out .entry)) at (termLines jobs (now (key .entry)) (bitsOf set) (now (cs .entry)) row 0 count) (now (out .exit)) r ⌝ }
     ensures { λ r. ⌜ r ≤ at + 52 * count ⌝ }
 {
     let mut end = at;

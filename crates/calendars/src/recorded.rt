@@ -1,14 +1,13 @@
 // The terms of one start, read from the table just before it is eliminated.
-use crate::Events;
 use crate::MOST_EVENTS;
 use crate::MOST_TERMS;
 use crate::Side;
 use crate::Terms;
 use bounds::Table;
 use clock::WindowTime;
+use events::Events;
 use plan::Plan;
 ghost use mathlib.Core.Path.{_≡_};
-ghost use mathlib.Core.Bool.{cond};
 ghost use lib.IntN.{negℤ, _-ℤ_};
 ghost use lib.Seq.{sets};
 ghost use Prim.Native.Nat.{ℕ, suc, _+_, _≤_, _<_};
@@ -16,8 +15,8 @@ ghost use Rattle.plan.specs.Accepted.{Accepted};
 ghost use Rattle.bounds.specs.Events.{startNode};
 ghost use Rattle.bounds.specs.Flat.{cellOf, rowsOf, Weighed};
 ghost use Rattle.bounds.specs.Fit.{Fit};
-ghost use Rattle.calendars.specs.Bits.{withEvent, mostBits};
-ghost use Rattle.calendars.specs.Calendars.{isOn, termsOf, leastCs, mostCs};
+ghost use Rattle.events.specs.Bits.{bitsOf};
+ghost use Rattle.calendars.specs.Calendars.{termsOf, leastCs, mostCs};
 ghost use Rattle.calendars.specs.Recorded.{weightOn, cOn, eventsOn, csOn, rowAt};
 
 // The weight by which event e bounds the start s.
@@ -46,17 +45,6 @@ fn c_on(side: Side, w: i32) -> i32
     }
 }
 
-// The set, and event e where its weight is a bound.
-fn with_bound(set: Events, e: usize, w: i32) -> Events
-    requires { ⌜ e < mostBits ⌝ }
-    ensures { λ r. ⌜ r .0 ≡ cond (isOn (cellOf w)) (withEvent e (set .0)) (set .0) ⌝ }
-{
-    if w == Table::NO_BOUND {
-        return set;
-    }
-    set.with(e)
-}
-
 // One side of a start that has count events before it: the events that bound it, and their c, stored from place row on.
 fn put_side(
     cs: &mut [i32; MOST_TERMS],
@@ -66,7 +54,7 @@ fn put_side(
     count: usize,
 ) -> Events
     requires { ⌜ (count < 36) × (row + count ≤ 324) × ((e : ℕ) → e < count → Weighed (weightOn side (now weights) (suc count) e)) ⌝ }
-    ensures { λ r. ⌜ (r .0 ≡ eventsOn side (now (weights .entry)) count) × (now (cs .exit) ≡ sets (now (cs .entry)) row (csOn side (now (weights .entry)) count)) ⌝ }
+    ensures { λ r. ⌜ (bitsOf r ≡ eventsOn side (now (weights .entry)) count) × (now (cs .exit) ≡ sets (now (cs .entry)) row (csOn side (now (weights .entry)) count)) ⌝ }
 {
     let s = count + 1;
     let mut set = Events::empty();
@@ -76,7 +64,8 @@ fn put_side(
         let place = row + e;
         let c = c_on(side, w);
         cs[place] = c;
-        set = with_bound(set, e, w);
+        let on = w != Table::NO_BOUND;
+        set = set.with_if(e, on);
         e += 1;
     }
     set

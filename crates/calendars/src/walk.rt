@@ -1,6 +1,5 @@
 // The calendar as a value, made by a walk over the next window's jobs, last job first.
 use crate::Calendar;
-use crate::Events;
 use crate::MOST_TERMS;
 use crate::Terms;
 use crate::recorded::put_terms_of;
@@ -8,6 +7,7 @@ use bounds::Table;
 use bounds::drop_finish;
 use bounds::drop_start;
 use clock::WindowTime;
+use events::Events;
 use plan::MOST_JOBS;
 use plan::Plan;
 ghost use mathlib.Core.Path.{_≡_};
@@ -25,11 +25,12 @@ ghost use Rattle.calendars.specs.Calendars.{beforeStarts, calendarOf, no
 pub fn empty_calendar() -> Calendar
     ensures { λ r. ⌜ ((p : Plan) → r ≡ noCalendar p) ⌝ }
 {
+    let empty = Events::empty();
     let none = Terms {
         low: WindowTime(0),
         high: WindowTime(0),
-        below: Events(0),
-        above: Events(0),
+        below: empty,
+        above: empty,
     };
     Calendar {
         terms: [none; MOST_JOBS],

@@ -51,7 +51,7 @@ use Rattle.rounds.specs.Rounds.{
   outcomeFrom,
   outcome,
 }
-use Rattle.calendars.specs.Bits.{hasEvent, eventSet}
+use Rattle.events.specs.Bits.{hasEvent, eventSet}
 use Rattle.calendars.specs.Calendars.{thenTables, beforeStarts, termsOf, leastCs, mostCs, allTerms, allCs, calendarOf, calendar}
 use Rattle.calendars.specs.CalendarText.{termLines, jobText, jobTexts, calendarText, outcomeText, answered, calendarOutput}
 use Rattle.runs.specs.Offers.{timeOf, isInForce, endFrom, offerOf, openingIn}

@@ -19,8 +19,8 @@ use mir.Facts.{toZ-ofZ}
 use Rattle.clock.specs.declared.RunTime.{RunTime}
 use Rattle.clock.specs.Clock.{movedBy}
 use Rattle.plan.specs.declared.Plan.{Plan}
-use Rattle.calendars.specs.Bits.{hasEvent, nextEvent}
-use Rattle.calendars.specs.BitsLaws.{shift-suc, shift-half, hasEvent-shift, nextFrom-zeros, nextFrom-least, nextFrom-has}
+use Rattle.events.specs.Bits.{hasEvent, nextEvent}
+use Rattle.events.specs.BitsLaws.{shift-suc, shift-half, hasEvent-shift, nextFrom-zeros, nextFrom-least, nextFrom-has}
 use Rattle.calendars.specs.Calendars.{eventsBefore}
 use Rattle.runs.specs.declared.Probe.{Probe}
 use Rattle.runs.specs.declared.Run.{Run}

@@ -10,7 +10,7 @@ use lib.ListN.{getD}
 use mir.Syntax.{w64}
 use mir.Val.{SFits}
 use Rattle.clock.specs.declared.RunTime.{RunTime}
-use Rattle.calendars.specs.Bits.{hasEvent}
+use Rattle.events.specs.Bits.{hasEvent}
 use Rattle.calendars.specs.Calendars.{mostEvents}
 use Rattle.runs.specs.declared.Probe.{Probe}
 use Rattle.runs.specs.Offers.{timeIn, greater, lesser}

@@ -21,8 +21,8 @@ use Rattle.plan.specs.Limits.{leastC, greatestC, mostJobs}
 use Rattle.bounds.specs.Tables.{anyBelow}
 use Rattle.calendars.specs.declared.Terms.{Terms}
 use Rattle.calendars.specs.declared.Calendar.{Calendar}
-use Rattle.calendars.specs.Bits.{hasEvent}
-use Rattle.calendars.specs.BitsLaws.{hasEvent-shift}
+use Rattle.events.specs.Bits.{hasEvent}
+use Rattle.events.specs.BitsLaws.{hasEvent-shift}
 use Rattle.calendars.specs.Calendars.{eventsBefore, mostEvents}
 use Rattle.runs.specs.declared.Phase.{Phase}
 use Rattle.runs.specs.declared.Phase.the-variants.{Waiting, Running}

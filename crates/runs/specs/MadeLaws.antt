@@ -25,8 +25,8 @@ use Rattle.bounds.specs.FitLaws.{least-weight, most-weight, withoutFinish-fit, 
 use Rattle.rounds.specs.Rounds.{C0, joined, round, sameRows, Outcome, settled, decided, roundsFrom, outcomeFrom, outcome}
 use Rattle.rounds.specs.CarriedLaws.{C0-fit, joined-fit, eliminated-fit}
 use Rattle.calendars.specs.declared.Terms.{Terms}
-use Rattle.calendars.specs.Bits.{hasEvent}
-use Rattle.calendars.specs.BitsLaws.{eventSet-listed-fits}
+use Rattle.events.specs.Bits.{hasEvent}
+use Rattle.bounds.specs.BuildLaws.{eventSet-listed-fits}
 use Rattle.calendars.specs.Calendars.{thenTables, beforeStarts, weight, nodeOfEvent, eventsBefore, termsOf, leastCs, mostCs, mostEvents, noTerms, allTerms, allCs, calendarOf, calendar}
 use Rattle.runs.specs.ValueLimits.{isC, isSide, areTermsOf, isCalendar}
 use Rattle.runs.specs.LimitLaws.{anyFrom-is, isC-in, outAt, isSide-walk, areTermsOf-above, termsOut, isCalendar-walk}

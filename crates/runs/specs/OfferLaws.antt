@@ -20,7 +20,7 @@ use Rattle.clock.specs.Clock.{onRun}
 use Rattle.plan.specs.declared.Plan.{Plan}
 use Rattle.calendars.specs.declared.Terms.{Terms}
 use Rattle.calendars.specs.declared.Calendar.{Calendar}
-use Rattle.calendars.specs.Bits.{hasEvent}
+use Rattle.events.specs.Bits.{hasEvent}
 use Rattle.calendars.specs.Calendars.{eventsBefore, mostEvents, noTerms}
 use Rattle.runs.specs.declared.Run.{Run}
 use Rattle.runs.specs.TestLaws.{true-not-false, and-true, and-left, and-right}

@@ -12,7 +12,7 @@ use Rattle.plan.specs.declared.Plan.{Plan}
 use Rattle.plan.specs.declared.Refusal.the-variants as refusal
 use Rattle.calendars.specs.declared.Terms.{Terms}
 use Rattle.calendars.specs.declared.Calendar.{Calendar}
-use Rattle.calendars.specs.Bits.{hasEvent}
+use Rattle.events.specs.Bits.{hasEvent}
 use Rattle.calendars.specs.Calendars.{eventsBefore, mostEvents, noTerms}
 use Rattle.runs.specs.declared.Probe.{Probe}
 use Rattle.runs.specs.declared.Phase.{Phase}

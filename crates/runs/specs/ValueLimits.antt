@@ -14,7 +14,7 @@ use Rattle.plan.specs.PlanRead.{isJob}
 use Rattle.bounds.specs.Tables.{anyBelow}
 use Rattle.calendars.specs.declared.Terms.{Terms}
 use Rattle.calendars.specs.declared.Calendar.{Calendar}
-use Rattle.calendars.specs.Bits.{hasEvent}
+use Rattle.events.specs.Bits.{hasEvent}
 use Rattle.calendars.specs.Calendars.{eventsBefore, mostEvents, noTerms}
 use Rattle.runs.specs.declared.Probe.{Probe}
 use Rattle.runs.specs.declared.Phase.{Phase}

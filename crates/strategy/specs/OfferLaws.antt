@@ -25,7 +25,7 @@ use Rattle.bounds.specs.Events.{startNode}
 use Rattle.bounds.specs.Tables.{Cell, off, upto, Rows, at, listed}
 use Rattle.bounds.specs.BuildLaws.{both-true, getD-listed, length-listed}
 use Rattle.calendars.specs.declared.Terms.{Terms}
-use Rattle.calendars.specs.Bits.{hasEvent, eventSet}
+use Rattle.events.specs.Bits.{hasEvent, eventSet}
 use Rattle.calendars.specs.Calendars.{isOn, weight, fromBelow, fromAbove, eventsBefore, termsOf, leastCs, mostCs, mostEvents, noTerms, allTerms, allCs, calendarOf}
 use Rattle.runs.specs.declared.Run.{Run}
 use Rattle.runs.specs.declared.Offer.{Offer}

@@ -7,8 +7,8 @@ use lib.IntN.{pos}
 use lib.ListN.{length, getD}
 use mir.Syntax.{w32}
 use Rattle.whole.specs.SplitLaws.{told-fits}
-use Rattle.calendars.specs.Bits.{mostBits, countFrom, nextEvent}
-use Rattle.calendars.specs.BitsLaws.{nextFrom-past, countFrom-next, countFrom-none}
+use Rattle.events.specs.Bits.{bitsOf, mostBits, countFrom, nextEvent}
+use Rattle.events.specs.BitsLaws.{nextEvent-from, countFrom-next, countFrom-none}
 use Rattle.calendars.specs.CalendarText.{termLines}
 use Rattle.calendars.specs.CalendarTextLaws.{stored-term-near, left-term, left-terms}
 use Rattle.text.specs.LeftLaws.{Left, left-whole}
@@ -18,8 +18,8 @@ use Rattle.calendars.proofs.print.put_terms.Tie as tie
 
 abbrev Inv-loop : tie.InvT-loop
 Inv-loop out₀ at key jobs set cs row count end₀ e₀ left₀ out end e left =
-    (e ≤ count) × (end ≤ at + 52 * e) × (length out ≡ length out₀) × (countFrom (set .0) e (mostBits - e) ≡ left)
-    × Left out₀ at (termLines jobs key (set .0) cs row 0 count) out end (termLines jobs key (set .0) cs row e (count - e))
+    (e ≤ count) × (end ≤ at + 52 * e) × (length out ≡ length out₀) × (countFrom (bitsOf set) e (mostBits - e) ≡ left)
+    × Left out₀ at (termLines jobs key (bitsOf set) cs row 0 count) out end (termLines jobs key (bitsOf set) cs row e (count - e))
 
 abbrev μ-loop : tie.MeasureT-loop
 μ-loop out₀ at key jobs set cs row count end₀ e₀ left₀ out end e left = count - e
@@ -31,7 +31,7 @@ loop-holds : tie.Need-loop-holds Inv-loop μ-loop
 loop-holds c =
     let a = c .before .before .before .args in
     let all : a .count - 0 ≡ a .count = omega arith in
-    (omega arith, omega arith, refl, sym (c .count .ensures), rw all (left-whole (a .out .now) (a .at) (termLines (a .jobs) (a .key .now) (a .set .0) (a .cs .now) (a .row) 0 (a .count))))
+    (omega arith, omega arith, refl, sym (c .count .ensures), rw all (left-whole (a .out .now) (a .at) (termLines (a .jobs) (a .key .now) (bitsOf (a .set)) (a .cs .now) (a .row) 0 (a .count))))
 
 next-requires : tie.Need-next-requires Inv-loop μ-loop
 next-requires c κs = omega arith
@@ -43,7 +43,7 @@ returns : tie.Need-returns Inv-loop μ-loop
 returns c =
     let l = c .before .before .before .loop in
     let a = c .before .before .before .before .before .before .before .args in (
-      left-terms (a .jobs) (a .key .now) (a .set .0) (a .cs .now) (a .row) (l .e) (c .before .next .result) (a .count) (c .before .next .ensures) (l .inv .4) (omega arith) (omega arith),
+      left-terms (a .jobs) (a .key .now) (bitsOf (a .set)) (a .cs .now) (a .row) (l .e) (c .before .next .result) (a .count) (c .before .next .ensures) (l .inv .4) (omega arith),
       omega arith,
     )
 
@@ -73,13 +73,13 @@ module _ (c : tie.After-put-term Inv-loop μ-loop) where
   abbrev start : tie.Start Inv-loop μ-loop
   start = test .before .before .before .before
 
-  next-is : c .before .before .before .before .next .result ≡ nextEvent (start .args .set .0) (test .loop .e)
+  next-is : c .before .before .before .before .next .result ≡ nextEvent (bitsOf (start .args .set)) (test .loop .e)
   next-is = c .before .before .before .before .next .ensures
 
 loop-less : tie.Need-loop-less Inv-loop μ-loop
 loop-less c =
     let m = c .before .before in
-    omega (arith, next-is m, nextFrom-past (start m .args .set .0) (test m .loop .e) mostBits)
+    omega (arith, next-is m, nextEvent-from (bitsOf (start m .args .set)) (test m .loop .e))
 
 loop-again : tie.Need-loop-again Inv-loop μ-loop
 loop-again c =
@@ -91,10 +91,10 @@ loop-again c =
     let f = told-fits w32 (getD (a .cs .now) (a .row + k) (pos 0)) (m .before .before .c .given) in (
       omega arith,
       omega
-          (arith, stored-term-near (a .jobs) (a .key .now) k (omega (arith, start m .pre)) (omega (arith, start m .pre)) f (did .ensures), next-is m, nextFrom-past (a .set .0) (l .e) mostBits),
+          (arith, stored-term-near (a .jobs) (a .key .now) k (omega (arith, start m .pre)) (omega (arith, start m .pre)) f (did .ensures), next-is m, nextEvent-from (bitsOf (a .set)) (l .e)),
       did .kept .0 ∙ l .inv .2,
-      omega (arith, l .inv .3, countFrom-next (a .set .0) (l .e) k (next-is m) (omega (arith, start m .pre))),
-      left-term (a .jobs) (a .key .now) (a .set .0) (a .cs .now) (a .row) (l .e) k (a .count) (next-is m) (l .inv .4) (omega (arith, next-is m, nextFrom-past (a .set .0) (l .e) mostBits)) (omega (arith, start m .pre)) (omega (arith, start m .pre)) f (did .ensures),
+      omega (arith, l .inv .3, countFrom-next (bitsOf (a .set)) (l .e) k (next-is m) (omega (arith, start m .pre))),
+      left-term (a .jobs) (a .key .now) (bitsOf (a .set)) (a .cs .now) (a .row) (l .e) k (a .count) (next-is m) (l .inv .4) (omega (arith, start m .pre)) (omega (arith, start m .pre)) f (did .ensures),
     )
 
 same-length-2 : tie.Need-same-length-2 Inv-loop μ-loop
@@ -104,8 +104,8 @@ returns-2 : tie.Need-returns-2 Inv-loop μ-loop
 returns-2 c =
     let l = c .before .loop in
     let a = c .before .before .before .before .before .args in
-    let none : countFrom (a .set .0) (l .e) (mostBits - l .e) ≡ 0 = omega (arith, l .inv .3) in (
-      left-terms (a .jobs) (a .key .now) (a .set .0) (a .cs .now) (a .row) (l .e) _ (a .count) refl (l .inv .4) (omega arith) (omega (arith, countFrom-none (a .set .0) (l .e) none)),
+    let none : countFrom (bitsOf (a .set)) (l .e) (mostBits - l .e) ≡ 0 = omega (arith, l .inv .3) in (
+      left-terms (a .jobs) (a .key .now) (bitsOf (a .set)) (a .cs .now) (a .row) (l .e) _ (a .count) refl (l .inv .4) (omega (arith, countFrom-none (bitsOf (a .set)) (l .e) none)),
       omega arith,
     )
 

@@ -1,8 +1,8 @@
 -- `empty`: no bit is set.
 use mathlib.Core.Path.{refl}
-use Rattle.calendars.specs.Bits.{eventSet}
-use Rattle.calendars.proofs.Events.empty.Statement.{statement}
-use Rattle.calendars.proofs.Events.empty.Tie as tie
+use Rattle.events.specs.Bits.{eventSet}
+use Rattle.events.proofs.Events.empty.Statement.{statement}
+use Rattle.events.proofs.Events.empty.Tie as tie
 
 returns : tie.Need-returns
 unfolding eventSet

@@ -4,6 +4,16 @@ use Prim.Native.Nat.{ℕ, zero, suc, _+_, _*_, _/_, _%_, _^_}
 use mathlib.Core.Bool.{Bool, true, false, cond}
 use mathlib.Core.List.{List, [], _∷_}
 use lib.Dec.{eqb}
+use Rattle.events.specs.declared.Events.{Events}
+
+-- ---- a set as a number: event e has digit e of it
+
+-- the number that a set of the code is, and the set that holds a number
+abbrev pub bitsOf : Events → ℕ
+bitsOf s = s .0
+
+abbrev pub eventsOf : ℕ → Events
+eventsOf bits = record { 0 = bits }
 
 -- whether event e is in a set
 unfoldable pub hasEvent : ℕ → ℕ → Bool
@@ -23,6 +33,10 @@ countTrue (b ∷ bs) = cond b 1 0 + countTrue bs
 -- a set and event e
 unfoldable pub withEvent : ℕ → ℕ → ℕ
 withEvent e s = cond (hasEvent e s) s (s + 2 ^ e)
+
+-- a set, and event e where that is on
+abbrev pub withIf : Bool → ℕ → ℕ → ℕ
+withIf on e s = cond on (withEvent e s) s
 
 -- ---- 'ones give the term count, trailing zeros the next event'
 

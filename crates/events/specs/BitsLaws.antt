@@ -2,12 +2,13 @@
 -- Members: a digit is a member or none (`hasEvent-digit`); an event of a set moved down is one so much later (`hasEvent-shift`), so membership is one digit
 -- (`hasEvent-at`); a set below 2^k has no event from k on (`hasEvent-past`); two sets with the same events are one (`hasEvent-unique`).
 -- Made: the events of `eventSet` are the places that hold true (`hasEvent-set`), and it has a bit for each place (`eventSet-fits`); one place more is one event
--- more, or none (`eventSet-more`; of a listed set `eventSet-listed`, `eventSet-listed-fits`). A set and an event has that event (`hasEvent-with`) and no other more (`hasEvent-with-other`), and needs no bits beyond both
+-- more, or none (`eventSet-more`). A set and an event has that event (`hasEvent-with`) and no other more (`hasEvent-with-other`), and needs no bits beyond both
 -- (`withEvent-fits`); it is the bits of both (`withEvent-or`).
 -- The count is the count of ones (`eventCount-ones`); of `eventSet` it is the count of the places that hold true (`eventCount-set`).
--- The next event from e on is the trailing zeros of the set moved down by e (`nextFrom-zeros`); it is not before e (`nextFrom-past`), it is in the set
--- (`nextFrom-has`), and none before it is (`nextFrom-least`, `nextFrom-found`). So a walk that does nothing at an event outside the set can go on at the next event
--- (`nextFrom-skips`). The count from e on is one for that event and the count behind it (`countFrom-next`), and 0 where there is none (`countFrom-none`).
+-- The next event from e on is the trailing zeros of the set moved down by e (`nextFrom-zeros`). It is not before e (`nextEvent-from`), it is in the set
+-- (`nextEvent-has`), and none from e on to it is (`nextEvent-least`). So a walk that does nothing at an event outside the set can go on at the next event
+-- (`nextEvent-skips`): a loop `let mut e = set.next(first); while e < count { ..; e = set.next(e + 1); }` does what a walk over every event does.
+-- The count from e on is one for the next event and the count behind it (`countFrom-next`), and 0 where there is none (`countFrom-none`).
 
 use Prim.Native.Nat.{ℕ, zero, suc, _+_, _*_, _-_, _/_, _%_, _^_, _≤_, _<_}
 use mathlib.Core.Path.{_≡_, refl, sym, ap, _∙_}
@@ -23,8 +24,7 @@ use lib.Dec.{eqb, leb, ltb}
 use lib.ListN.{length, getD}
 use lib.Pow.{pow-lt, pow-mono}
 use borrow.Author.Tests.{eqb-true, eqb-false, eq-eqb, ne-eqb, leb-true, leb-false, ltb-true, ltb-false}
-use Rattle.bounds.specs.Tables.{listed}
-use Rattle.calendars.specs.Bits.{hasEvent, eventSet, countTrue, withEvent, mostBits, countFrom, eventCount, nextFrom, nextEvent}
+use Rattle.events.specs.Bits.{hasEvent, eventSet, countTrue, withEvent, withIf, mostBits, countFrom, eventCount, nextFrom, nextEvent}
 
 -- ---- members
 
@@ -97,6 +97,10 @@ cons-digit : (b : Bool) (s : ℕ) → hasEvent 0 (cond b 1 0 + 2 * s) ≡ b
 cons-digit true s = hasEvent-odd (1 + 2 * s) (omega arith)
 cons-digit false s = hasEvent-even (0 + 2 * s) (omega arith)
 
+pub eventSet-nil : eventSet [] ≡ 0
+unfolding eventSet
+eventSet-nil = refl
+
 pub hasEvent-set : (bs : List Bool) (e : ℕ) → hasEvent e (eventSet bs) ≡ getD bs e false
 unfolding hasEvent eventSet
 hasEvent-set [] e = hasEvent-none e
@@ -151,7 +155,7 @@ withEvent-or (suc e) s =
 pub withEvent-fits : (k e s : ℕ) → e < k → s < 2 ^ k → withEvent e s < 2 ^ k
 withEvent-fits k e s l h = rw (← withEvent-or e s) (or-lt k s (2 ^ e) h (pow-lt l))
 
-pub eventSet-more : (bs : List Bool) (b : Bool) → eventSet (bs ++ (b ∷ [])) ≡ cond b (withEvent (length bs) (eventSet bs)) (eventSet bs)
+pub eventSet-more : (bs : List Bool) (b : Bool) → eventSet (bs ++ (b ∷ [])) ≡ withIf b (length bs) (eventSet bs)
 unfolding eventSet
 eventSet-more [] true = sym (withEvent-zero 0)
 eventSet-more [] false = refl
@@ -159,25 +163,6 @@ eventSet-more (a ∷ bs) true =
     ap (λ (s : ℕ). cond a 1 0 + 2 * s) (eventSet-more bs true)
     ∙ sym (withEvent-suc (length bs) (cond a 1 0 + 2 * eventSet bs) ∙ rw (cons-half a (eventSet bs), cons-mod a (eventSet bs)))
 eventSet-more (a ∷ bs) false = ap (λ (s : ℕ). cond a 1 0 + 2 * s) (eventSet-more bs false)
-
--- a set made event by event
-listed-more : {A : Type 0} (k : ℕ) (f : ℕ → A) → listed (suc k) f ≡ listed k f ++ (f k ∷ [])
-unfolding listed
-listed-more zero f = refl
-listed-more (suc k) f = ap (λ l. f 0 ∷ l) (listed-more k (λ i. f (suc i)))
-
-listed-length : {A : Type 0} (k : ℕ) (f : ℕ → A) → length (listed k f) ≡ k
-unfolding listed
-listed-length zero f = refl
-listed-length (suc k) f = ap suc (listed-length k (λ i. f (suc i)))
-
-pub eventSet-listed : (k : ℕ) (f : ℕ → Bool) → eventSet (listed (k + 1) f) ≡ cond (f k) (withEvent k (eventSet (listed k f))) (eventSet (listed k f))
-eventSet-listed k f =
-    ap (λ (n : ℕ). eventSet (listed n f)) (add-one k) ∙ ap eventSet (listed-more k f) ∙ eventSet-more (listed k f) (f k)
-    ∙ ap (λ (n : ℕ). cond (f k) (withEvent n (eventSet (listed k f))) (eventSet (listed k f))) (listed-length k f)
-
-pub eventSet-listed-fits : (k : ℕ) (f : ℕ → Bool) → eventSet (listed k f) < 2 ^ k
-eventSet-listed-fits k f = rw (listed-length k f) at (eventSet-fits (listed k f))
 
 -- ---- the count
 
@@ -232,7 +217,7 @@ nextFrom-zeros s zero n = nextFrom-first s n ∙ rw (zero-add, div-one)
 nextFrom-zeros s (suc e) n =
     nextFrom-suc s e n ∙ ap suc (nextFrom-zeros (s / 2) e n) ∙ rw (shift-suc, suc-add)
 
-pub nextFrom-past : (s e n : ℕ) → e ≤ nextFrom s e n
+nextFrom-past : (s e n : ℕ) → e ≤ nextFrom s e n
 unfolding nextFrom
 nextFrom-past s e zero = omega arith
 nextFrom-past s e (suc n) = of (hasEvent e s) (nextFrom-past s (suc e) n)
@@ -265,27 +250,50 @@ nextFrom-has s e (suc n) h = of (hasEvent e s) refl (nextFrom-has s (suc e) n) h
     of true y rest g = y
     of false y rest g = rest (omega arith)
 
-pub nextFrom-found : (s e n d : ℕ) → e ≤ d → hasEvent d s ≡ true → nextFrom s e n ≤ d
-nextFrom-found s e n d l y = of (leb (nextFrom s e n) d) refl
-  where
-    of : (b : Bool) → leb (nextFrom s e n) d ≡ b → nextFrom s e n ≤ d
-    of true h = leb-true (nextFrom s e n) d h
-    of false h = absurd (true≢false (sym y ∙ nextFrom-least s e n d l (leb-false (nextFrom s e n) d h)))
+-- ---- the next event in a walk over the events before `count`
 
--- a walk f from event e on over n events, which does nothing at an event outside the set
-module _ {A : Type 0} (s : ℕ) (f : ℕ → ℕ → A) (past : (e n : ℕ) → hasEvent e s ≡ false → f e (suc n) ≡ f (suc e) n) where
-  skips : (gap e n : ℕ) → ((d : ℕ) → e ≤ d → d < e + gap → hasEvent d s ≡ false) → f e (gap + n) ≡ f (e + gap) n
-  skips zero e n none = rw (zero-add, add-zero)
-  skips (suc gap) e n none =
-      ap (f e) (suc-add gap n) ∙ past e (gap + n) (none e (omega arith) (omega arith))
-      ∙ skips gap (suc e) n (λ d l h. none d (omega arith) (omega arith))
-      ∙ ap (λ (k : ℕ). f k n) (suc-add e gap ∙ sym (add-suc e gap))
+-- it is not before e, it is in the set, and from e on to it nothing is
+pub nextEvent-from : (s e : ℕ) → e ≤ nextEvent s e
+nextEvent-from s e = nextFrom-past s e mostBits
 
-  pub nextFrom-skips : (e m k count : ℕ) → e ≤ k → k ≤ nextFrom s e m → k ≤ count → f e (count - e) ≡ f k (count - k)
-  nextFrom-skips e m k count l h g =
+pub nextEvent-has : (s e : ℕ) → nextEvent s e < mostBits → hasEvent (nextEvent s e) s ≡ true
+nextEvent-has s e h = nextFrom-has s e mostBits (omega arith)
+
+pub nextEvent-least : (s e d : ℕ) → e ≤ d → d < nextEvent s e → hasEvent d s ≡ false
+nextEvent-least s e d = nextFrom-least s e mostBits d
+
+-- a walk from event e on over n events, which does nothing at an event outside the set, can go on at the next event; with no event left all are at one end
+module _ {A : Type 0} (s count : ℕ) (walk : ℕ → ℕ → A) (past : (e n : ℕ) → e < count → hasEvent e s ≡ false → walk e (suc n) ≡ walk (suc e) n)
+    (end : (e d : ℕ) → walk e 0 ≡ walk d 0) where
+  skips : (gap e n : ℕ) → e + gap ≤ count → ((d : ℕ) → e ≤ d → d < e + gap → hasEvent d s ≡ false) → walk e (gap + n) ≡ walk (e + gap) n
+  skips zero e n l none = rw (zero-add, add-zero)
+  skips (suc gap) e n l none =
+      ap (walk e) (suc-add gap n) ∙ past e (gap + n) (omega arith) (none e (omega arith) (omega arith))
+      ∙ skips gap (suc e) n (omega arith) (λ d l h. none d (omega arith) (omega arith))
+      ∙ ap (λ (k : ℕ). walk k n) (suc-add e gap ∙ sym (add-suc e gap))
+
+  skips-to : (e k : ℕ) → e ≤ k → k ≤ nextEvent s e → k ≤ count → walk e (count - e) ≡ walk k (count - k)
+  skips-to e k l h g =
       let left : count - e ≡ (k - e) + (count - k) = omega arith in
       let place : e + (k - e) ≡ k = omega arith in
-      ap (f e) left ∙ skips (k - e) e (count - k) (λ d a b. nextFrom-least s e m d a (omega arith)) ∙ ap (λ (j : ℕ). f j (count - k)) place
+      ap (walk e) left ∙ skips (k - e) e (count - k) (omega arith) (λ d a b. nextEvent-least s e d a (omega arith)) ∙ ap (λ (j : ℕ). walk j (count - k)) place
+
+  ends : (e k : ℕ) → count ≤ e → count ≤ k → walk e (count - e) ≡ walk k (count - k)
+  ends e k l h =
+      let none : count - e ≡ 0 = omega arith in
+      let none-left : count - k ≡ 0 = omega arith in
+      ap (walk e) none ∙ end e k ∙ ap (walk k) (sym none-left)
+
+  pub nextEvent-skips : (e : ℕ) → walk e (count - e) ≡ walk (nextEvent s e) (count - nextEvent s e)
+  nextEvent-skips e = of (leb count e) refl (leb (nextEvent s e) count) refl
+    where
+      of : (b : Bool) → leb count e ≡ b → (d : Bool) → leb (nextEvent s e) count ≡ d → walk e (count - e) ≡ walk (nextEvent s e) (count - nextEvent s e)
+      of true h d g = ends e (nextEvent s e) (leb-true count e h) (omega (arith, leb-true count e h, nextEvent-from s e))
+      of false h true g = skips-to e (nextEvent s e) (nextEvent-from s e) (omega arith) (leb-true (nextEvent s e) count g)
+      of false h false g =
+          let before : e < count = leb-false count e h in
+          let beyond : count < nextEvent s e = leb-false (nextEvent s e) count g in
+          skips-to e count (omega arith) (omega arith) (omega arith) ∙ ends count (nextEvent s e) (omega arith) (omega arith)
 
 -- ---- the count from an event on: one for the next event, and those behind it
 
@@ -299,11 +307,13 @@ countFrom-here s e n h = rw h (omega arith)
 
 pub countFrom-next : (s e k : ℕ) → k ≡ nextEvent s e → k < mostBits
     → countFrom s e (mostBits - e) ≡ suc (countFrom s (k + 1) (mostBits - (k + 1)))
+unfolding countFrom
 countFrom-next s e k next h =
     let left : mostBits - k ≡ suc (mostBits - (k + 1)) = omega arith in
-    nextFrom-skips s (countFrom s) (countFrom-past s) e mostBits k mostBits (omega (arith, nextFrom-past s e mostBits)) (omega arith) (omega arith)
+    nextEvent-skips s mostBits (countFrom s) (λ e n l. countFrom-past s e n) (λ e d. refl) e
+    ∙ ap (λ (j : ℕ). countFrom s j (mostBits - j)) (sym next)
     ∙ ap (countFrom s k) left
-    ∙ countFrom-here s k (mostBits - (k + 1)) (rw next (nextFrom-has s e mostBits (omega arith)))
+    ∙ countFrom-here s k (mostBits - (k + 1)) (rw next (nextEvent-has s e (omega arith)))
     ∙ ap (λ (j : ℕ). suc (countFrom s j (mostBits - (k + 1)))) (sym (add-one k))
 
 -- none is left: the next event is past every place that a set has

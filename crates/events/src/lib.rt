@@ -1,9 +1,14 @@
-// Sets of events as bits of a u64: ones give the count, trailing zeros the next event.
-use crate::Events;
+// Sets of events as bits: ones give the count, trailing zeros the next event.
 ghost use mathlib.Core.Path.{_≡_};
 ghost use mathlib.Core.List.{[]};
 ghost use Prim.Native.Nat.{_<_};
-ghost use Rattle.calendars.specs.Bits.{hasEvent, eventSet, withEvent, mostBits, eventCount, nextEvent};
+ghost use Rattle.events.specs.Bits.{hasEvent, eventSet, withEvent, withIf, mostBits, eventCount, nextEvent};
+
+// A set of events, by their numbers; or of a table's nodes, which are the origin and the events. Nothing outside of this file knows what holds it.
+pub struct Events(pub u64);
+
+// As many events as a u64 has bits.
+const MOST_BITS: usize = 64;
 
 impl Events {
     // The set of no events.
@@ -18,7 +23,7 @@ impl Events {
         ensures { λ r. ⌜ r ≡ hasEvent e (self .0) ⌝ }
     {
         let s = self.0;
-        if e < 64 {
+        if e < MOST_BITS {
             let rest = s >> e;
             return rest & 1 == 1;
         }
@@ -35,6 +40,17 @@ impl Events {
         Events(s | bit)
     }
 
+    // The set, and event e where that is on.
+    pub fn with_if(self, e: usize, on: bool) -> Events
+        requires { ⌜ e < mostBits ⌝ }
+        ensures { λ r. ⌜ r .0 ≡ withIf on e (self .0) ⌝ }
+    {
+        if on {
+            return self.with(e);
+        }
+        self
+    }
+
     // How many events are in the set.
     pub fn count(self) -> u32
         ensures { λ r. ⌜ r ≡ eventCount (self .0) ⌝ }
@@ -43,7 +59,7 @@ impl Events {
         u64::count_ones(s)
     }
 
-    // The first event of the set from event e on; e + 64, where there is none.
+    // The first event of the set from event e on; e + MOST_BITS, where there is none.
     pub fn next(self, e: usize) -> usize
         requires { ⌜ e < mostBits ⌝ }
         ensures { λ r. ⌜ r ≡ nextEvent (self .0) e ⌝ }

@@ -1,0 +1,5 @@
+-- Sets of events, as document 01 has them: their definitions, and then their laws.
+pub mod Bits
+-- ---- laws
+pub mod BitsLaws
+pub mod Unique
