@@ -1,12 +1,11 @@
--- What the machine says of a bound: whether it is the mark for no bound, as a test and as a bit, and of a sum that fits, how it is read back and compared.
-use mathlib.Core.Path.{_≡_, refl, sym, _∙_, ap, ap₂}
-use mathlib.Core.Bool.{Bool, true, false, cond, not}
+-- What the machine says of a bound: whether it is the mark for no bound, and of a sum that fits, how it is read back and compared.
+use mathlib.Core.Path.{_≡_, sym, _∙_, ap, ap₂}
+use mathlib.Core.Bool.{Bool, true, false}
 use borrow.Author.Tests.{eq-eqb, ne-eqb}
-use lib.Dec.{eqb}
 use lib.IntN.{ℤ, pos, negℤ, _+ℤ_}
 use lib.Signed.{leZ, _≤ℤ_}
 use mir.Syntax.{w32}
-use mir.Val.{SFits, toZ, ofZ, boolByte}
+use mir.Val.{SFits, toZ, ofZ}
 use mir.Facts.{toZ-ofZ, sfits-lit}
 use Rattle.whole.specs.Split.{eqZ}
 use Rattle.whole.specs.SplitLaws.{bits-eqb}
@@ -18,13 +17,6 @@ is-mark {v} f e = sym (bits-eqb f (sfits-lit tt)) ∙ eq-eqb (ofZ w32 v) 2147483
 
 pub no-mark : {v : ℤ} → SFits w32 v → (ofZ w32 v ≡ 2147483647 → ⊥) → eqZ v noBound ≡ false
 no-mark {v} f d = sym (bits-eqb f (sfits-lit tt)) ∙ ne-eqb (ofZ w32 v) 2147483647 d
-
-pub bound-bit : {v : ℤ} → SFits w32 v → boolByte (not (eqb (ofZ w32 v) 2147483647)) ≡ cond (not (eqZ v noBound)) 1 0
-bound-bit {v} f = digit (not (eqb (ofZ w32 v) 2147483647)) ∙ ap (λ b. cond (not b) 1 0) (bits-eqb f (sfits-lit tt))
-  where
-    digit : (b : Bool) → boolByte b ≡ cond b 1 0
-    digit true = refl
-    digit false = refl
 
 module _ {v a : ℤ} (f : SFits w32 v) (g : SFits w32 a) (h : SFits w32 (v +ℤ a)) where
   pub sum-fits : SFits w32 (toZ w32 (ofZ w32 v) +ℤ toZ w32 (ofZ w32 a))

@@ -10,10 +10,12 @@ use lib.ListN.{getD, set, replicate}
 use mir.Syntax.{w32}
 use mir.Val.{SFits}
 use Rattle.whole.specs.Split.{eqZ}
+use Rattle.events.specs.declared.Events.{Events}
+use Rattle.events.specs.Bits.{bitsOf, hasEvent, eventSet}
 use Rattle.bounds.specs.declared.Judgement.{Judgement}
 use Rattle.bounds.specs.declared.Judgement.the-variants.{Contradiction, LeftOut, Kept}
 use Rattle.bounds.specs.Events.{nodeOf}
-use Rattle.bounds.specs.Tables.{Cell, off, upto, Rows, build, Between, Set, contradiction, bounds}
+use Rattle.bounds.specs.Tables.{Cell, off, upto, Rows, listed, build, Between, Set, contradiction, bounds}
 use Rattle.bounds.specs.Spans.{judgedAt, Timed}
 
 -- ---- the rows that an array holds
@@ -100,20 +102,18 @@ joinedAt early late s y w z ws = putAt early late y z (weightAt ws s z) w ws
 abbrev pub joinedCells : List ℤ → List ℤ → ℕ → ℕ → ℤ → List ℤ → Flat
 joinedCells early late s y w = eachNode (joinedAt early late s y w) 0 s
 
--- a test at each of so many nodes from node e on, as bits, of which node e has the first
-unfoldable pub bitsFrom : (ℕ → Bool) → ℕ → ℕ → ℕ
-bitsFrom f e zero = 0
-bitsFrom f e (suc count) = cond (f e) 1 0 + 2 * bitsFrom f (e + 1) count
-
 abbrev pub isBound : ℤ → Bool
 isBound w = not (eqZ w noBound)
 
 abbrev pub isBounded : List ℤ → ℕ → ℕ → Bool
 isBounded ws s z = isBound (weightAt ws s z)
 
--- the nodes z before s for which z - s has a bound, as bits
-abbrev pub boundedBits : List ℤ → ℕ → ℕ
-boundedBits ws s = bitsFrom (isBounded ws s) 0 s
+-- the nodes z before s for which z - s has a bound; and that a set has of the nodes before s just these
+abbrev pub boundedNodes : List ℤ → ℕ → ℕ
+boundedNodes ws s = eventSet (listed s (isBounded ws s))
+
+abbrev pub HasBounded : List ℤ → ℕ → Events → Type 0
+HasBounded ws s set = (z : ℕ) → z < s → hasEvent z (bitsOf set) ≡ isBounded ws s z
 
 -- the bounds through s of row y, where s - y has a bound
 unfoldable pub joinedRow : List ℤ → List ℤ → ℕ → ℕ → List ℤ → Flat
@@ -150,20 +150,20 @@ abbrev pub AllTimed : List ℤ → List ℤ → Type 0
 AllTimed early late = (y : ℕ) → y < 37 → Timed early late y
 
 -- what each function of the elimination of the start s rests on: times in range, and weights in range in row s and in column s
-pub record JoinsCells (early late : List ℤ) (s set y : ℕ) (w : ℤ) (ws : List ℤ) : Type 0 where
+pub record JoinsCells (early late : List ℤ) (s : ℕ) (set : Events) (y : ℕ) (w : ℤ) (ws : List ℤ) : Type 0 where
   pub times : AllTimed early late
   pub node : s < 37
   pub before : y < s
-  pub bits : set ≡ boundedBits ws s
+  pub bounded : HasBounded ws s set
   pub on : eqZ w noBound ≡ false
   pub weighed : Weighed w
   pub row : (z : ℕ) → z < s → Weighed (weightAt ws s z)
 
-pub record JoinsRow (early late : List ℤ) (s set y : ℕ) (ws : List ℤ) : Type 0 where
+pub record JoinsRow (early late : List ℤ) (s : ℕ) (set : Events) (y : ℕ) (ws : List ℤ) : Type 0 where
   pub times : AllTimed early late
   pub node : s < 37
   pub before : y < s
-  pub bits : set ≡ boundedBits ws s
+  pub bounded : HasBounded ws s set
   pub weighed : Weighed (weightAt ws y s)
   pub row : (z : ℕ) → z < s → Weighed (weightAt ws s z)
 

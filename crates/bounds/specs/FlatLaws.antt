@@ -3,6 +3,7 @@ use Prim.Native.Nat.{ℕ, zero, suc, _+_, _-_, _≤_, _<_}
 use mathlib.Core.Path.{_≡_, refl, sym, ap, subst, _∙_}
 use mathlib.Core.Bool.{Bool, true, false, cond, not}
 use mathlib.Core.List.{List, [], _∷_}
+use native.Mathlib.Numerals.{add-one}
 use native.Mathlib.Omega.{arith}
 use lib.Dec.{eqb}
 use lib.IntN.{ℤ, pos, _+ℤ_}
@@ -15,13 +16,16 @@ use mir.Val.{SFits, ofZ}
 use mir.Facts.{sfits-lit}
 use Rattle.whole.specs.Split.{eqZ}
 use Rattle.whole.specs.SplitLaws.{bits-eqb}
+use Rattle.events.specs.declared.Events.{Events}
+use Rattle.events.specs.Bits.{bitsOf, hasEvent, nextEvent}
+use Rattle.events.specs.BitsLaws.{nextEvent-skips}
 use Rattle.bounds.specs.declared.Judgement.{Judgement}
 use Rattle.bounds.specs.declared.Judgement.the-variants.{Contradiction, LeftOut, Kept}
 use Rattle.bounds.specs.Events.{nodeOf}
 use Rattle.bounds.specs.Tables.{Between}
 use Rattle.bounds.specs.Spans.{judgedAt}
-use Rattle.bounds.specs.Flat.{noBound, place, weightAt, Flat, flat, stored, keptAt, putAt, thenFlat, eachNode, putBounds, bitsFrom, isBound, isBounded, joinedAt, joinedCells, joinedRow, joinedRows, movedAt, movedRows}
-use Rattle.bounds.specs.BitsLaws.{bitsFrom-ext}
+use Rattle.bounds.specs.Flat.{noBound, place, weightAt, Flat, flat, stored, keptAt, putAt, thenFlat, eachNode, putBounds, isBound, isBounded, boundedNodes, HasBounded, joinedAt, joinedCells, joinedRow, joinedRows, movedAt, movedRows}
+use Rattle.bounds.specs.BuildLaws.{hasEvent-listed}
 
 module _ (early late : List ℤ) (y z : ℕ) (v a : ℤ) (ws : List ℤ) where
   pub putAt-none : eqZ v noBound ≡ true → flat false ws ≡ putAt early late y z v a ws
@@ -175,15 +179,29 @@ pub isBound-read : {w : ℤ} → SFits w32 w → not (eqb (ofZ w32 w) 2147483647
 isBound-read f = ap not (bits-eqb f (sfits-lit tt))
 
 -- the nodes to which row s has a bound are told by row s
-pub boundedBits-same : (s : ℕ) (ws us : List ℤ) (e n : ℕ) → ((z : ℕ) → e ≤ z → z < e + n → weightAt us s z ≡ weightAt ws s z)
-    → bitsFrom (isBounded us s) e n ≡ bitsFrom (isBounded ws s) e n
-boundedBits-same s ws us e n h = bitsFrom-ext (isBounded us s) (isBounded ws s) e n (λ z l m. ap (λ w. not (eqZ w noBound)) (h z l m))
+pub boundedNodes-has : (ws : List ℤ) (s : ℕ) (set : Events) → bitsOf set ≡ boundedNodes ws s → HasBounded ws s set
+boundedNodes-has ws s set e z h = ap (hasEvent z) e ∙ hasEvent-listed s (isBounded ws s) z h
 
--- a node to which row s has no bound is passed by
-pub joinedCells-past : (early late : List ℤ) (s y : ℕ) (w : ℤ) (ws : List ℤ) (e : ℕ) → e < s → isBounded ws s e ≡ false
-    → eachNode (joinedAt early late s y w) e (s - e) ws ≡ eachNode (joinedAt early late s y w) (e + 1) (s - (e + 1)) ws
-joinedCells-past early late s y w ws e h q =
-    eachNode-past (joinedAt early late s y w) s e ws false ws h (putAt-none early late y e (weightAt ws s e) w ws (not-false (eqZ (weightAt ws s e) noBound) q)) refl
+pub HasBounded-same : (ws us : List ℤ) (s : ℕ) (set : Events) → ((z : ℕ) → z < s → weightAt us s z ≡ weightAt ws s z) → HasBounded ws s set → HasBounded us s set
+HasBounded-same ws us s set same has z h = has z h ∙ ap isBound (sym (same z h))
+
+-- a node to which row s has no bound is passed by, so that the nodes of the set are enough
+module _ (early late : List ℤ) (s y : ℕ) (w : ℤ) (ws : List ℤ) (set : Events) (has : HasBounded ws s set) where
+  abbrev step : ℕ → List ℤ → Flat
+  step = joinedAt early late s y w
+
+  joinedCells-past : (e n : ℕ) → e < s → hasEvent e (bitsOf set) ≡ false → eachNode step e (suc n) ws ≡ eachNode step (suc e) n ws
+  unfolding eachNode
+  joinedCells-past e n h none =
+      let off = not-false (eqZ (weightAt ws s e) noBound) (sym (has e h) ∙ none) in
+      ap (λ (r : Flat). thenFlat r (eachNode step (e + 1) n)) (sym (putAt-none early late y e (weightAt ws s e) w ws off))
+      ∙ ap (λ (k : ℕ). eachNode step k n ws) (add-one e)
+
+  pub joinedCells-skips : (e k : ℕ) → k ≡ nextEvent (bitsOf set) e → eachNode step e (s - e) ws ≡ eachNode step k (s - k) ws
+  unfolding eachNode
+  joinedCells-skips e k next =
+      nextEvent-skips (bitsOf set) s (λ e n. eachNode step e n ws) joinedCells-past (λ e d. refl) e
+      ∙ ap (λ (k : ℕ). eachNode step k (s - k) ws) (sym next)
 
 module _ (early late : List ℤ) (s y : ℕ) (ws : List ℤ) where
   pub joinedRow-none : eqZ (weightAt ws y s) noBound ≡ true → flat false ws ≡ joinedRow early late s y ws

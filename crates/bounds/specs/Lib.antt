@@ -14,7 +14,6 @@ pub mod EventsLaws
 pub mod JudgementsLaws
 pub mod TablesLaws
 pub mod SpansLaws
-pub mod BitsLaws
 pub mod FlatLaws
 pub mod PutLaws
 pub mod StartLaws

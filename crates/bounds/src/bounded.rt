@@ -1,21 +1,24 @@
-// Which nodes a row has a bound to, as bits.
+// Which nodes a row has a bound to.
 use super::Table;
+use events::Events;
 ghost use mathlib.Core.Path.{_≡_};
 ghost use Prim.Native.Nat.{_<_};
-ghost use Rattle.bounds.specs.Flat.{boundedBits};
+ghost use Rattle.events.specs.Bits.{bitsOf};
+ghost use Rattle.bounds.specs.Flat.{boundedNodes};
 
-// The nodes z before s for which z - s has a bound: node 0 has the lowest bit.
-pub fn bounded_bits<'a>(weights: &'a [i32; Table::SIZE], s: usize) -> u64
+// The nodes z before s for which z - s has a bound.
+pub fn bounded_nodes<'a>(weights: &'a [i32; Table::SIZE], s: usize) -> Events
     requires { ⌜ s < 37 ⌝ }
-    ensures { λ r. ⌜ r ≡ boundedBits (now (weights .entry)) s ⌝ }
+    ensures { λ r. ⌜ bitsOf r ≡ boundedNodes (now (weights .entry)) s ⌝ }
 {
     let row = s * Table::SIDE;
-    let mut set: u64 = 0;
-    let mut z = s;
-    while 0 < z {
-        z -= 1;
+    let mut set = Events::empty();
+    let mut z = 0;
+    while z < s {
         let v = weights[row + z];
-        set = 2 * set + (v != Table::NO_BOUND) as u64;
+        let on = v != Table::NO_BOUND;
+        set = set.with_if(z, on);
+        z += 1;
     }
     set
 }

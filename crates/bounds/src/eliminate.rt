@@ -1,8 +1,9 @@
 // The elimination of one event, in place. The event is the last node of its table; only cells of the nodes before it are written, and what is
 // read of the event itself is not.
 use super::Table;
-use super::bounded::bounded_bits;
+use super::bounded::bounded_nodes;
 use super::cells::put;
+use events::Events;
 ghost use mathlib.Core.Path.{_≡_};
 ghost use Rattle.bounds.specs.Flat.{JoinsCells, JoinsRow, JoinsRows, MovesAt, MovesRows, flat, joinedCells, joinedRow, joinedRows, movedAt, movedRows};
 
@@ -13,7 +14,7 @@ fn join_cells<'a>(
     early: &'a [i32; Table::SIDE],
     late: &'a [i32; Table::SIDE],
     s: usize,
-    set: u64,
+    set: Events,
     y: usize,
     w: i32,
 ) -> bool
@@ -21,18 +22,14 @@ fn join_cells<'a>(
     ensures { λ r. ⌜ flat r (now (weights .exit)) ≡ joinedCells (now (early .entry)) (now (late .entry)) s y w (now (weights .entry)) ⌝ }
 {
     let row = s * Table::SIDE;
-    let mut rest = set;
-    let mut e: usize = 0;
-    while rest != 0 {
-        let gap = u64::trailing_zeros(rest) as u64;
-        let z = e + gap as usize;
+    let mut z = set.next(0);
+    while z < s {
         let v = weights[row + z];
         if put(weights, early, late, y, z, v, w) {
             return true;
         }
-        rest = rest >> gap;
-        rest = rest >> 1;
-        e = z + 1;
+        let after = z + 1;
+        z = set.next(after);
     }
     false
 }
@@ -43,7 +40,7 @@ fn join_row<'a>(
     early: &'a [i32; Table::SIDE],
     late: &'a [i32; Table::SIDE],
     s: usize,
-    set: u64,
+    set: Events,
     y: usize,
 ) -> bool
     requires { ⌜ JoinsRow (now early) (now late) s set y (now weights) ⌝ }
@@ -66,7 +63,7 @@ pub fn join_rows<'a>(
     requires { ⌜ JoinsRows (now early) (now late) s (now weights) ⌝ }
     ensures { λ r. ⌜ flat r (now (weights .exit)) ≡ joinedRows (now (early .entry)) (now (late .entry)) s (now (weights .entry)) ⌝ }
 {
-    let set = bounded_bits(weights, s);
+    let set = bounded_nodes(weights, s);
     let mut y = 0;
     while y < s {
         if join_row(weights, early, late, s, set, y) {

@@ -6,7 +6,7 @@ use native.Mathlib.Omega.{arith}
 use lib.IntN.{pos}
 use lib.ListN.{getD}
 use Rattle.bounds.specs.Flat.{place, Weighed, eachNode, joinedRow, joinedRows}
-use Rattle.bounds.specs.FlatLaws.{eachNode-stop, eachNode-past, eachNode-end, boundedBits-same, joinedRow-same}
+use Rattle.bounds.specs.FlatLaws.{eachNode-stop, eachNode-past, eachNode-end, boundedNodes-has, HasBounded-same, joinedRow-same}
 use Rattle.bounds.proofs.eliminate.join_rows.Statement.{statement}
 use Rattle.bounds.proofs.eliminate.join_rows.Tie as tie
 
@@ -19,8 +19,8 @@ Inv-loop weights₀ early late s set y₀ weights y =
 abbrev μ-loop : tie.MeasureT-loop
 μ-loop weights₀ early late s set y₀ weights y = s - y
 
-bounded-bits-requires : tie.Need-bounded-bits-requires Inv-loop μ-loop
-bounded-bits-requires c κs = c .before .pre .node
+bounded-nodes-requires : tie.Need-bounded-nodes-requires Inv-loop μ-loop
+bounded-nodes-requires c κs = c .before .pre .node
 
 loop-holds : tie.Need-loop-holds Inv-loop μ-loop
 loop-holds c = let whole : c .before .before .args .s - 0 ≡ c .before .before .args .s = omega arith in (omega arith, rw whole, λ i h. refl)
@@ -35,9 +35,9 @@ join-row-requires c κs =
       times = s .pre .times;
       node = s .pre .node;
       before = low;
-      bits =
-          c .before .before .before .bounded-bits .ensures
-          ∙ sym (boundedBits-same (a .s) (a .weights .now) (l .weights) 0 (a .s) (λ z h k. l .inv .2 (place (a .s) z) (omega arith)));
+      bounded =
+          HasBounded-same (a .weights .now) (l .weights) (a .s) _ (λ z h. l .inv .2 (place (a .s) z) (omega arith))
+          (boundedNodes-has (a .weights .now) (a .s) _ (c .before .before .before .bounded-nodes .ensures));
       weighed = subst Weighed (sym (l .inv .2 (place (l .y) (a .s)) (omega arith))) (s .pre .column (l .y) low);
       row = λ z h. subst Weighed (sym (l .inv .2 (place (a .s) z) (omega arith))) (s .pre .row z h);
     }
@@ -86,7 +86,7 @@ join-rows-spec =
     (tie.spec
     Inv-loop
     μ-loop
-    bounded-bits-requires
+    bounded-nodes-requires
     loop-holds
     join-row-requires
     returns
