@@ -1,14 +1,16 @@
 -- Tables in one array. How `putAt` goes, as the code goes: no bound to put, one that is no less than what stands there, or one that is judged.
 use Prim.Native.Nat.{ℕ, zero, suc, _+_, _-_, _≤_, _<_}
-use mathlib.Core.Path.{_≡_, refl, sym, ap, subst, _∙_}
+use mathlib.Core.Path.{_≡_, refl, sym, ap, ap₂, subst, _∙_}
 use mathlib.Core.Bool.{Bool, true, false, cond, not}
 use mathlib.Core.List.{List, [], _∷_}
+use native.Mathlib.Nat.{zero-add, add-zero}
 use native.Mathlib.Numerals.{add-one}
 use native.Mathlib.Omega.{arith}
 use lib.Dec.{eqb}
 use lib.IntN.{ℤ, pos, _+ℤ_}
 use lib.Signed.{leZ}
 use lib.ListN.{length, getD, length-set}
+use lib.Pow.{pow-mono}
 use lib.Seq.{getD-set-other}
 use borrow.Author.Tests.{not-false}
 use mir.Syntax.{w32}
@@ -17,15 +19,16 @@ use mir.Facts.{sfits-lit}
 use Rattle.whole.specs.Split.{eqZ}
 use Rattle.whole.specs.SplitLaws.{bits-eqb}
 use Rattle.events.specs.declared.Events.{Events}
-use Rattle.events.specs.Bits.{bitsOf, hasEvent, nextEvent}
-use Rattle.events.specs.BitsLaws.{nextEvent-skips}
+use Rattle.events.specs.Bits.{bitsOf, hasEvent, eventSet, mostBits, HasRoom, withFirst, nextEvent}
+use Rattle.events.specs.BitsLaws.{eventSet-nil, nextEvent-skips}
 use Rattle.bounds.specs.declared.Judgement.{Judgement}
 use Rattle.bounds.specs.declared.Judgement.the-variants.{Contradiction, LeftOut, Kept}
 use Rattle.bounds.specs.Events.{nodeOf}
-use Rattle.bounds.specs.Tables.{Between}
+use Rattle.bounds.specs.Tables.{listed, Between}
 use Rattle.bounds.specs.Spans.{judgedAt}
 use Rattle.bounds.specs.Flat.{noBound, place, weightAt, Flat, flat, stored, keptAt, putAt, thenFlat, eachNode, putBounds, isBound, isBounded, boundedNodes, HasBounded, joinedAt, joinedCells, joinedRow, joinedRows, movedAt, movedRows}
-use Rattle.bounds.specs.BuildLaws.{hasEvent-listed}
+use Rattle.bounds.specs.BuildLaws.{eventSet-listed-fits, hasEvent-listed}
+use Rattle.bounds.specs.TablesLaws.{listed-ext}
 
 module _ (early late : List ℤ) (y z : ℕ) (v a : ℤ) (ws : List ℤ) where
   pub putAt-none : eqZ v noBound ≡ true → flat false ws ≡ putAt early late y z v a ws
@@ -184,6 +187,33 @@ boundedNodes-has ws s set e z h = ap (hasEvent z) e ∙ hasEvent-listed s (isBou
 
 pub HasBounded-same : (ws us : List ℤ) (s : ℕ) (set : Events) → ((z : ℕ) → z < s → weightAt us s z ≡ weightAt ws s z) → HasBounded ws s set → HasBounded us s set
 HasBounded-same ws us s set same has z h = has z h ∙ ap isBound (sym (same z h))
+
+-- the nodes from node z on, by how much they come after it: there are so many, and with one more in front, at the end with none
+abbrev pub boundedFrom : List ℤ → ℕ → ℕ → ℕ
+boundedFrom ws s z = eventSet (listed (s - z) (λ i. isBounded ws s (z + i)))
+
+module _ (ws : List ℤ) (s z : ℕ) where
+  pub boundedFrom-room : s < mostBits → HasRoom (boundedFrom ws s z)
+  boundedFrom-room h =
+      let few : s - z ≤ mostBits - 1 = omega arith in
+      omega (arith, eventSet-listed-fits (s - z) (λ i. isBounded ws s (z + i)), pow-mono few)
+
+  pub boundedFrom-end : s ≤ z → 0 ≡ boundedFrom ws s z
+  unfolding listed
+  boundedFrom-end h = let none : s - z ≡ 0 = omega arith in rw none (sym eventSet-nil)
+
+  pub boundedFrom-more : z < s → withFirst (isBounded ws s z) (boundedFrom ws s (z + 1)) ≡ boundedFrom ws s z
+  unfolding listed eventSet
+  boundedFrom-more h =
+      let left : suc (s - (z + 1)) ≡ s - z = omega arith in
+      ap₂ withFirst (ap (isBounded ws s) (sym (add-zero z)))
+      (ap eventSet (listed-ext (s - (z + 1)) _ _ (λ i l. let place : z + 1 + i ≡ z + suc i = omega arith in ap (isBounded ws s) place)))
+      ∙ ap (λ (k : ℕ). eventSet (listed k (λ i. isBounded ws s (z + i)))) left
+
+pub boundedFrom-all : (ws : List ℤ) (s : ℕ) → boundedFrom ws s 0 ≡ boundedNodes ws s
+boundedFrom-all ws s =
+    let all : s - 0 ≡ s = omega arith in
+    ap (λ (k : ℕ). eventSet (listed k (λ i. isBounded ws s (0 + i)))) all ∙ ap eventSet (listed-ext s _ _ (λ i l. ap (isBounded ws s) (zero-add i)))
 
 -- a node to which row s has no bound is passed by, so that the nodes of the set are enough
 module _ (early late : List ℤ) (s y : ℕ) (w : ℤ) (ws : List ℤ) (set : Events) (has : HasBounded ws s set) where

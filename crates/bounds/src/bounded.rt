@@ -13,12 +13,12 @@ pub fn bounded_nodes<'a>(weights: &'a [i32; Table::SIZE], s: usize) -> Events
 {
     let row = s * Table::SIDE;
     let mut set = Events::empty();
-    let mut z = 0;
-    while z < s {
+    let mut z = s;
+    while 0 < z {
+        z -= 1;
         let v = weights[row + z];
         let on = v != Table::NO_BOUND;
-        set = set.with_if(z, on);
-        z += 1;
+        set = set.with_first(on);
     }
     set
 }

@@ -1,6 +1,6 @@
 -- Sets of events as bits (document 01, 'Elimination': 'are kept as bits of two numbers, the origin not among them; in each the count of its
 -- terms is the count of ones').
-use Prim.Native.Nat.{ℕ, zero, suc, _+_, _*_, _/_, _%_, _^_}
+use Prim.Native.Nat.{ℕ, zero, suc, _+_, _*_, _/_, _-_, _%_, _^_, _<_}
 use mathlib.Core.Bool.{Bool, true, false, cond}
 use mathlib.Core.List.{List, [], _∷_}
 use lib.Dec.{eqb}
@@ -43,6 +43,13 @@ withIf on e s = cond on (withEvent e s) s
 -- as many events as a u64 has bits
 abbrev pub mostBits : ℕ
 mostBits = 64
+
+-- a set each of whose events can be one later; and that set, with event 0 where that is on
+abbrev pub HasRoom : ℕ → Type 0
+HasRoom s = s < 2 ^ (mostBits - 1)
+
+abbrev pub withFirst : Bool → ℕ → ℕ
+withFirst on s = cond on 1 0 + 2 * s
 
 -- how many of n events from event e on are in a set
 unfoldable pub countFrom : ℕ → ℕ → ℕ → ℕ

@@ -6,7 +6,7 @@ use mathlib.Core.Bool.{Bool}
 use mathlib.Core.List.{[]}
 use Rattle.text.specs.Unique.{only}
 use Rattle.events.specs.declared.Events.{Events}
-use Rattle.events.specs.Bits.{hasEvent, eventSet, withEvent, withIf, eventCount, nextEvent}
+use Rattle.events.specs.Bits.{hasEvent, eventSet, withEvent, withIf, withFirst, eventCount, nextEvent}
 
 events-unique : {r q : Events} {n : ℕ} → r .0 ≡ n → q .0 ≡ n → r ≡ q
 events-unique d e = ap (λ (n : ℕ). record { 0 = n }) (only d e)
@@ -22,6 +22,9 @@ with-unique e s = events-unique
 
 pub with-if-unique : (e : ℕ) (on : Bool) (s : Events) {r q : Events} → r .0 ≡ withIf on e (s .0) → q .0 ≡ withIf on e (s .0) → r ≡ q
 with-if-unique e on s = events-unique
+
+pub with-first-unique : (on : Bool) (s : Events) {r q : Events} → r .0 ≡ withFirst on (s .0) → q .0 ≡ withFirst on (s .0) → r ≡ q
+with-first-unique on s = events-unique
 
 pub count-unique : (s : Events) {r q : ℕ} → r ≡ eventCount (s .0) → q ≡ eventCount (s .0) → r ≡ q
 count-unique s = only

@@ -2,7 +2,7 @@
 ghost use mathlib.Core.Path.{_≡_};
 ghost use mathlib.Core.List.{[]};
 ghost use Prim.Native.Nat.{_<_};
-ghost use Rattle.events.specs.Bits.{hasEvent, eventSet, withEvent, withIf, mostBits, eventCount, nextEvent};
+ghost use Rattle.events.specs.Bits.{hasEvent, eventSet, withEvent, withIf, mostBits, HasRoom, withFirst, eventCount, nextEvent};
 
 // A set of events, by their numbers; or of a table's nodes, which are the origin and the events. Nothing outside of this file knows what holds it.
 pub struct Events(pub u64);
@@ -49,6 +49,18 @@ impl Events {
             return self.with(e);
         }
         self
+    }
+
+    // The set with each of its events one later, and event 0 where that is on: so a set is built from its last event down, which costs least.
+    pub fn with_first(self, on: bool) -> Events
+        requires { ⌜ HasRoom (self .0) ⌝ }
+        ensures { λ r. ⌜ r .0 ≡ withFirst on (self .0) ⌝ }
+    {
+        let s = self.0;
+        let later = 2 * s;
+        let first = on as u64;
+        let all = later + first;
+        Events(all)
     }
 
     // How many events are in the set.
