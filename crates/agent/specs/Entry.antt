@@ -6,8 +6,8 @@ use mathlib.Core.List.{List}
 use lib.IntN.{ℤ, pos, negℤ}
 use lib.ListN.{length}
 use Rattle.text.specs.Lent.{hasRoom, written}
-use Rattle.plan.specs.declared.Refusal.the-variants.{NoRoom}
-use Rattle.plan.specs.Refusals.{number}
+use Rattle.lines.specs.declared.Refusal.the-variants.{NoRoom}
+use Rattle.lines.specs.Refusals.{number}
 use Rattle.session.specs.Sessions.{dispatchOutput}
 
 -- what the entry answers to a session text and a lent slice

@@ -9,12 +9,12 @@ use lib.IntN.{ℤ, pos, negℤ}
 use lib.ListN.{length}
 use borrow.Author.Tests.{leb-true}
 use Rattle.text.specs.Lent.{hasRoom}
-use Rattle.plan.specs.declared.Refusal.{Refusal}
-use Rattle.plan.specs.declared.Refusal.the-variants.{NoRoom}
-use Rattle.plan.specs.Refusals.{number}
-use Rattle.plan.specs.declared.Written.{Written}
-use Rattle.plan.specs.declared.Written.the-variants.{Length, Refused}
-use Rattle.plan.specs.Written.{writtenAs}
+use Rattle.lines.specs.declared.Refusal.{Refusal}
+use Rattle.lines.specs.declared.Refusal.the-variants.{NoRoom}
+use Rattle.lines.specs.Refusals.{number}
+use Rattle.lines.specs.declared.Written.{Written}
+use Rattle.lines.specs.declared.Written.the-variants.{Length, Refused}
+use Rattle.lines.specs.Written.{writtenAs}
 use Rattle.session.specs.Sessions.{dispatchOutput, sessionAnswer}
 use Rattle.agent.specs.Entry.{entryAnswer}
 

@@ -1,5 +1,5 @@
 // The one entry, on session bytes and output bytes.
-use plan::Written;
+use lines::Written;
 ghost use mathlib.Core.Path.{_≡_};
 ghost use Prim.Native.Nat.{_≤_};
 ghost use lib.ListN.{length};
@@ -18,7 +18,7 @@ pub extern "C" fn gekumosari_session(text: &[u8], out: &mut [u8]) -> i64
     match told {
         Written::Length(length) => length as i64,
         Written::Refused(x) => {
-            let n = plan::number(x);
+            let n = lines::number(x);
             let wide = n as i64;
             0 - wide
         }

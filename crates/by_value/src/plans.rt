@@ -10,16 +10,16 @@ use crate::told::say;
 use crate::told::tell_line;
 use crate::told::tell_numbers;
 use crate::told::tell_refused;
+use lines::PlanAnswer;
+use lines::Written;
 use plan::Letter;
 use plan::Plan;
-use plan::PlanAnswer;
-use plan::Written;
 use rounds::VerdictTold;
 
 // The text that tells what is decided of a plan.
 fn answered(p: Plan) {
     let mut out = [0u8; 1024];
-    let told = calendars::answer_value(p, &mut out);
+    let told = values::answer_value(p, &mut out);
     match told {
         Written::Length(m) => say(&out[..m]),
         Written::Refused(x) => tell_refused(x),
@@ -28,7 +28,7 @@ fn answered(p: Plan) {
 
 // The same from the value: settled and what bounds job 1, or the refusal.
 fn decided(p: Plan) {
-    let d = calendars::decide_value(p);
+    let d = values::decide_value(p);
     let v = d.verdict;
     match v {
         VerdictTold::Settled(m) => {
@@ -66,7 +66,7 @@ fn wrote(p: Plan, out: &mut [u8]) {
 
 // The same of the text that tells what is decided of it.
 fn answered_in(p: Plan, out: &mut [u8]) {
-    let w = calendars::answer_value(p, out);
+    let w = values::answer_value(p, out);
     tell_written(w);
     say(out);
     say(b"\n");

@@ -74,7 +74,7 @@ fn taken(p: Plan, c: Calendar) {
 
 pub fn session_of_p() {
     let p = plan_p();
-    let d = calendars::decide_value(p);
+    let d = values::decide_value(p);
     let c = d.calendar;
     say(b"P2\n");
     let run = first_window(p, c);
@@ -158,7 +158,7 @@ fn second_job(p: Plan, c: Calendar, run: Run) {
 
 pub fn first_rows() {
     let p = example_1();
-    let d = calendars::decide_value(p);
+    let d = values::decide_value(p);
     let c = d.calendar;
     say(b"Figure 4\n");
     let run = first_job(p, c);

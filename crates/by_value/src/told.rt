@@ -3,7 +3,7 @@
 use calendars::Calendar;
 use clock::RunTime;
 use libc::STDOUT_FILENO;
-use plan::Refusal;
+use lines::Refusal;
 use runs::Answer;
 use runs::Answered;
 use runs::Run;
@@ -34,8 +34,8 @@ pub fn tell_line(key: &[u8], n: u64) {
 
 // The line of a refusal.
 pub fn tell_refused(x: Refusal) {
-    let number = plan::number(x);
-    let value = plan::value(x);
+    let number = lines::number(x);
+    let value = lines::value(x);
     say(b"refused=");
     tell_count(number, b",");
     tell_count(value, b"\n");

@@ -4,7 +4,7 @@ use calendars::MOST_BYTES;
 use libc::STDERR_FILENO;
 use libc::STDIN_FILENO;
 use libc::STDOUT_FILENO;
-use plan::LONGEST_TEXT;
+use lines::LONGEST_TEXT;
 
 fn main() {
     // One byte more than the longest text has, so that a longer one is told.

@@ -9,10 +9,10 @@ use Rattle.text.specs.Bytes.{bytes}
 use Rattle.text.specs.Lines.{LF, comma}
 use Rattle.text.specs.Numbers.{decimal, digits}
 use Rattle.plan.specs.declared.Plan.{Plan}
-use Rattle.plan.specs.Refusals.{refusedLine}
-use Rattle.plan.specs.Reading.{Reading, read, refused}
+use Rattle.lines.specs.Refusals.{refusedLine}
+use Rattle.lines.specs.Reading.{Reading, read, refused}
 use Rattle.plan.specs.PlanRead.{planAlone}
-use Rattle.plan.specs.PlanWritten.{keyed}
+use Rattle.lines.specs.Keyed.{keyed}
 use Rattle.calendars.specs.declared.Terms.{Terms}
 use Rattle.calendars.specs.declared.Calendar.{Calendar}
 use Rattle.rounds.specs.declared.Verdict.{Verdict}

@@ -17,16 +17,16 @@ use lib.ListN.{length, getD, length-append}
 use mir.Syntax.{w32, w64}
 use mir.Val.{SFits, toZ, ofZ}
 use mir.Facts.{toZ-ofZ, sfits-widen}
-use Rattle.whole.specs.Rules.{wholes}
 use Rattle.whole.specs.SplitLaws.{cast-wide}
 use Rattle.text.specs.Bytes.{bytes}
 use Rattle.text.specs.Lent.{Stored}
 use Rattle.text.specs.Lines.{LF, comma}
 use Rattle.text.specs.Numbers.{decimal, digits}
 use Rattle.text.specs.DigitLaws.{digits-short}
-use Rattle.text.specs.NumberLaws.{decimal-short, decimal-above}
+use Rattle.text.specs.NumberLaws.{decimal-short}
 use Rattle.plan.specs.Limits.{mostJobs}
-use Rattle.plan.specs.PlanWritten.{keyed}
+use Rattle.lines.specs.Keyed.{keyed}
+use Rattle.lines.specs.KeyedLaws.{keyed-short, count-short}
 use Rattle.events.specs.Bits.{hasEvent, mostBits, nextEvent}
 use Rattle.events.specs.BitsLaws.{nextEvent-has, nextEvent-skips}
 use Rattle.calendars.specs.declared.Terms.{Terms}
@@ -57,13 +57,6 @@ termLine-short jobs key e c k h f =
       eventBytes-short jobs e h,
       decimal-short c f,
     )
-
--- a line of a key and a number, before s
-keyed-short : (key : List ℕ) (z : ℤ) (s : List ℕ) → length key ≤ 8 → length (decimal z) ≤ 20 → length (keyed key z s) ≤ 29 + length s
-keyed-short key z s k d = omega (arith, length-append key (decimal z ++ (LF ∷ s)), length-append (decimal z) (LF ∷ s))
-
-count-short : (n : ℕ) → n < 2 ^ 64 → length (decimal (pos n)) ≤ 20
-count-short n h = rw (decimal-above (pos n) (omega wholes)) (digits-short n h)
 
 -- every number of a calendar fits its type
 pub record CalendarFits (c : Calendar) : Type 0 where
@@ -96,9 +89,9 @@ jobHead-short i t h f g =
     let low = keyed (bytes "low=") (t .low .0) high in
     omega (
       arith,
-      keyed-short (bytes "job=") (pos (i + 1)) low (omega arith) (count-short (i + 1) (omega arith)),
-      keyed-short (bytes "low=") (t .low .0) high (omega arith) (decimal-short (t .low .0) f),
-      keyed-short (bytes "high=") (t .high .0) [] (omega arith) (decimal-short (t .high .0) g),
+      keyed-short (bytes "job=") 8 (pos (i + 1)) low (omega arith) (count-short (i + 1) (omega arith)),
+      keyed-short (bytes "low=") 8 (t .low .0) high (omega arith) (decimal-short (t .low .0) f),
+      keyed-short (bytes "high=") 8 (t .high .0) [] (omega arith) (decimal-short (t .high .0) g),
     )
 
 module _ (jobs : ℕ) (c : Calendar) (few : jobs ≤ mostJobs) (fits : CalendarFits c) where
@@ -134,7 +127,7 @@ module _ (jobs : ℕ) (c : Calendar) (few : jobs ≤ mostJobs) (fits : CalendarF
   calendarText-short m h =
       omega (
         arith,
-        keyed-short (bytes "settled=") (pos m) (jobTexts jobs c 0 jobs) (omega arith) (count-short m h),
+        keyed-short (bytes "settled=") 8 (pos m) (jobTexts jobs c 0 jobs) (omega arith) (count-short m h),
         jobTexts-short 0 jobs (omega arith),
       )
 

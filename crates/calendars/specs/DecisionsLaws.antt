@@ -4,18 +4,19 @@
 -- (`plan-accepted`) or refused (`plan-refused`).
 
 use Prim.Native.Nat.{ℕ}
-use mathlib.Core.Path.{_≡_, refl, sym, ap, subst, _∙_}
+use mathlib.Core.Path.{_≡_, refl, sym, ap, _∙_}
 use mathlib.Core.List.{List}
 use native.Mathlib.Omega.{arith}
 use Rattle.plan.specs.declared.Plan.{Plan}
 use Rattle.plan.specs.declared.PlanRead.{PlanRead}
-use Rattle.plan.specs.declared.PlanAnswer.the-variants as planAnswer
-use Rattle.plan.specs.declared.Refusal.{Refusal}
-use Rattle.plan.specs.Refusals.{refusedLine}
-use Rattle.plan.specs.Reading.{Reading, read, refused}
+use Rattle.lines.specs.declared.PlanAnswer.the-variants as planAnswer
+use Rattle.lines.specs.declared.Refusal.{Refusal}
+use Rattle.lines.specs.Refusals.{refusedLine}
 use Rattle.plan.specs.PlanRead.{planAlone}
 use Rattle.plan.specs.PlanAnswers.{planRead}
 use Rattle.plan.specs.PlanLaws.{planAlone-accepted}
+use Rattle.plan.specs.PlanPartLaws.{planAlone-tail}
+use Rattle.plan.specs.HeadLaws.{planRead-took, planRead-fault}
 use Rattle.plan.specs.Accepted.{Accepted}
 use Rattle.bounds.specs.Tables.{Rows, Set, bounds}
 use Rattle.bounds.specs.Elimination.{thenSet}
@@ -89,22 +90,11 @@ pub record PlanTold (s : List ℕ) (r : PlanRead) : Type 0 where
 
 module _ (s : List ℕ) (r : PlanRead) (d : r ≡ planRead s (planAlone s)) where
   pub plan-accepted : r .answer ≡ planAnswer.Accepted → PlanTold s r
-  unfolding planRead answered
-  plan-accepted q = of (planAlone s) refl d
-    where
-      of : (m : Reading Plan) → planAlone s ≡ m → r ≡ planRead s m → PlanTold s r
-      of (read p t n) e g =
-          subst (PlanTold s) (sym g)
-          (record { output = sym (ap answered e); accepted = planAlone-accepted s e })
-      of (refused x t) e g = absurd (let f : r .answer ≡ planAnswer.Refused x = ap (λ (r : PlanRead). r .answer) g in let z : _≡_ {A = ℕ} 0 1 = cc in omega arith)
+  unfolding answered
+  plan-accepted q =
+      let e = planRead-took s {m = planAlone s} (planAlone-tail s) r d q in
+      record { output = sym (ap answered e); accepted = planAlone-accepted s e }
 
   pub plan-refused : (x : Refusal) → r .answer ≡ planAnswer.Refused x → refusedLine x ≡ calendarOutput s
-  unfolding planRead answered
-  plan-refused x q = of (planAlone s) refl d
-    where
-      of : (m : Reading Plan) → planAlone s ≡ m → r ≡ planRead s m → refusedLine x ≡ answered (planAlone s)
-      of (read p t n) e g = absurd (let f : r .answer ≡ planAnswer.Accepted = ap (λ (r : PlanRead). r .answer) g in let z : _≡_ {A = ℕ} 0 1 = cc in omega arith)
-      of (refused y t) e g =
-          let f : r .answer ≡ planAnswer.Refused y = ap (λ (r : PlanRead). r .answer) g in
-          let same : x ≡ y = cc in
-          ap refusedLine same ∙ sym (ap answered e)
+  unfolding answered
+  plan-refused x q = sym (ap answered (planRead-fault s {m = planAlone s} (planAlone-tail s) r d x q))

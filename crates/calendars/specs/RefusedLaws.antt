@@ -1,42 +1,46 @@
--- What is told of a plan's text, judged to its end, by what its reader answered: the refusal of its lines (`alone-refused`), nothing (`alone-settled`), or the
--- refusal of its verdict (`alone-judged`). a is the answer that is told.
+-- What is told of a text that begins with a plan, judged to its end, by what the reader of the plan answered: the refusal of its lines (`told-lines`), or the
+-- refusal of its verdict (`told-verdict`), whatever comes after a plan that is settled; and of a plan alone, nothing (`told-settled-alone`). a is the answer
+-- that is told.
 use Prim.Native.Nat.{ℕ}
 use mathlib.Core.Path.{_≡_, refl, sym, ap, subst, _∙_}
 use mathlib.Core.List.{List}
 use lib.ListN.{length, drop}
+use Rattle.lines.specs.declared.PlanAnswer.{PlanAnswer}
+use Rattle.lines.specs.declared.PlanAnswer.the-variants as planAnswer
+use Rattle.lines.specs.declared.Refusal.{Refusal}
+use Rattle.lines.specs.Reading.{Reading, refused}
+use Rattle.lines.specs.Answers.{answerNumber, answerValue, partAt, Told}
+use Rattle.lines.specs.PartLaws.{Tail, leaves, told-refused, told-none, end-empty}
 use Rattle.plan.specs.declared.Plan.{Plan}
 use Rattle.plan.specs.declared.PlanRead.{PlanRead}
-use Rattle.plan.specs.declared.PlanAnswer.{PlanAnswer}
-use Rattle.plan.specs.declared.PlanAnswer.the-variants as planAnswer
-use Rattle.plan.specs.declared.Refusal.{Refusal}
-use Rattle.plan.specs.Reading.{Reading}
 use Rattle.plan.specs.PlanRead.{planAlone}
-use Rattle.plan.specs.PlanAnswers.{planRead, answerNumber, answerValue, partAt, Told}
-use Rattle.plan.specs.PartLaws.{planAlone-tail, told-refused, told-none, end-empty}
+use Rattle.plan.specs.PlanAnswers.{planRead}
+use Rattle.plan.specs.PlanPartLaws.{planAlone-tail}
 use Rattle.rounds.specs.declared.VerdictTold.the-variants as told
 use Rattle.rounds.specs.Rounds.{verdict, verdictTold}
-use Rattle.rounds.specs.TextVerdict.{acceptedAlone}
+use Rattle.rounds.specs.TextVerdict.{verdictAfter, acceptedAlone}
 use Rattle.rounds.specs.TextVerdictLaws.{verdictAfter-refused, verdictAfter-settled, verdictAfter-judged}
 
-module _ (s : List ℕ) (r : PlanRead) (d : r ≡ planRead s (planAlone s)) (a : PlanAnswer) where
-  pub alone-refused : (x : Refusal) → r .answer ≡ planAnswer.Refused x → a ≡ planAnswer.Refused x
-      → Told (acceptedAlone s) (partAt s (r .at) a) (answerNumber a) (answerValue a)
-  alone-refused x q e =
-      subst (λ (m : Reading Plan). Told m (partAt s (r .at) a) (answerNumber a) (answerValue a))
-      (sym (verdictAfter-refused s (planAlone s) (planAlone-tail s) r d x q))
-      (told-refused s a (r .at) x e refl)
+-- what comes after the plan's verdict keeps a refusal
+module _ {A : Type 0} (behind : Reading Plan → Reading A) (keeps : (x : Refusal) (t : List ℕ) → behind (refused x t) ≡ refused x t) where
+  module _ (s : List ℕ) (m : Reading Plan) (tail : Tail s (leaves m)) (r : PlanRead) (d : r ≡ planRead s m) (a : PlanAnswer) (x : Refusal) (e : a ≡ planAnswer.Refused x) where
+    refusal-told : {t : List ℕ} → verdictAfter m ≡ refused x t → (at : ℕ) → drop at s ≡ t
+        → Told (behind (verdictAfter m)) (partAt s at a) (answerNumber a) (answerValue a)
+    refusal-told {t} f at p =
+        subst (λ (m : Reading A). Told m (partAt s at a) (answerNumber a) (answerValue a)) (sym (ap behind f ∙ keeps x t)) (told-refused s a at x e p)
 
-  module _ (q : r .answer ≡ planAnswer.Accepted) where
-    pub alone-settled : (k : ℕ) → verdictTold (verdict (r .plan)) ≡ told.Settled k → a ≡ planAnswer.Accepted
-        → Told (acceptedAlone s) (partAt s (r .at) a) (answerNumber a) (answerValue a)
-    alone-settled k v e =
-        subst (λ (m : Reading Plan). Told m (partAt s (r .at) a) (answerNumber a) (answerValue a))
-        (sym (verdictAfter-settled s (planAlone s) (planAlone-tail s) r d q k v))
-        (told-none s a (r .at) (r .plan) (drop (r .at) s) (r .line) e)
+    pub told-lines : r .answer ≡ planAnswer.Refused x → Told (behind (verdictAfter m)) (partAt s (r .at) a) (answerNumber a) (answerValue a)
+    told-lines q = refusal-told (verdictAfter-refused s m tail r d x q) (r .at) refl
 
-    pub alone-judged : (x : Refusal) → verdictTold (verdict (r .plan)) ≡ told.Refused x → a ≡ planAnswer.Refused x → (at : ℕ) → at ≡ length s
-        → Told (acceptedAlone s) (partAt s at a) (answerNumber a) (answerValue a)
-    alone-judged x v e at l =
-        subst (λ (m : Reading Plan). Told m (partAt s at a) (answerNumber a) (answerValue a))
-        (sym (verdictAfter-judged s (planAlone s) r d q x v))
-        (told-refused s a at x e (ap (λ (k : ℕ). drop k s) l ∙ end-empty s))
+    pub told-verdict : r .answer ≡ planAnswer.Accepted → verdictTold (verdict (r .plan)) ≡ told.Refused x → (at : ℕ) → at ≡ length s
+        → Told (behind (verdictAfter m)) (partAt s at a) (answerNumber a) (answerValue a)
+    told-verdict q v at l = refusal-told (verdictAfter-judged s m tail r d q x v) at (ap (λ (k : ℕ). drop k s) l ∙ end-empty s)
+
+-- a plan alone that is settled
+pub told-settled-alone : (s : List ℕ) (r : PlanRead) → r ≡ planRead s (planAlone s) → r .answer ≡ planAnswer.Accepted
+    → (k : ℕ) → verdictTold (verdict (r .plan)) ≡ told.Settled k → (a : PlanAnswer) → a ≡ planAnswer.Accepted
+    → Told (acceptedAlone s) (partAt s (r .at) a) (answerNumber a) (answerValue a)
+told-settled-alone s r d q k v a e =
+    subst (λ (m : Reading Plan). Told m (partAt s (r .at) a) (answerNumber a) (answerValue a))
+    (sym (verdictAfter-settled s (planAlone s) (planAlone-tail s) r d q k v))
+    (told-none s a (r .at) (r .plan) (drop (r .at) s) (r .line) e)

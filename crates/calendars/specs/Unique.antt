@@ -8,23 +8,19 @@ use lib.ListN.{length, take}
 use Rattle.text.specs.Unique.{only, stored-unique}
 use Rattle.text.specs.Lent.{Stored, written}
 use Rattle.plan.specs.declared.Plan.{Plan}
-use Rattle.plan.specs.declared.Written.{Written}
-use Rattle.plan.specs.Written.{writtenAs}
-use Rattle.plan.specs.Reading.{refusedNumber, refusedValue, faultyPart}
-use Rattle.plan.specs.PlanWritten.{judgedPlan}
+use Rattle.lines.specs.declared.Written.{Written}
+use Rattle.lines.specs.Written.{writtenAs}
+use Rattle.lines.specs.Reading.{refusedNumber, refusedValue, faultyPart}
 use Rattle.bounds.specs.Events.{nodes}
 use Rattle.bounds.specs.Flat.{rowsOf}
 use Rattle.rounds.specs.declared.Verdict.{Verdict}
-use Rattle.rounds.specs.declared.VerdictTold.{VerdictTold}
 use Rattle.rounds.specs.Rounds.{outcome, verdict}
 use Rattle.rounds.specs.TextVerdict.{acceptedAlone}
 use Rattle.calendars.specs.declared.Calendar.{Calendar}
 use Rattle.calendars.specs.declared.Decision.{Decision}
-use Rattle.calendars.specs.declared.ValueDecision.{ValueDecision}
 use Rattle.calendars.specs.Calendars.{beforeStarts, calendarOf, noCalendar, madeCalendar}
-use Rattle.calendars.specs.CalendarText.{calendarText, calendarOutput}
-use Rattle.calendars.specs.Whole.{writtenWhole}
-use Rattle.calendars.specs.Decisions.{valueVerdict, valueCalendar, valueText}
+use Rattle.calendars.specs.CalendarText.{calendarText, decisionText, calendarOutput}
+use Rattle.lines.specs.Whole.{writtenWhole}
 
 -- ---- the calendar and its text
 
@@ -49,6 +45,16 @@ pub decide-unique : (p : Plan) {r q : Decision} → (r .verdict ≡ verdict p) �
     → r ≡ q
 decide-unique p d e = ap₂ (λ (v : Verdict) (c : Calendar). record { verdict = v; calendar = c }) (only (d .0) (e .0)) (only (d .1) (e .1))
 
+pub write-decision-unique : (jobs : ℕ) (v : Verdict) (c : Calendar) (out : List ℕ) {r q : Written} → r ≡ writtenAs (decisionText jobs v c) out
+    → q ≡ writtenAs (decisionText jobs v c) out
+    → r ≡ q
+write-decision-unique jobs v c out = only
+
+pub write-decision-bytes-unique : (jobs : ℕ) (v : Verdict) (c : Calendar) (out : List ℕ) {o p : List ℕ} → o ≡ written (decisionText jobs v c) out
+    → p ≡ written (decisionText jobs v c) out
+    → o ≡ p
+write-decision-bytes-unique jobs v c out = only
+
 pub answer-unique : (s out : List ℕ) {r q : Written} → r ≡ writtenAs (calendarOutput s) out → q ≡ writtenAs (calendarOutput s) out → r ≡ q
 answer-unique s out = only
 
@@ -72,20 +78,3 @@ module _ (s : List ℕ) where
 
   pub refused-in-plan-value-unique : {n m : ℕ} → n ≡ refusedValue (acceptedAlone s) → m ≡ refusedValue (acceptedAlone s) → n ≡ m
   refused-in-plan-value-unique = only
-
--- ---- a plan as a value
-
-pub decide-value-unique : (p : Plan) {r q : ValueDecision} → (r .verdict ≡ valueVerdict p (judgedPlan p)) × (r .calendar ≡ valueCalendar p (judgedPlan p))
-    → (q .verdict ≡ valueVerdict p (judgedPlan p)) × (q .calendar ≡ valueCalendar p (judgedPlan p))
-    → r ≡ q
-decide-value-unique p d e = ap₂ (λ (v : VerdictTold) (c : Calendar). record { verdict = v; calendar = c }) (only (d .0) (e .0)) (only (d .1) (e .1))
-
-pub answer-value-unique : (p : Plan) (out : List ℕ) {r q : Written} → r ≡ writtenAs (valueText p (judgedPlan p)) out
-    → q ≡ writtenAs (valueText p (judgedPlan p)) out
-    → r ≡ q
-answer-value-unique p out = only
-
-pub answer-value-bytes-unique : (p : Plan) (out : List ℕ) {o u : List ℕ} → o ≡ written (valueText p (judgedPlan p)) out
-    → u ≡ written (valueText p (judgedPlan p)) out
-    → o ≡ u
-answer-value-bytes-unique p out = only

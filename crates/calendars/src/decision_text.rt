@@ -2,9 +2,9 @@
 use crate::Calendar;
 use crate::MOST_BYTES;
 use crate::print::put_calendar;
-use plan::Refusal;
-use plan::Written;
-use plan::put_refused;
+use lines::Refusal;
+use lines::Written;
+use lines::put_refused;
 use rounds::Verdict;
 use rounds::VerdictTold;
 use rounds::tell_verdict;
@@ -13,7 +13,7 @@ ghost use Prim.Native.Nat.{_≤_};
 ghost use lib.ListN.{length};
 ghost use Rattle.text.specs.Lent.{Stored, written};
 ghost use Rattle.plan.specs.Limits.{mostJobs};
-ghost use Rattle.plan.specs.Written.{writtenAs};
+ghost use Rattle.lines.specs.Written.{writtenAs};
 ghost use Rattle.calendars.specs.CalendarText.{decisionText, mostCalendarBytes};
 
 // The text of a decision, as far as there is room; answers its length.

@@ -3,7 +3,6 @@
 use clock::WindowTime;
 use events::Events;
 use rounds::Verdict;
-use rounds::VerdictTold;
 
 // What bounds the start of one job: the origin's two bounds on the window's own clock, and the events that bound it from below and
 // from above. Events are numbered in the calendar's order: the previous window's events first, by job, s before f, then the present window's. The origin is
@@ -35,13 +34,6 @@ pub struct Decision {
     pub calendar: Calendar,
 }
 
-// What is decided of a plan that was handed over as a value: settled in a round, or refused, by 1, 2 or 3 with the line that its text would have, or by 4 or 5;
-// beside a refusal a calendar that says nothing.
-pub struct ValueDecision {
-    pub verdict: VerdictTold,
-    pub calendar: Calendar,
-}
-
 // No calendar's text has more bytes.
 pub const MOST_BYTES: usize = 32_768;
 
@@ -58,15 +50,13 @@ mod printed;
 mod program;
 mod recorded;
 mod refused;
-mod value;
 mod walk;
 
 pub use decided::decide;
+pub use decision_text::write_decision;
 pub use print::put_calendar;
 pub use printed::answer_read;
 pub use program::answer;
 pub use refused::refused_in_plan;
-pub use value::answer_value;
-pub use value::decide_value;
 pub use walk::calendar_of;
 pub use walk::empty_calendar;

@@ -122,9 +122,9 @@ fn put_head(out: &mut [u8], at: usize, i: usize, terms: Terms) -> usize
     let low = terms.low;
     let high = terms.high;
     let number = i as u64 + 1;
-    let second = values::put_count_line(out, at, b"job=", number);
-    let third = values::put_line(out, second, b"low=", low.0);
-    values::put_line(out, third, b"high=", high.0)
+    let second = lines::put_count_line(out, at, b"job=", number);
+    let third = lines::put_line(out, second, b"low=", low.0);
+    lines::put_line(out, third, b"high=", high.0)
 }
 
 // One job, at place i: its head, and its terms on both sides.
@@ -179,6 +179,6 @@ pub fn put_calendar(out: &mut [u8], at: usize, jobs: usize, m: u64, c: Calendar)
     ensures { λ r. ⌜ Stored (now (out .entry)) at (calendarText jobs m c) (now (out .exit)) r ⌝ }
     ensures { λ r. ⌜ r ≤ at + mostCalendarBytes ⌝ }
 {
-    let next = values::put_count_line(out, at, b"settled=", m);
+    let next = lines::put_count_line(out, at, b"settled=", m);
     put_jobs(out, next, jobs, c)
 }

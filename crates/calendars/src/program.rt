@@ -1,14 +1,14 @@
 // The calendar program, from the bytes of its input to those of its output.
 use crate::decided::decide;
 use crate::decision_text::write_decision;
-use plan::PlanAnswer;
-use plan::Written;
-use plan::write_refused;
+use lines::PlanAnswer;
+use lines::Written;
+use lines::write_refused;
 ghost use mathlib.Core.Path.{_≡_};
 ghost use Prim.Native.Nat.{_≤_};
 ghost use lib.ListN.{length};
 ghost use Rattle.text.specs.Lent.{written};
-ghost use Rattle.plan.specs.Written.{writtenAs};
+ghost use Rattle.lines.specs.Written.{writtenAs};
 ghost use Rattle.calendars.specs.CalendarText.{calendarOutput, mostCalendarBytes};
 
 // The answer to a plan's text: the calendar of a settled plan, or the line of the plan's refusal; 12 and not one byte changed, where it has no room. 32,768 bytes

@@ -1,11 +1,11 @@
 // The refusal of a plan's text, judged to its end.
 use crate::decided::decide;
-use plan::PlanAnswer;
-use plan::tell_refusal;
+use lines::PlanAnswer;
+use lines::tell_refusal;
 use rounds::VerdictTold;
 use rounds::tell_verdict;
 ghost use mathlib.Core.Path.{_≡_};
-ghost use Rattle.plan.specs.Reading.{refusedNumber, refusedValue, faultyPart};
+ghost use Rattle.lines.specs.Reading.{refusedNumber, refusedValue, faultyPart};
 ghost use Rattle.rounds.specs.TextVerdict.{acceptedAlone};
 
 // What refuses a text that is to be a plan and nothing else, its verdict included: n and d become the number and the value of the refusal, and the faulty line

@@ -3,7 +3,7 @@
 use libc::STDERR_FILENO;
 use libc::STDIN_FILENO;
 use libc::STDOUT_FILENO;
-use plan::LONGEST_TEXT;
+use lines::LONGEST_TEXT;
 use session::MOST_BYTES;
 
 fn main() {

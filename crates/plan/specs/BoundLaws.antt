@@ -16,9 +16,11 @@ use Rattle.text.specs.LineLaws.{hasKey-true, hasKey-false, hasKey-fits}
 use Rattle.text.specs.NumberLaws.{decimal-form, decimal-back, numberIn-value}
 use lib.IntN.{ℤ}
 use Rattle.text.specs.Numbers.{within, isNumber, numberValue, numberIn, numberWithin, decimal}
-use Rattle.text.specs.declared.Fault.{Fault}
+use Rattle.text.specs.declared.NumberFault.{NumberFault}
+use Rattle.text.specs.declared.NumberFault.the-variants as numberFault
 use Rattle.text.specs.declared.Number.the-variants as number
-use Rattle.text.specs.declared.Fault.the-variants as fault
+use Rattle.lines.specs.declared.Fault.the-variants as fault
+use Rattle.lines.specs.Refusals.{lineLacks}
 use Rattle.plan.specs.declared.EventName.{EventName}
 use Rattle.plan.specs.declared.NameRead.{NameRead}
 use Rattle.plan.specs.declared.NameRead.the-variants as nameRead
@@ -165,7 +167,7 @@ module _ (jobs : ℕ) (isWrong : EventName → EventName → Bool) (l : List ℕ
         formed : partsOf (some a) (some b) (decimal z) ≡ some (record { a = a; b = b; c = decimal z })
         formed = rw (decimal-form z)
 
-    pub boundOf-fault : {f : Fault} → numberIn leastC greatestC (drop at l) ≡ number.Bad f → boundOf jobs isWrong (boundParts (afterKey (bytes "bound=") l)) ≡ boundLine.Bad f
+    pub boundOf-fault : {f : NumberFault} → numberIn leastC greatestC (drop at l) ≡ number.Bad f → boundOf jobs isWrong (boundParts (afterKey (bytes "bound=") l)) ≡ boundLine.Bad (lineLacks f)
     unfolding boundOf numberIn
     boundOf-fault {f} d = ap (boundOf jobs isWrong) (namesIn-parts l ∙ ap (partsFrom l) e) ∙ by-form (isNumber (drop at l)) refl d
       where
@@ -177,12 +179,12 @@ module _ (jobs : ℕ) (isWrong : EventName → EventName → Bool) (l : List ℕ
         none-in true false = refl
         none-in false y = refl
 
-        by-range : (t : Bool) → within leastC greatestC (numberValue c) ≡ t → cond t (number.Value (numberValue c)) (number.Bad fault.Range) ≡ number.Bad f
-            → judgedBound jobs isWrong (record { a = a; b = b; c = numberValue c }) ≡ boundLine.Bad f
+        by-range : (t : Bool) → within leastC greatestC (numberValue c) ≡ t → cond t (number.Value (numberValue c)) (number.Bad numberFault.Range) ≡ number.Bad f
+            → judgedBound jobs isWrong (record { a = a; b = b; c = numberValue c }) ≡ boundLine.Bad (lineLacks f)
         by-range true h g = absurd (let z : _≡_ {A = ℕ} 0 1 = cc in omega arith)
-        by-range false h g = rw (h, none-in (isJob jobs (a .job)) (isJob jobs (b .job))) (ap boundLine.Bad {x = fault.Range} {y = f} (cc))
+        by-range false h g = rw (h, none-in (isJob jobs (a .job)) (isJob jobs (b .job))) (ap (λ (f : NumberFault). boundLine.Bad (lineLacks f)) {x = numberFault.Range} {y = f} (cc))
 
-        by-form : (t : Bool) → isNumber c ≡ t → cond t (numberWithin leastC greatestC (numberValue c)) (number.Bad fault.Form) ≡ number.Bad f
-            → boundOf jobs isWrong (cond t (some (record { a = a; b = b; c = c })) none) ≡ boundLine.Bad f
+        by-form : (t : Bool) → isNumber c ≡ t → cond t (numberWithin leastC greatestC (numberValue c)) (number.Bad numberFault.Form) ≡ number.Bad f
+            → boundOf jobs isWrong (cond t (some (record { a = a; b = b; c = c })) none) ≡ boundLine.Bad (lineLacks f)
         by-form true h g = by-range (within leastC greatestC (numberValue c)) refl g
-        by-form false h g = ap boundLine.Bad {x = fault.Form} {y = f} (cc)
+        by-form false h g = ap (λ (f : NumberFault). boundLine.Bad (lineLacks f)) {x = numberFault.Form} {y = f} (cc)

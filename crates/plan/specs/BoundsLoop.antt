@@ -13,19 +13,20 @@ use lib.Seq.{take-suc-set}
 use Rattle.text.specs.Bytes.{bytes}
 use Rattle.text.specs.Lines.{LF, before, afterKey}
 use Rattle.text.specs.Numbers.{within, numberValue}
-use Rattle.text.specs.declared.Fault.the-variants as fault
+use Rattle.lines.specs.declared.Fault.the-variants as fault
 use Rattle.plan.specs.declared.Bound.{Bound}
 use Rattle.plan.specs.declared.BoundLine.the-variants as boundLine
-use Rattle.plan.specs.declared.Faulty.{Faulty}
+use Rattle.lines.specs.declared.Faulty.{Faulty}
 use Rattle.plan.specs.Limits.{mostBounds, leastC, greatestC}
-use Rattle.plan.specs.Reading.{read, next, line}
+use Rattle.lines.specs.Reading.{read, next, line}
 use Rattle.plan.specs.PlanRead.{BoundParts, boundParts, isJob, isWrongPair, judgedBound, boundOf, linedBound, boundIn, boundsAfter, noBound, filled}
 use Rattle.plan.specs.Accepted.{BoundAccepted}
 use Rattle.plan.specs.Pairs.{pairOf, isWrongNumbered}
 use Rattle.plan.specs.PairLaws.{Small, isWrongNumbered-pair}
-use Rattle.plan.specs.ReadAt.{faultyIn, boundLined}
+use Rattle.lines.specs.ReadAt.{faultyIn}
+use Rattle.plan.specs.ReadAt.{boundLined}
 use Rattle.plan.specs.ListLaws.{All, All-more, Filling, Filling-start, Filling-more, Filling-end}
-use Rattle.plan.specs.ReadingLaws.{line-read}
+use Rattle.lines.specs.ReadingLaws.{line-read}
 use Rattle.plan.specs.PlanLaws.{isJob-range, boundIn-read}
 
 -- ---- the pairs given, by their numbers

@@ -1,6 +1,7 @@
 -- The laws by which the reader of a plan is right: the length comes first (`planHead-long`, `planHead-short`), each group of lines ends with its refusal (`planRest-jobs`,
--- `-count`, `-bounds`) or all are read (`planRest-all`), and an answer with a place is the answer that the definition tells (`planRead-refused`, `planRead-accepted`).
-use mathlib.Core.Path.{_≡_, refl, sym, _∙_, ap}
+-- `-count`, `-bounds`) or all are read (`planRest-all`), and an answer with a place is the answer that the definition tells (`planRead-refused`, `planRead-accepted`). Back from an
+-- answer: the text was read as its plan (`planRead-took`), or refused at its place (`planRead-fault`).
+use mathlib.Core.Path.{_≡_, refl, sym, _∙_, ap, subst}
 use mathlib.Core.List.{List, [], _∷_}
 use Prim.Native.Nat.{ℕ, _-_, _≤_, _<_}
 use native.Mathlib.Omega.{arith}
@@ -9,20 +10,21 @@ use lib.IntN.{ℤ, pos, natAbs}
 use lib.ListN.{length, drop, length-drop, length-append}
 use lib.Seq.{drop-length}
 use Rattle.text.specs.Bytes.{bytes}
-use Rattle.plan.specs.declared.Refusal.{Refusal}
-use Rattle.plan.specs.declared.Refusal.the-variants.{Form}
-use Rattle.plan.specs.declared.Faulty.{Faulty}
+use Rattle.lines.specs.declared.Refusal.{Refusal}
+use Rattle.lines.specs.declared.Refusal.the-variants.{Form}
+use Rattle.lines.specs.declared.Faulty.{Faulty}
 use Rattle.plan.specs.declared.Job.{Job}
 use Rattle.plan.specs.declared.Bound.{Bound}
 use Rattle.plan.specs.declared.Plan.{Plan}
-use Rattle.plan.specs.declared.PlanAnswer.the-variants.{Accepted, Refused}
-use Rattle.plan.specs.Limits.{longestText}
-use Rattle.plan.specs.Reading.{Reading, read, refused, next, numberLine}
+use Rattle.plan.specs.declared.PlanRead.{PlanRead}
+use Rattle.lines.specs.PartLaws.{Tail, tail-place, leaves}
+use Rattle.lines.specs.declared.PlanAnswer.the-variants.{Accepted, Refused}
+use Rattle.lines.specs.Reading.{longestText, Reading, read, refused, next, numberLine}
 use Rattle.plan.specs.PlanRead.{jobsAfter, boundsAfter, planOf, planRest, planLines, planHead, nothingAfter}
 use Rattle.plan.specs.PlanWritten.{planText}
 use Rattle.plan.specs.PlanLaws.{planHead-written}
 use Rattle.plan.specs.PlanAnswers.{planRead, refusedRead}
-use Rattle.plan.specs.ReadAt.{faultyIn}
+use Rattle.lines.specs.ReadAt.{faultyIn}
 
 -- ---- the length
 
@@ -69,6 +71,36 @@ module _ (s : List ℕ) {m : Reading Plan} where
   pub planRead-accepted : (p : Plan) (at n : ℕ) → at ≤ length s → m ≡ read p (drop at s) n → planRead s m ≡ record { answer = Accepted; plan = p; at = at; line = n }
   unfolding planRead
   planRead-accepted p at n h e = ap (planRead s) e ∙ rw (place-back s at h)
+
+-- ---- and back: what was read where the text was accepted, where it was refused, and that the place is one of the text
+
+module _ (s : List ℕ) {m : Reading Plan} (tail : Tail s (leaves m)) (r : PlanRead) (d : r ≡ planRead s m) where
+  pub planRead-took : r .answer ≡ Accepted → m ≡ read (r .plan) (drop (r .at) s) (r .line)
+  unfolding planRead
+  planRead-took q = of m tail d
+    where
+      of : (m : Reading Plan) → Tail s (leaves m) → r ≡ planRead s m → m ≡ read (r .plan) (drop (r .at) s) (r .line)
+      of (read p t n) h e =
+          subst (λ (r : PlanRead). read p t n ≡ read (r .plan) (drop (r .at) s) (r .line)) (sym e)
+          (ap (λ (u : List ℕ). read p u n) (sym (tail-place h)))
+      of (refused x t) h e = absurd (let f : r .answer ≡ Refused x = ap (λ (r : PlanRead). r .answer) e in let z : _≡_ {A = ℕ} 0 1 = cc in omega arith)
+
+  pub planRead-fault : (x : Refusal) → r .answer ≡ Refused x → m ≡ refused x (drop (r .at) s)
+  unfolding planRead
+  planRead-fault x q = of m tail d
+    where
+      of : (m : Reading Plan) → Tail s (leaves m) → r ≡ planRead s m → m ≡ refused x (drop (r .at) s)
+      of (read p t n) h e = absurd (let f : r .answer ≡ Accepted = ap (λ (r : PlanRead). r .answer) e in let z : _≡_ {A = ℕ} 0 1 = cc in omega arith)
+      of (refused y t) h e =
+          let f : r .answer ≡ Refused y = ap (λ (r : PlanRead). r .answer) e in
+          let same : y ≡ x = cc in
+          let place : drop (r .at) s ≡ t = ap (λ (r : PlanRead). drop (r .at) s) e ∙ tail-place h in
+          ap (λ (x : Refusal). refused x t) same ∙ ap (refused x) (sym place)
+
+pub planRead-placed : (s : List ℕ) (m : Reading Plan) (r : PlanRead) → r ≡ planRead s m → r .at ≤ length s
+unfolding planRead
+planRead-placed s (read p t n) r e = subst (λ (r : PlanRead). r .at ≤ length s) (sym e) (omega arith)
+planRead-placed s (refused x t) r e = subst (λ (r : PlanRead). r .at ≤ length s) (sym e) (omega arith)
 
 -- ---- a plan alone: what follows its last line is a line too many
 

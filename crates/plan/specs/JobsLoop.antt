@@ -9,11 +9,11 @@ use native.Mathlib.Numerals.{add-one}
 use lib.ListN.{length, take, drop, set, replicate}
 use lib.Seq.{take-suc-set}
 use Rattle.plan.specs.declared.Job.{Job}
-use Rattle.plan.specs.declared.Faulty.{Faulty}
+use Rattle.lines.specs.declared.Faulty.{Faulty}
 use Rattle.plan.specs.Limits.{mostJobs}
-use Rattle.plan.specs.Reading.{read, next}
+use Rattle.lines.specs.Reading.{read, next}
 use Rattle.plan.specs.PlanRead.{jobLines, jobsAfter, noJob, filled}
-use Rattle.plan.specs.ReadAt.{faultyIn}
+use Rattle.lines.specs.ReadAt.{faultyIn}
 use Rattle.plan.specs.ListLaws.{Filling, Filling-start, Filling-more, Filling-end}
 
 pub record JobsPassed (s : List ℕ) (from jobs : ℕ) (job : List Job) (at line i : ℕ) : Type 0 where

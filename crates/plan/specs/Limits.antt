@@ -2,10 +2,6 @@
 use Prim.Native.Nat.{ℕ}
 use lib.IntN.{ℤ, pos, negℤ}
 
--- 'At most 65,536 bytes, a session's steps counted in.'
-abbrev pub longestText : ℕ
-longestText = 65536
-
 -- '`window=` | 1..86,400,000'
 abbrev pub longestWindow : ℤ
 longestWindow = pos 86400000

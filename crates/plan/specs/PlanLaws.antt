@@ -19,22 +19,23 @@ use Rattle.text.specs.Lines.{LF, comma, before, has, after, afterKey}
 use Rattle.text.specs.LineLaws.{has-split, afterKey-split}
 use Rattle.text.specs.NumberLaws.{number-back}
 use Rattle.text.specs.Numbers.{isNumber, numberValue, decimal}
-use Rattle.text.specs.declared.Fault.the-variants as fault
+use Rattle.lines.specs.declared.Fault.the-variants as fault
 use Rattle.plan.specs.declared.Job.{Job}
 use Rattle.plan.specs.declared.EventName.{EventName}
 use Rattle.plan.specs.declared.Bound.{Bound}
 use Rattle.plan.specs.declared.BoundLine.the-variants as boundLine
 use Rattle.plan.specs.declared.Plan.{Plan}
-use Rattle.plan.specs.Limits.{longestText, mostJobs, mostBounds, leastC, greatestC}
-use Rattle.plan.specs.Refusals.{tooLong}
-use Rattle.plan.specs.Reading.{value, Reading, read, refused, Reader, next}
+use Rattle.lines.specs.Reading.{longestText, value, Reading, read, refused, Reader, next}
+use Rattle.plan.specs.Limits.{mostJobs, mostBounds, leastC, greatestC}
+use Rattle.lines.specs.Refusals.{tooLong}
 use Rattle.plan.specs.PlanRead.{jobLines, jobsAfter, BoundParts, partsOf, boundParts, isJob, isWrongPair, boundOf, linedBound, boundIn, boundsAfter, noJob, noBound, filled, planOf, planLines, planHead, nothingAfter, planAlone}
 use Rattle.plan.specs.EventNames.{nameBytes, eventName}
 use Rattle.plan.specs.EventNameLaws.{eventName-written}
-use Rattle.plan.specs.PlanWritten.{keyed, boundBytes, jobsText, boundsText, trimmed, planText}
+use Rattle.lines.specs.Keyed.{keyed}
+use Rattle.plan.specs.PlanWritten.{boundBytes, jobsText, boundsText, trimmed, planText}
 use Rattle.plan.specs.ListLaws.{All, All-at, filled-length, filled-at, filled-take, filled-all}
 use Rattle.plan.specs.Accepted.{JobAccepted, BoundAccepted, Accepted}
-use Rattle.plan.specs.ReadingLaws.{Then, _>>=_, next-then, next-of, line-read, line-written, numberLine-then, countLine-then}
+use Rattle.lines.specs.ReadingLaws.{Then, _>>=_, next-then, next-of, line-read, line-written, numberLine-then, countLine-then}
 
 -- ---- jobs
 

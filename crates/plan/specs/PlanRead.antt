@@ -4,12 +4,12 @@ use mathlib.Core.Bool.{Bool, false, not, cond, _&&_, _||_}
 use mathlib.Core.List.{List, [], _∷_, _++_}
 use mathlib.Core.Option.{Option, none, some}
 use lib.Dec.{leb}
-use lib.IntN.{ℤ, pos, natAbs}
+use lib.IntN.{ℤ, pos}
 use lib.ListN.{length, replicate}
 use Rattle.text.specs.Bytes.{bytes}
 use Rattle.text.specs.Lines.{comma, before, has, after, afterKey}
 use Rattle.text.specs.Numbers.{isNumber, numberValue, within, isEmpty}
-use Rattle.text.specs.declared.Fault.the-variants as fault
+use Rattle.lines.specs.declared.Fault.the-variants as fault
 use Rattle.plan.specs.declared.Job.{Job}
 use Rattle.plan.specs.declared.Letter.the-variants.{This}
 use Rattle.plan.specs.declared.Kind.the-variants.{Start}
@@ -18,28 +18,11 @@ use Rattle.plan.specs.declared.Bound.{Bound}
 use Rattle.plan.specs.declared.BoundLine.{BoundLine}
 use Rattle.plan.specs.declared.BoundLine.the-variants as boundLine
 use Rattle.plan.specs.declared.Plan.{Plan}
-use Rattle.plan.specs.declared.Refusal.the-variants.{Form}
-use Rattle.plan.specs.Limits.{
-  longestText,
-  longestWindow,
-  mostRounds,
-  mostWindows,
-  mostJobs,
-  longestRunning,
-  latestDeadline,
-  mostBounds,
-  leastC,
-  greatestC,
-}
-use Rattle.plan.specs.Refusals.{tooLong}
-use Rattle.plan.specs.Reading.{Lined, value, bad, Reading, read, refused, Reader, _>>=_, answer, line, numberLine}
+use Rattle.lines.specs.declared.Refusal.the-variants.{Form}
+use Rattle.lines.specs.Reading.{longestText, Lined, value, bad, Reading, read, refused, Reader, _>>=_, answer, line, numberLine, countLine}
+use Rattle.plan.specs.Limits.{longestWindow, mostRounds, mostWindows, mostJobs, longestRunning, latestDeadline, mostBounds, leastC, greatestC}
+use Rattle.lines.specs.Refusals.{tooLong}
 use Rattle.plan.specs.EventNames.{eventName, sameEvent, isNext}
-
--- a line that is a key and a count
-abbrev pub countLine : List ℕ → ℕ → ℕ → Reader ℕ
-countLine key lo hi = do
-  z ← numberLine key (pos lo) (pos hi)
-  answer (natAbs z)
 
 -- ---- jobs
 

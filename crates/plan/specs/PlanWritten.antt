@@ -2,7 +2,7 @@
 use Prim.Native.Nat.{ℕ}
 use mathlib.Core.List.{List, [], _∷_, _++_}
 use mathlib.Core.Option.{Option, none, some}
-use lib.IntN.{ℤ, pos}
+use lib.IntN.{pos}
 use lib.ListN.{take}
 use Rattle.text.specs.Bytes.{bytes}
 use Rattle.text.specs.Lines.{LF, comma}
@@ -10,14 +10,11 @@ use Rattle.text.specs.Numbers.{decimal}
 use Rattle.plan.specs.declared.Job.{Job}
 use Rattle.plan.specs.declared.Bound.{Bound}
 use Rattle.plan.specs.declared.Plan.{Plan}
-use Rattle.plan.specs.declared.Refusal.{Refusal}
-use Rattle.plan.specs.Reading.{Reading, read, refused}
+use Rattle.lines.specs.declared.Refusal.{Refusal}
+use Rattle.lines.specs.Reading.{Reading, read, refused}
+use Rattle.lines.specs.Keyed.{keyed}
 use Rattle.plan.specs.EventNames.{nameBytes}
 use Rattle.plan.specs.PlanRead.{planOf, planAlone}
-
--- a line that is a key and a number, with the text that follows it
-abbrev pub keyed : List ℕ → ℤ → List ℕ → List ℕ
-keyed key z s = key ++ (decimal z ++ (LF ∷ s))
 
 unfoldable pub jobsText : List Job → List ℕ → List ℕ
 jobsText [] s = s

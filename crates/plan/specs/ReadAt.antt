@@ -7,7 +7,7 @@ use Rattle.text.specs.Bytes.{bytes}
 use Rattle.text.specs.Lines.{afterKey}
 use lib.IntN.{ℤ, pos}
 use lib.ListN.{length, take, drop}
-use Rattle.plan.specs.declared.Faulty.{Faulty}
+use Rattle.lines.specs.declared.Faulty.{Faulty}
 use Rattle.plan.specs.declared.NumberLine.{NumberLine}
 use Rattle.plan.specs.declared.NumberLine.the-variants as numberLine
 use Rattle.plan.specs.declared.Job.{Job}
@@ -23,35 +23,10 @@ use Rattle.plan.specs.declared.First.{First}
 use Rattle.plan.specs.declared.Went.{Went}
 use Rattle.plan.specs.declared.Went.the-variants as went
 use Rattle.plan.specs.declared.Jobs.{Jobs}
-use Rattle.plan.specs.declared.Refusal.the-variants.{Form}
 use Rattle.plan.specs.Limits.{mostJobs, mostBounds}
 use Rattle.plan.specs.PlanRead.{boundParts, boundOf, linedBound, noJob, noBound, filled, planRest}
-use Rattle.plan.specs.Reading.{Lined, Reading, read, refused}
-
-abbrev pub faultyIn : {A : Type 0} → List ℕ → Faulty → Reading A
-faultyIn s f = refused (f .refusal) (drop (f .at) s)
-
--- What a line reader answers: a value and the place of the line after it, or a fault.
-pub data At (A : Type 0) : Type 0 where
-  goes : A → ℕ → At A
-  stops : Faulty → At A
-
--- the reading of the text s that an answer tells, with the number of the line after it
-abbrev pub atTold : {A : Type 0} → List ℕ → ℕ → At A → Reading A
-atTold s n (goes a at) = read a (drop at s) n
-atTold s n (stops f) = faultyIn s f
-
-abbrev pub atPlace : {A : Type 0} → At A → ℕ
-atPlace (goes a at) = at
-atPlace (stops f) = f .at
-
--- the fault of an answer that is one
-abbrev pub noFault : Faulty
-noFault = record { refusal = Form 0; at = 0 }
-
-abbrev pub atFault : {A : Type 0} → At A → Faulty
-atFault (goes a at) = noFault
-atFault (stops f) = f
+use Rattle.lines.specs.Reading.{Lined, Reading}
+use Rattle.lines.specs.ReadAt.{faultyIn, At, goes, stops, atTold, atPlace}
 
 -- the answers of the code
 abbrev pub numberAt : NumberLine → At ℤ

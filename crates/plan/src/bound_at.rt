@@ -1,17 +1,18 @@
 // A bound line at a place of the text.
 use crate::BoundLine;
 use crate::BoundRead;
-use crate::Faulty;
 use crate::MOST_BOUNDS;
-use crate::Refusal;
 use crate::bound_line::read_bound;
-use crate::refusals::fault_at;
+use lines::Faulty;
+use lines::Refusal;
+use lines::fault_at;
 ghost use mathlib.Core.Path.{_≡_};
 ghost use Prim.Native.Nat.{_+_, _≤_};
 ghost use lib.ListN.{length, take, drop};
-ghost use Rattle.plan.specs.Reading.{line};
+ghost use Rattle.lines.specs.Reading.{line};
 ghost use Rattle.plan.specs.Pairs.{isWrongNumbered};
-ghost use Rattle.plan.specs.ReadAt.{boundLined, boundAt, atTold, atPlace, atFault};
+ghost use Rattle.plan.specs.ReadAt.{boundLined, boundAt};
+ghost use Rattle.lines.specs.ReadAt.{atTold, atPlace, atFault};
 
 // The bound of the line that begins at a place, and where the next line begins.
 pub fn read_bound_at(

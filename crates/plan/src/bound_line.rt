@@ -10,7 +10,8 @@ use crate::names::event_name;
 use crate::names::is_job;
 use crate::narrow::narrow;
 use crate::pairs::is_wrong_pair;
-use text::Fault;
+use lines::Fault;
+use lines::line_lacks;
 use text::Number;
 ghost use mathlib.Core.Path.{_≡_};
 ghost use mathlib.Core.Bool.{_&&_};
@@ -113,6 +114,6 @@ pub fn read_bound(line: &[u8], jobs: usize, given: &[u32; MOST_BOUNDS], n: usize
             let d = Bound { a, b, c: narrow(z) };
             judge_bound(d, jobs, given, n)
         }
-        Number::Bad(f) => BoundLine::Bad(f),
+        Number::Bad(f) => BoundLine::Bad(line_lacks(f)),
     }
 }

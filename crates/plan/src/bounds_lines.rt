@@ -15,7 +15,8 @@ ghost use mathlib.Core.List.{[]};
 ghost use Prim.Native.Nat.{_≤_};
 ghost use lib.ListN.{length, drop};
 ghost use Rattle.plan.specs.PlanRead.{boundsAfter};
-ghost use Rattle.plan.specs.ReadAt.{boundsTold, boundsFilled, endAt, atPlace};
+ghost use Rattle.plan.specs.ReadAt.{boundsTold, boundsFilled, endAt};
+ghost use Rattle.lines.specs.ReadAt.{atPlace};
 
 // So many bounds, whose lines begin at a place with a line of a number. The pairs given are kept as numbers beside the bounds.
 pub fn read_bounds(s: &[u8], from: usize, number: usize, jobs: usize, bounds: usize) -> Bounds

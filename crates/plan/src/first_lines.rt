@@ -1,16 +1,17 @@
 // The first four lines of a plan.
-use crate::Faulty;
 use crate::First;
 use crate::NumberLine;
-use crate::Refusal;
 use crate::Went;
 use crate::number_line::number_fault;
 use crate::number_line::read_number_line;
+use lines::Faulty;
+use lines::Refusal;
 ghost use mathlib.Core.Path.{_≡_};
 ghost use lib.IntN.{pos, natAbs};
 ghost use lib.Signed.{_≤ℤ_};
 ghost use Rattle.plan.specs.PlanRead.{planLines};
-ghost use Rattle.plan.specs.ReadAt.{FirstTold, firstFault, endAt, atFault};
+ghost use Rattle.plan.specs.ReadAt.{FirstTold, firstFault, endAt};
+ghost use Rattle.lines.specs.ReadAt.{atFault};
 
 // A number that is not negative, as a count.
 pub fn count(z: i32) -> u64

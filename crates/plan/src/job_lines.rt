@@ -1,16 +1,17 @@
 // The four lines of a job.
-use crate::Faulty;
 use crate::Job;
 use crate::JobLines;
 use crate::NumberLine;
-use crate::Refusal;
 use crate::number_line::number_fault;
 use crate::number_line::read_number_line;
+use lines::Faulty;
+use lines::Refusal;
 ghost use mathlib.Core.Path.{_≡_};
 ghost use Prim.Native.Nat.{_+_, _≤_};
 ghost use lib.ListN.{length, drop};
 ghost use Rattle.plan.specs.PlanRead.{jobLines};
-ghost use Rattle.plan.specs.ReadAt.{jobAt, atTold, atPlace, atFault};
+ghost use Rattle.plan.specs.ReadAt.{jobAt};
+ghost use Rattle.lines.specs.ReadAt.{atTold, atPlace, atFault};
 
 // The job whose lines begin at a place, and where the line after them begins.
 pub fn read_job(s: &[u8], at: usize, line: usize) -> JobLines

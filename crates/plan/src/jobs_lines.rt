@@ -11,7 +11,8 @@ ghost use mathlib.Core.List.{[]};
 ghost use Prim.Native.Nat.{_≤_};
 ghost use lib.ListN.{length, drop};
 ghost use Rattle.plan.specs.PlanRead.{jobsAfter};
-ghost use Rattle.plan.specs.ReadAt.{jobsTold, jobsFilled, endAt, atPlace};
+ghost use Rattle.plan.specs.ReadAt.{jobsTold, jobsFilled, endAt};
+ghost use Rattle.lines.specs.ReadAt.{atPlace};
 
 // So many jobs, whose lines begin at a place with line 5.
 pub fn read_jobs(s: &[u8], from: usize, jobs: usize) -> Jobs

@@ -1,4 +1,8 @@
-// Plans: their types, their texts read, and the refusals of the whole product, with the line that tells one.
+// Plans: their types, and their texts read.
+
+use lines::Fault;
+use lines::Faulty;
+use lines::PlanAnswer;
 
 // ---- sizes
 
@@ -6,9 +10,6 @@
 pub const MOST_JOBS: usize = 9;
 
 pub const MOST_BOUNDS: usize = 64;
-
-// The most bytes that a text can have.
-pub const LONGEST_TEXT: usize = 65_536;
 
 // ---- the plan
 
@@ -58,41 +59,7 @@ pub struct Plan {
     pub bound: [Bound; MOST_BOUNDS],
 }
 
-// ---- refusals
-
-// Why something is refused. The definition `number` gives the paper's number of each case, `value` the D that is printed with it.
-pub enum Refusal {
-    // 1: a line lacks the form required; line 0 where the text is too long.
-    Form(usize),
-    // 2: a number is out of range; line 0 for a run, a calendar or a time that was handed over as a value.
-    Range(usize),
-    // 3: a wrong pair.
-    Pair(usize),
-    // 4: no strategy for this many windows.
-    NoStrategy(u64),
-    // 5: neither settled nor contradicted in this many rounds.
-    Unsettled(u64),
-    // 6: ask or start while a job runs.
-    Running,
-    // 7: finish while none runs.
-    Idle,
-    // 8: start outside the offer.
-    OutsideOffer,
-    // 9: finish earlier than start + min or later than start + max.
-    OutsideTimes,
-    // 10: ask or start once the run is over.
-    Over,
-    // 11: the offer's lower end is above its upper end.
-    EmptyOffer,
-    // 12: the text to be written is longer than the lent slice.
-    NoRoom,
-}
-
-// What writing into a lent slice comes to: the length written; or the refusal, which is 12, or a plan's own where a plan is judged before it is written.
-pub enum Written {
-    Length(usize),
-    Refused(Refusal),
-}
+// ---- what the readers answer
 
 // An event's name as it was read; Bad where the bytes are no name.
 pub enum NameRead {
@@ -115,16 +82,10 @@ enum BoundNames {
 // A bound line as it was read: the bound, or what the line lacks.
 pub enum BoundLine {
     Value(Bound),
-    Bad(text::Fault),
+    Bad(Fault),
 }
 
 // ---- what the line readers answer
-
-// A refusal, and where its faulty line begins.
-struct Faulty {
-    refusal: Refusal,
-    at: usize,
-}
 
 // A line that is a key and a number: the number and where the next line begins, or the fault.
 enum NumberLine {
@@ -171,12 +132,6 @@ struct First {
     went: Went,
 }
 
-// What a reader of a plan answers.
-pub enum PlanAnswer {
-    Accepted,
-    Refused(Refusal),
-}
-
 // A plan as it was read. Accepted: the plan, the place where it ended, and the number of the line that begins there. Refused: the empty plan, the
 // place where the faulty line begins (the end of a text that is too long), and 0.
 pub struct PlanRead {
@@ -196,21 +151,11 @@ mod names;
 mod narrow;
 mod number_line;
 mod pairs;
-mod parts;
 mod reader;
-mod refusals;
-mod refused;
 
 pub use bound_line::is_c;
 pub use bound_line::judge_bound;
 pub use names::event_name;
 pub use pairs::pair_number;
-pub use parts::tell_refusal;
 pub use reader::read_head;
 pub use reader::read_plan;
-pub use refusals::ends;
-pub use refusals::fault_at;
-pub use refusals::number;
-pub use refusals::value;
-pub use refused::put_refused;
-pub use refused::write_refused;

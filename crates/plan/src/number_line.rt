@@ -1,15 +1,17 @@
 // A line that is a key and a number, read at a place of the text.
-use crate::Faulty;
 use crate::NumberLine;
-use crate::Refusal;
 use crate::narrow::narrow;
-use crate::refusals::fault_at;
+use lines::Faulty;
+use lines::Refusal;
+use lines::fault_at;
+use lines::line_lacks;
 use text::Number;
 ghost use mathlib.Core.Path.{_≡_};
 ghost use Prim.Native.Nat.{_+_, _≤_};
 ghost use lib.ListN.{length, drop};
-ghost use Rattle.plan.specs.Reading.{numberLine};
-ghost use Rattle.plan.specs.ReadAt.{numberAt, atTold, atPlace, atFault};
+ghost use Rattle.lines.specs.Reading.{numberLine};
+ghost use Rattle.plan.specs.ReadAt.{numberAt};
+ghost use Rattle.lines.specs.ReadAt.{atTold, atPlace, atFault};
 
 // The number of the line that begins at a place, and where the next line begins.
 pub fn read_number_line(
@@ -36,7 +38,7 @@ pub fn read_number_line(
     match number {
         Number::Value(z) => NumberLine::Value(narrow(z), next),
         Number::Bad(f) => {
-            let refusal = fault_at(line, f);
+            let refusal = fault_at(line, line_lacks(f));
             NumberLine::Bad(Faulty { refusal, at })
         }
     }

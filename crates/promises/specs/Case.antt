@@ -5,52 +5,17 @@ use mathlib.Core.Path.{_≡_, refl}
 use mathlib.Core.List.{List, [], _∷_, map}
 use Rattle.text.specs.Bytes.{bytes}
 use Rattle.text.specs.Lines.{lenTo, afterKey}
-use Rattle.text.specs.Numbers.{
-  allDigits,
-  isPositive,
-  isNumber,
-  digitsValue,
-  numberValue,
-  numberIn,
-  numberOf,
-  digitsBefore,
-  decimal,
-}
-use Rattle.plan.specs.Refusals.{refusedLine}
-use Rattle.plan.specs.Reading.{next, lined, line, linedNumber}
+use Rattle.text.specs.Numbers.{allDigits, isPositive, isNumber, digitsValue, numberValue, numberIn, numberOf, digitsBefore, decimal}
+use Rattle.lines.specs.Refusals.{refusedLine}
+use Rattle.lines.specs.Reading.{next, lined, line, linedNumber}
 use Rattle.plan.specs.EventNames.{eventName, sameEvent}
-use Rattle.plan.specs.PlanRead.{
-  jobLines,
-  jobsAfter,
-  boundParts,
-  isGiven,
-  isWrongPair,
-  boundOf,
-  linedBound,
-  boundsAfter,
-  planLines,
-  planHead,
-  nothingAfter,
-}
+use Rattle.plan.specs.PlanRead.{jobLines, jobsAfter, boundParts, isGiven, isWrongPair, boundOf, linedBound, boundsAfter, planLines, planHead, nothingAfter}
 use Rattle.bounds.specs.Events.{jobAt, shift, earliest, latest, nodeOf, eventOf}
 use Rattle.bounds.specs.Judgements.{judged}
 use Rattle.bounds.specs.Tables.{least, plus, join, at, listed, leastOf, judgement, anyBelow, contradicts, keptRows, judgedSet}
 use Rattle.bounds.specs.Elimination.{finishCell, startCell, thenSet, withoutPlace, eliminated}
 use Rattle.rounds.specs.Given.{givenBounds, ranges, orders, ownBounds, betweenBounds}
-use Rattle.rounds.specs.Rounds.{
-  C0,
-  onNext,
-  joined,
-  round,
-  sameCell,
-  sameRow,
-  sameRows,
-  failsAlone,
-  decided,
-  roundsFrom,
-  outcomeFrom,
-  outcome,
-}
+use Rattle.rounds.specs.Rounds.{C0, onNext, joined, round, sameCell, sameRow, sameRows, failsAlone, decided, roundsFrom, outcomeFrom, outcome}
 use Rattle.events.specs.Bits.{hasEvent, eventSet}
 use Rattle.calendars.specs.Calendars.{thenTables, beforeStarts, termsOf, leastCs, mostCs, allTerms, allCs, calendarOf, calendar}
 use Rattle.calendars.specs.CalendarText.{termLines, jobText, jobTexts, calendarText, outcomeText, answered, calendarOutput}

@@ -12,10 +12,9 @@ use lib.Signed.{_≤ℤ_}
 use lib.ListN.{length}
 use Rattle.clock.specs.declared.RunTime.{RunTime}
 use Rattle.plan.specs.declared.Plan.{Plan}
-use Rattle.plan.specs.declared.Refusal.{Refusal}
-use Rattle.plan.specs.declared.Refusal.the-variants as refusal
-use Rattle.plan.specs.Limits.{longestText}
-use Rattle.plan.specs.Reading.{read}
+use Rattle.lines.specs.declared.Refusal.{Refusal}
+use Rattle.lines.specs.declared.Refusal.the-variants as refusal
+use Rattle.lines.specs.Reading.{longestText, read}
 use Rattle.plan.specs.PlanRead.{planAlone, planHead}
 use Rattle.plan.specs.PlanWritten.{planText, trimmed, judgedPlan}
 use Rattle.plan.specs.PlanLaws.{planAlone-written, planAlone-again, planAlone-fits, planAlone-unique, planHead-accepted}

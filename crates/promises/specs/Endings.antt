@@ -15,10 +15,10 @@ use borrow.Author.Tests.{ltb-true, ltb-false}
 use Rattle.text.specs.Numbers.{within}
 use Rattle.clock.specs.declared.RunTime.{RunTime}
 use Rattle.plan.specs.declared.Plan.{Plan}
-use Rattle.plan.specs.declared.Refusal.{Refusal}
-use Rattle.plan.specs.declared.Refusal.the-variants as refusal
-use Rattle.plan.specs.Refusals.{refusedLine, ends}
-use Rattle.plan.specs.Reading.{Reading, read, refused, next}
+use Rattle.lines.specs.declared.Refusal.{Refusal}
+use Rattle.lines.specs.declared.Refusal.the-variants as refusal
+use Rattle.lines.specs.Refusals.{refusedLine, ends}
+use Rattle.lines.specs.Reading.{Reading, read, refused, next}
 use Rattle.plan.specs.PlanRead.{planHead, planAlone, noJob}
 use Rattle.plan.specs.PlanLaws.{planHead-accepted}
 use Rattle.plan.specs.Accepted.{Accepted}

@@ -5,7 +5,7 @@ use Prim.Native.String.{String}
 use mathlib.Core.Path.{_≡_, refl}
 use mathlib.Core.List.{List, [], _∷_, map}
 use Rattle.text.specs.Bytes.{bytes}
-use Rattle.plan.specs.Reading.{Reading, refusedNumber, refusedValue, faultyPart}
+use Rattle.lines.specs.Reading.{Reading, refusedNumber, refusedValue, faultyPart}
 use Rattle.rounds.specs.TextVerdict.{orRefused, verdictAfter, acceptedAlone}
 use Rattle.session.specs.SessionRead.{stepsWithin, sessionRead}
 use Rattle.promises.specs.Case.{computing}

@@ -9,11 +9,11 @@ use native.Mathlib.Omega.{arith}
 use lib.ListN.{length}
 use Rattle.text.specs.Bytes.{bytes}
 use Rattle.plan.specs.declared.Plan.{Plan}
-use Rattle.plan.specs.declared.Refusal.{Refusal}
-use Rattle.plan.specs.declared.Refusal.the-variants as refusal
-use Rattle.plan.specs.Refusals.{refusedLine}
-use Rattle.plan.specs.Reading.{Reading, read, refused}
-use Rattle.plan.specs.Reading as reading
+use Rattle.lines.specs.declared.Refusal.{Refusal}
+use Rattle.lines.specs.declared.Refusal.the-variants as refusal
+use Rattle.lines.specs.Refusals.{refusedLine}
+use Rattle.lines.specs.Reading.{Reading, read, refused}
+use Rattle.lines.specs.Reading as reading
 use Rattle.plan.specs.PlanRead.{planAlone, planHead}
 use Rattle.plan.specs.PlanLaws.{planAlone-accepted, planHead-accepted}
 use Rattle.plan.specs.Accepted.{Accepted}

@@ -6,7 +6,7 @@ use lib.Dec.{eqb, leb}
 use lib.IntN.{ℤ, pos, _-ℤ_}
 use Rattle.whole.specs.Split.{eqZ}
 use Rattle.plan.specs.declared.Plan.{Plan}
-use Rattle.plan.specs.declared.Refusal.the-variants as refusal
+use Rattle.lines.specs.declared.Refusal.the-variants as refusal
 use Rattle.bounds.specs.Events.{nodes}
 use Rattle.bounds.specs.Tables.{Cell, off, upto, least, plus, Rows, at, leastOf, Set, contradiction, bounds, judgedSet}
 use Rattle.bounds.specs.Elimination.{thenSet, eliminated}

@@ -2,7 +2,7 @@
 use Prim.Native.Nat.{ℕ}
 use mathlib.Core.List.{List, []}
 use Rattle.plan.specs.declared.Plan.{Plan}
-use Rattle.plan.specs.Reading.{Reading, read, refused}
+use Rattle.lines.specs.Reading.{Reading, read, refused}
 use Rattle.plan.specs.PlanRead.{planAlone, planHead}
 use Rattle.rounds.specs.declared.VerdictTold.{VerdictTold}
 use Rattle.rounds.specs.declared.VerdictTold.the-variants.{Settled, Refused}

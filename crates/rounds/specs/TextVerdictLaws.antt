@@ -1,17 +1,18 @@
 -- A verdict that is told as settled is settled (`told-settled`). By what the reader of a plan answered, the text judged to its end is refused at the place that
 -- the reader told (`verdictAfter-refused`), or read (`verdictAfter-settled`), or refused by its verdict, with nothing left of the text (`verdictAfter-judged`).
 use Prim.Native.Nat.{ℕ}
-use mathlib.Core.Path.{_≡_, sym, ap, subst, _∙_}
+use mathlib.Core.Path.{_≡_, ap, _∙_}
 use mathlib.Core.List.{List, []}
 use native.Mathlib.Omega.{arith}
 use lib.ListN.{drop}
 use Rattle.plan.specs.declared.Plan.{Plan}
 use Rattle.plan.specs.declared.PlanRead.{PlanRead}
-use Rattle.plan.specs.declared.PlanAnswer.the-variants as planAnswer
-use Rattle.plan.specs.declared.Refusal.{Refusal}
-use Rattle.plan.specs.Reading.{Reading, read, refused}
+use Rattle.lines.specs.declared.PlanAnswer.the-variants as planAnswer
+use Rattle.lines.specs.declared.Refusal.{Refusal}
+use Rattle.lines.specs.Reading.{Reading, read, refused}
 use Rattle.plan.specs.PlanAnswers.{planRead}
-use Rattle.plan.specs.PartLaws.{Tail, tail-place, leaves}
+use Rattle.lines.specs.PartLaws.{Tail, leaves}
+use Rattle.plan.specs.HeadLaws.{planRead-took, planRead-fault}
 use Rattle.rounds.specs.declared.Verdict.{Verdict}
 use Rattle.rounds.specs.declared.Verdict.the-variants as decided
 use Rattle.rounds.specs.declared.VerdictTold.{VerdictTold}
@@ -26,31 +27,22 @@ told-settled (decided.Unsettled rounds) m e = absurd (let z : _≡_ {A = ℕ} 0 
 
 -- ---- what the reader of a plan answered, and the verdict after it
 
-module _ (s : List ℕ) where
-  pub verdictAfter-refused : (m : Reading Plan) → Tail s (leaves m) → (r : PlanRead) → r ≡ planRead s m → (x : Refusal) → r .answer ≡ planAnswer.Refused x
-      → verdictAfter m ≡ refused x (drop (r .at) s)
-  unfolding planRead verdictAfter
-  verdictAfter-refused (read p t n) h r d x q =
-      absurd (let f : r .answer ≡ planAnswer.Accepted = ap (λ (r : PlanRead). r .answer) d in let z : _≡_ {A = ℕ} 0 1 = cc in omega arith)
-  verdictAfter-refused (refused y t) h r d x q =
-      let f : r .answer ≡ planAnswer.Refused y = ap (λ (r : PlanRead). r .answer) d in
-      let same : y ≡ x = cc in
-      let place : drop (r .at) s ≡ t = ap (λ (r : PlanRead). drop (r .at) s) d ∙ tail-place h in
-      ap (λ (x : Refusal). refused x t) same ∙ ap (refused x) (sym place)
+module _ (s : List ℕ) (m : Reading Plan) (tail : Tail s (leaves m)) (r : PlanRead) (d : r ≡ planRead s m) where
+  pub verdictAfter-refused : (x : Refusal) → r .answer ≡ planAnswer.Refused x → verdictAfter m ≡ refused x (drop (r .at) s)
+  unfolding verdictAfter
+  verdictAfter-refused x q = ap verdictAfter (planRead-fault s {m = m} tail r d x q)
 
-  pub verdictAfter-settled : (m : Reading Plan) → Tail s (leaves m) → (r : PlanRead) → r ≡ planRead s m → r .answer ≡ planAnswer.Accepted
-      → (k : ℕ) → verdictTold (verdict (r .plan)) ≡ Settled k → verdictAfter m ≡ read (r .plan) (drop (r .at) s) (r .line)
-  unfolding planRead verdictAfter orRefused
-  verdictAfter-settled (read p t n) h r d q k e =
-      subst (λ (r : PlanRead). verdictTold (verdict (r .plan)) ≡ Settled k → verdictAfter (read p t n) ≡ read (r .plan) (drop (r .at) s) (r .line)) (sym d)
-      (λ e. ap (λ (w : VerdictTold). orRefused w (read p t n)) e ∙ ap (λ (u : List ℕ). read p u n) (sym (tail-place h))) e
-  verdictAfter-settled (refused y t) h r d q k e =
-      absurd (let f : r .answer ≡ planAnswer.Refused y = ap (λ (r : PlanRead). r .answer) d in let z : _≡_ {A = ℕ} 0 1 = cc in omega arith)
+  module _ (q : r .answer ≡ planAnswer.Accepted) where
+    told-as : (w : VerdictTold) → verdictTold (verdict (r .plan)) ≡ w → verdictAfter m ≡ orRefused w (read (r .plan) (drop (r .at) s) (r .line))
+    unfolding verdictAfter
+    told-as w e =
+        ap verdictAfter (planRead-took s {m = m} tail r d q)
+        ∙ ap (λ (w : VerdictTold). orRefused w (read (r .plan) (drop (r .at) s) (r .line))) e
 
-  pub verdictAfter-judged : (m : Reading Plan) → (r : PlanRead) → r ≡ planRead s m → r .answer ≡ planAnswer.Accepted
-      → (x : Refusal) → verdictTold (verdict (r .plan)) ≡ Refused x → verdictAfter m ≡ refused x []
-  unfolding planRead verdictAfter orRefused
-  verdictAfter-judged (read p t n) r d q x e =
-      ap (λ (w : VerdictTold). orRefused w (read p t n)) (ap (λ (r : PlanRead). verdictTold (verdict (r .plan))) (sym d) ∙ e)
-  verdictAfter-judged (refused y t) r d q x e =
-      absurd (let f : r .answer ≡ planAnswer.Refused y = ap (λ (r : PlanRead). r .answer) d in let z : _≡_ {A = ℕ} 0 1 = cc in omega arith)
+    pub verdictAfter-settled : (k : ℕ) → verdictTold (verdict (r .plan)) ≡ Settled k → verdictAfter m ≡ read (r .plan) (drop (r .at) s) (r .line)
+    unfolding orRefused
+    verdictAfter-settled k e = told-as (Settled k) e
+
+    pub verdictAfter-judged : (x : Refusal) → verdictTold (verdict (r .plan)) ≡ Refused x → verdictAfter m ≡ refused x []
+    unfolding orRefused
+    verdictAfter-judged x e = told-as (Refused x) e

@@ -1,6 +1,6 @@
 // Rounds and the verdict on a plan.
 
-use plan::Refusal;
+use lines::Refusal;
 
 mod given;
 mod joined;

@@ -1,7 +1,7 @@
 // A verdict as it is told.
 use super::Verdict;
 use super::VerdictTold;
-use plan::Refusal;
+use lines::Refusal;
 ghost use mathlib.Core.Path.{_≡_};
 ghost use Rattle.rounds.specs.Rounds.{verdictTold};
 

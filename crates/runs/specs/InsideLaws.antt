@@ -28,21 +28,7 @@ use Rattle.runs.specs.declared.Phase.{Phase}
 use Rattle.runs.specs.declared.Phase.the-variants.{Waiting, Running}
 use Rattle.runs.specs.declared.Probe.{Probe}
 use Rattle.runs.specs.declared.Run.{Run}
-use Rattle.runs.specs.ValueLimits.{
-  lastTime,
-  isTime,
-  areTimes,
-  isTurn,
-  isPhase,
-  jobOfPhase,
-  isRun,
-  isC,
-  isOut,
-  isSide,
-  areTermsOf,
-  areTerms,
-  isCalendar,
-}
+use Rattle.runs.specs.ValueLimits.{lastTime, isTime, areTimes, isTurn, isPhase, jobOfPhase, isRun, isC, isOut, isSide, areTermsOf, areTerms, isCalendar}
 use Rattle.runs.specs.TestLaws.{and-left, and-right, and-not, or-left, or-neither-left, or-neither-right}
 use Rattle.runs.specs.Offers.{noProbe, timeIn}
 use Rattle.runs.specs.Ends.{TermsFit, EndFits}

@@ -14,9 +14,9 @@ use borrow.Author.Tests.{le-leb, eq-eqb, ltb-true, ltb-false, leb-true, leb-fals
 use Rattle.text.specs.Numbers.{within}
 use Rattle.clock.specs.declared.RunTime.{RunTime}
 use Rattle.plan.specs.declared.Plan.{Plan}
-use Rattle.plan.specs.declared.Refusal.{Refusal}
-use Rattle.plan.specs.declared.Refusal.the-variants as refusal
-use Rattle.plan.specs.Refusals.{outsideLimits}
+use Rattle.lines.specs.declared.Refusal.{Refusal}
+use Rattle.lines.specs.declared.Refusal.the-variants as refusal
+use Rattle.lines.specs.Refusals.{outsideLimits}
 use Rattle.plan.specs.PlanRead.{noJob}
 use Rattle.plan.specs.Accepted.{Accepted}
 use Rattle.calendars.specs.declared.Calendar.{Calendar}
@@ -36,20 +36,7 @@ use Rattle.runs.specs.declared.Answered.{Answered}
 use Rattle.runs.specs.ValueLimits.{isTime, areTimes, isTurn, isPhase, jobOfPhase, isRun}
 use Rattle.runs.specs.TestLaws.{and-true, and-left, and-right, or-of-true, or-with-true}
 use Rattle.runs.specs.Offers.{offerOf, opened, openingIn, opening}
-use Rattle.runs.specs.Steps.{
-  noProbes,
-  newRun,
-  refusedWith,
-  asked,
-  startedAt,
-  startedBy,
-  started,
-  closed,
-  finished,
-  isStep,
-  stepped,
-  step,
-}
+use Rattle.runs.specs.Steps.{noProbes, newRun, refusedWith, asked, startedAt, startedBy, started, closed, finished, isStep, stepped, step}
 use Rattle.runs.specs.Inside.{Inside}
 use Rattle.runs.specs.LimitLaws.{areTimes-none}
 use Rattle.runs.specs.StepLaws.{step-inside, step-outside}

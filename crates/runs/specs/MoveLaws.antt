@@ -12,9 +12,9 @@ use lib.ListN.{length, getD, set, replicate}
 use Rattle.text.specs.Numbers.{within}
 use Rattle.clock.specs.declared.RunTime.{RunTime}
 use Rattle.plan.specs.declared.Plan.{Plan}
-use Rattle.plan.specs.declared.Refusal.{Refusal}
-use Rattle.plan.specs.declared.Refusal.the-variants as refusal
-use Rattle.plan.specs.Refusals.{outsideLimits}
+use Rattle.lines.specs.declared.Refusal.{Refusal}
+use Rattle.lines.specs.declared.Refusal.the-variants as refusal
+use Rattle.lines.specs.Refusals.{outsideLimits}
 use Rattle.plan.specs.Limits.{mostJobs}
 use Rattle.plan.specs.PlanRead.{noJob}
 use Rattle.plan.specs.PlanWritten.{judgedPlan}
@@ -39,21 +39,7 @@ use Rattle.runs.specs.declared.Move.{Move}
 use Rattle.runs.specs.declared.Move.the-variants.{Stay, Begin, Next, Close}
 use Rattle.runs.specs.ValueLimits.{isTime, isRun, isCalendar}
 use Rattle.runs.specs.Offers.{opening}
-use Rattle.runs.specs.Steps.{
-  newRun,
-  refusedWith,
-  asked,
-  startedAt,
-  startedBy,
-  started,
-  closed,
-  finished,
-  stepped,
-  isStep,
-  valuesRefused,
-  unlessRefused,
-  step,
-}
+use Rattle.runs.specs.Steps.{newRun, refusedWith, asked, startedAt, startedBy, started, closed, finished, stepped, isStep, valuesRefused, unlessRefused, step}
 use Rattle.runs.specs.Seen.{probesOf, probePut, runOf}
 use Rattle.runs.specs.Moves.{finalMove, moveOf, moved, Moving, Placed}
 use Rattle.runs.specs.Due.{duePlan, dueCalendar, dueOf, StepInside}

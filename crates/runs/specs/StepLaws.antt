@@ -12,11 +12,11 @@ use Rattle.clock.specs.declared.RunTime.{RunTime}
 use Rattle.clock.specs.Spans.{Near}
 use Rattle.clock.specs.Clock.{isBetween, movedBy}
 use Rattle.plan.specs.declared.Plan.{Plan}
-use Rattle.plan.specs.declared.PlanAnswer.{PlanAnswer}
-use Rattle.plan.specs.declared.PlanAnswer.the-variants as planAnswer
-use Rattle.plan.specs.declared.Refusal.{Refusal}
-use Rattle.plan.specs.declared.Refusal.the-variants as refusal
-use Rattle.plan.specs.Refusals.{outsideLimits}
+use Rattle.lines.specs.declared.PlanAnswer.{PlanAnswer}
+use Rattle.lines.specs.declared.PlanAnswer.the-variants as planAnswer
+use Rattle.lines.specs.declared.Refusal.{Refusal}
+use Rattle.lines.specs.declared.Refusal.the-variants as refusal
+use Rattle.lines.specs.Refusals.{outsideLimits}
 use Rattle.plan.specs.Limits.{mostJobs}
 use Rattle.plan.specs.PlanWritten.{judgedPlan}
 use Rattle.values.specs.PlanJudged.{judgedAnswer}
@@ -32,18 +32,7 @@ use Rattle.runs.specs.declared.Choice.{Choice}
 use Rattle.runs.specs.declared.Step.{Step}
 use Rattle.runs.specs.declared.Step.the-variants.{Ask, Start, Finish}
 use Rattle.runs.specs.ValueLimits.{isRun, isCalendar}
-use Rattle.runs.specs.Steps.{
-  refusedWith,
-  asked,
-  started,
-  closed,
-  finished,
-  stepped,
-  step,
-  isStep,
-  valuesRefused,
-  unlessRefused,
-}
+use Rattle.runs.specs.Steps.{refusedWith, asked, started, closed, finished, stepped, step, isStep, valuesRefused, unlessRefused}
 use Rattle.runs.specs.TestLaws.{and-true}
 use Rattle.runs.specs.Inside.{Inside, stepAccepted}
 use Rattle.runs.specs.Offers.{opening}

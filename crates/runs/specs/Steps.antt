@@ -9,10 +9,10 @@ use lib.ListN.{getD, set, replicate}
 use Rattle.text.specs.Numbers.{within}
 use Rattle.clock.specs.declared.RunTime.{RunTime}
 use Rattle.plan.specs.declared.Plan.{Plan}
-use Rattle.plan.specs.declared.Refusal.{Refusal}
-use Rattle.plan.specs.declared.Refusal.the-variants as refusal
+use Rattle.lines.specs.declared.Refusal.{Refusal}
+use Rattle.lines.specs.declared.Refusal.the-variants as refusal
 use Rattle.plan.specs.Limits.{mostJobs}
-use Rattle.plan.specs.Refusals.{outsideLimits}
+use Rattle.lines.specs.Refusals.{outsideLimits}
 use Rattle.plan.specs.PlanRead.{noJob}
 use Rattle.plan.specs.PlanWritten.{judgedPlan}
 use Rattle.calendars.specs.declared.Calendar.{Calendar}

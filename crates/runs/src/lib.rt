@@ -10,6 +10,7 @@ mod steps;
 use calendars::Terms;
 use clock::RunTime;
 pub use limits::jobs_done;
+use lines::Refusal;
 pub use moves::move_of;
 pub use moves::new_run;
 pub use moves::put_probe;
@@ -19,7 +20,6 @@ pub use on_values::start_at;
 pub use on_values::start_auto;
 pub use on_values::take_step;
 use plan::MOST_JOBS;
-use plan::Refusal;
 pub use steps::answer_due;
 
 // The times of one window: a start and a finish for each job.

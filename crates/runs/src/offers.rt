@@ -7,7 +7,7 @@ use crate::Opening;
 use crate::Phase;
 use crate::ends::end_of;
 use calendars::MOST_TERMS;
-use plan::Refusal;
+use lines::Refusal;
 ghost use mathlib.Core.Path.{_≡_};
 ghost use Rattle.runs.specs.Offers as offers;
 ghost use Rattle.runs.specs.declared.Phase.the-variants.{Waiting};

@@ -7,7 +7,7 @@ use lib.IntN.{ℤ}
 use Rattle.text.specs.Bytes.{bytes}
 use Rattle.text.specs.Lines.{LF, comma}
 use Rattle.text.specs.Numbers.{decimal, digits}
-use Rattle.plan.specs.Refusals.{refusedLine, ends}
+use Rattle.lines.specs.Refusals.{refusedLine, ends}
 use Rattle.runs.specs.declared.Offer.{Offer}
 use Rattle.runs.specs.declared.Answer.{Answer}
 use Rattle.runs.specs.declared.Answer.the-variants.{Offered, Started, Final, Refused}

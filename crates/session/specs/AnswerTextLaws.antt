@@ -16,8 +16,8 @@ use Rattle.text.specs.DigitLaws.{digits-short}
 use Rattle.text.specs.NumberLaws.{decimal-short}
 use Rattle.text.specs.Lent.{Stored}
 use Rattle.text.specs.LentLaws.{stored-append}
-use Rattle.plan.specs.declared.Refusal.{Refusal}
-use Rattle.plan.specs.Refusals.{number, value, refusedLine}
+use Rattle.lines.specs.declared.Refusal.{Refusal}
+use Rattle.lines.specs.Refusals.{number, value, refusedLine}
 use Rattle.runs.specs.declared.Offer.{Offer}
 use Rattle.session.specs.AnswerText.{turnText, offerLine}
 

@@ -11,9 +11,9 @@ use lib.ListN.{length, drop, length-drop}
 use Rattle.text.specs.Lent.{Stored, put}
 use Rattle.text.specs.LentLaws.{stored-append, put-nil, put-length}
 use Rattle.plan.specs.declared.Plan.{Plan}
-use Rattle.plan.specs.declared.Refusal.{Refusal}
-use Rattle.plan.specs.Refusals.{refusedLine}
-use Rattle.plan.specs.Reading.{Reading, read, refused}
+use Rattle.lines.specs.declared.Refusal.{Refusal}
+use Rattle.lines.specs.Refusals.{refusedLine}
+use Rattle.lines.specs.Reading.{Reading, read, refused}
 use Rattle.calendars.specs.declared.Calendar.{Calendar}
 use Rattle.runs.specs.declared.Step.{Step}
 use Rattle.runs.specs.declared.Run.{Run}

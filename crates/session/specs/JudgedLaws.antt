@@ -7,8 +7,8 @@ use mathlib.Core.Path.{_≡_, refl, sym, ap, _∙_}
 use mathlib.Core.List.{List}
 use native.Mathlib.Omega.{arith}
 use Rattle.plan.specs.declared.Plan.{Plan}
-use Rattle.plan.specs.declared.Refusal.{Refusal}
-use Rattle.plan.specs.Refusals.{refusedLine}
+use Rattle.lines.specs.declared.Refusal.{Refusal}
+use Rattle.lines.specs.Refusals.{refusedLine}
 use Rattle.plan.specs.Accepted.{Accepted}
 use Rattle.rounds.specs.declared.Verdict.{Verdict}
 use Rattle.rounds.specs.declared.Verdict.the-variants.{Settled}

@@ -13,16 +13,19 @@ use Rattle.text.specs.Bytes.{bytes}
 use Rattle.text.specs.Numbers.{within}
 use Rattle.clock.specs.declared.RunTime.{RunTime}
 use Rattle.plan.specs.declared.Plan.{Plan}
-use Rattle.plan.specs.declared.Refusal.{Refusal}
-use Rattle.plan.specs.declared.Refusal.the-variants as refusal
-use Rattle.plan.specs.Refusals.{number, refusedLine, outsideLimits}
-use Rattle.plan.specs.Reading.{Reading, read, refused}
+use Rattle.lines.specs.declared.Refusal.{Refusal}
+use Rattle.lines.specs.declared.Refusal.the-variants as refusal
+use Rattle.lines.specs.Refusals.{number, refusedLine, outsideLimits}
+use Rattle.lines.specs.Reading.{Reading, read, refused}
 use Rattle.plan.specs.PlanRead.{noJob, planHead}
 use Rattle.rounds.specs.declared.Verdict.the-variants.{NoStrategy}
 use Rattle.rounds.specs.Rounds.{Outcome, settled, noStrategy, unsettled, outcome, verdictOf}
 use Rattle.calendars.specs.declared.Calendar.{Calendar}
 use Rattle.calendars.specs.Calendars.{calendar}
-use Rattle.calendars.specs.ToldLaws.{refusedLine-same, refusedLine-one, ByForm, line-form, planHead-form, ToldNone}
+use Rattle.lines.specs.RefusalLaws.{refusedLine-same, refusedLine-one}
+use Rattle.lines.specs.FormLaws.{ByForm, line-form}
+use Rattle.plan.specs.PlanFormLaws.{planHead-form}
+use Rattle.calendars.specs.ToldLaws.{ToldNone}
 use Rattle.runs.specs.declared.Phase.{Phase}
 use Rattle.runs.specs.declared.Phase.the-variants.{Waiting, Running}
 use Rattle.runs.specs.declared.Run.{Run}

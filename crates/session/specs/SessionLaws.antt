@@ -11,10 +11,10 @@ use native.Mathlib.Omega.{arith}
 use lib.ListN.{length, drop, length-drop, drop-of-length-le}
 use Rattle.text.specs.Lines.{LF, lenTo}
 use Rattle.plan.specs.declared.Plan.{Plan}
-use Rattle.plan.specs.declared.Refusal.{Refusal}
-use Rattle.plan.specs.Refusals.{refusedLine}
-use Rattle.plan.specs.Reading.{Reading, read, refused}
-use Rattle.plan.specs.ReadingLaws.{line-read}
+use Rattle.lines.specs.declared.Refusal.{Refusal}
+use Rattle.lines.specs.Refusals.{refusedLine}
+use Rattle.lines.specs.Reading.{Reading, read, refused}
+use Rattle.lines.specs.ReadingLaws.{line-read}
 use Rattle.calendars.specs.declared.Calendar.{Calendar}
 use Rattle.runs.specs.declared.Step.{Step}
 use Rattle.runs.specs.declared.Run.{Run}

@@ -3,7 +3,7 @@
 use Prim.Native.Nat.{ℕ, zero, suc}
 use mathlib.Core.List.{List, [], _∷_}
 use lib.ListN.{length}
-use Rattle.plan.specs.Reading.{Reading, read, Reader, next}
+use Rattle.lines.specs.Reading.{Reading, read, Reader, next}
 use Rattle.rounds.specs.TextVerdict.{acceptedHead}
 use Rattle.session.specs.StepRead.{stepLine}
 

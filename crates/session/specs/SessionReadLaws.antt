@@ -1,7 +1,7 @@
 -- The laws of a session's text, read to its end. Its step lines are read one at a time: where nothing is left they are read (`stepLines-end`), a line that is
--- no step is the last (`stepLines-refused`), and else the lines behind it follow (`stepLines-more`). The text is refused by its plan's lines
--- (`sessionRead-refused`) or by its verdict (`sessionRead-judged`), and else by what its step lines come to (`sessionRead-settled`). `Walking` is the loop over
--- the step lines.
+-- no step is the last (`stepLines-refused`), and else the lines behind it follow (`stepLines-more`). A plan that is refused has no steps behind it
+-- (`stepsBehind-keeps`), so that `told-lines` and `told-verdict` of the crate `calendars` tell its refusal; and else the text is refused by what its step lines
+-- come to (`sessionRead-settled`). `Walking` is the loop over the step lines.
 use Prim.Native.Nat.{ℕ, zero, suc, _+_, _≤_, _<_}
 use mathlib.Core.Path.{_≡_, refl, sym, ap, subst, _∙_}
 use mathlib.Core.List.{List, [], _∷_}
@@ -9,16 +9,18 @@ use native.Mathlib.Omega.{arith}
 use lib.ListN.{length, drop, length-drop, drop-of-length-le}
 use Rattle.plan.specs.declared.Plan.{Plan}
 use Rattle.plan.specs.declared.PlanRead.{PlanRead}
-use Rattle.plan.specs.declared.PlanAnswer.{PlanAnswer}
-use Rattle.plan.specs.declared.PlanAnswer.the-variants as planAnswer
-use Rattle.plan.specs.declared.Refusal.{Refusal}
-use Rattle.plan.specs.Reading.{Reading, read, refused, Reader, next}
+use Rattle.lines.specs.declared.PlanAnswer.{PlanAnswer}
+use Rattle.lines.specs.declared.PlanAnswer.the-variants as planAnswer
+use Rattle.lines.specs.declared.Refusal.{Refusal}
+use Rattle.lines.specs.Reading.{Reading, read, refused, Reader, next}
 use Rattle.plan.specs.PlanRead.{planHead}
-use Rattle.plan.specs.PlanAnswers.{planRead, answerNumber, answerValue, partAt, Told}
-use Rattle.plan.specs.PartLaws.{planHead-tail, told-refused, told-none, end-empty}
+use Rattle.plan.specs.PlanAnswers.{planRead}
+use Rattle.lines.specs.Answers.{answerNumber, answerValue, partAt, Told}
+use Rattle.plan.specs.PlanPartLaws.{planHead-tail}
+use Rattle.lines.specs.PartLaws.{told-refused, told-none}
 use Rattle.rounds.specs.declared.VerdictTold.the-variants as told
 use Rattle.rounds.specs.Rounds.{verdict, verdictTold}
-use Rattle.rounds.specs.TextVerdictLaws.{verdictAfter-refused, verdictAfter-settled, verdictAfter-judged}
+use Rattle.rounds.specs.TextVerdictLaws.{verdictAfter-settled}
 use Rattle.runs.specs.declared.Step.{Step}
 use Rattle.session.specs.declared.StepAt.{StepAt}
 use Rattle.session.specs.declared.StepAt.the-variants as stepAt
@@ -112,25 +114,15 @@ module _ (text : List ℕ) (from line : ℕ) where
 
 -- ---- the whole text, by what the reader of its plan answered
 
-module _ (s : List ℕ) (r : PlanRead) (d : r ≡ planRead s (planHead s)) (a : PlanAnswer) where
-  pub sessionRead-refused : (x : Refusal) → r .answer ≡ planAnswer.Refused x → a ≡ planAnswer.Refused x
-      → Told (sessionRead s) (partAt s (r .at) a) (answerNumber a) (answerValue a)
-  unfolding next
-  sessionRead-refused x q e =
-      subst (λ (m : Reading Plan). Told (next m (λ p. stepLines)) (partAt s (r .at) a) (answerNumber a) (answerValue a))
-      (sym (verdictAfter-refused s (planHead s) (planHead-tail s) r d x q))
-      (told-refused s a (r .at) x e refl)
+-- the step lines behind a plan
+abbrev pub stepsBehind : Reading Plan → Reading Unit
+stepsBehind m = next m (λ p. stepLines)
 
-  module _ (q : r .answer ≡ planAnswer.Accepted) where
-    pub sessionRead-judged : (x : Refusal) → verdictTold (verdict (r .plan)) ≡ told.Refused x → a ≡ planAnswer.Refused x → (at : ℕ) → at ≡ length s
-        → Told (sessionRead s) (partAt s at a) (answerNumber a) (answerValue a)
-    unfolding next
-    sessionRead-judged x v e at l =
-        subst (λ (m : Reading Plan). Told (next m (λ p. stepLines)) (partAt s at a) (answerNumber a) (answerValue a))
-        (sym (verdictAfter-judged s (planHead s) r d q x v))
-        (told-refused s a at x e (ap (λ (k : ℕ). drop k s) l ∙ end-empty s))
+pub stepsBehind-keeps : (x : Refusal) (t : List ℕ) → stepsBehind (refused x t) ≡ refused x t
+unfolding next
+stepsBehind-keeps x t = refl
 
-    pub sessionRead-settled : (k : ℕ) → verdictTold (verdict (r .plan)) ≡ told.Settled k → sessionRead s ≡ stepLines (drop (r .at) s) (r .line)
-    unfolding next
-    sessionRead-settled k v =
-        ap (λ (m : Reading Plan). next m (λ p. stepLines)) (verdictAfter-settled s (planHead s) (planHead-tail s) r d q k v)
+pub sessionRead-settled : (s : List ℕ) (r : PlanRead) → r ≡ planRead s (planHead s) → r .answer ≡ planAnswer.Accepted
+    → (k : ℕ) → verdictTold (verdict (r .plan)) ≡ told.Settled k → sessionRead s ≡ stepLines (drop (r .at) s) (r .line)
+unfolding next
+sessionRead-settled s r d q k v = ap stepsBehind (verdictAfter-settled s (planHead s) (planHead-tail s) r d q k v)

@@ -5,12 +5,11 @@ use mathlib.Core.List.{List, [], _∷_, _++_}
 use lib.ListN.{length}
 use Rattle.text.specs.Numbers.{isEmpty}
 use Rattle.plan.specs.declared.Plan.{Plan}
-use Rattle.plan.specs.Limits.{longestText}
-use Rattle.plan.specs.Refusals.{refusedLine}
-use Rattle.plan.specs.Reading.{Reading, read, refused}
+use Rattle.lines.specs.Reading.{longestText, Reading, read, refused}
+use Rattle.lines.specs.Refusals.{refusedLine}
 use Rattle.plan.specs.PlanRead.{planHead}
-use Rattle.plan.specs.declared.Written.{Written}
-use Rattle.plan.specs.Written.{writtenAs}
+use Rattle.lines.specs.declared.Written.{Written}
+use Rattle.lines.specs.Written.{writtenAs}
 use Rattle.calendars.specs.declared.Calendar.{Calendar}
 use Rattle.rounds.specs.declared.VerdictTold.{VerdictTold}
 use Rattle.rounds.specs.declared.VerdictTold.the-variants.{Settled, Refused}

@@ -9,12 +9,13 @@ use lib.IntN.{ℤ, pos}
 use Rattle.text.specs.Bytes.{bytes}
 use Rattle.text.specs.Lines.{afterKey}
 use Rattle.text.specs.Numbers.{numberIn, isEmpty}
-use Rattle.text.specs.declared.Fault.{Fault}
-use Rattle.text.specs.declared.Fault.the-variants as fault
+use Rattle.lines.specs.declared.Fault.{Fault}
+use Rattle.lines.specs.declared.Fault.the-variants as fault
 use Rattle.text.specs.declared.Number.{Number}
 use Rattle.text.specs.declared.Number.the-variants as number
 use Rattle.clock.specs.declared.RunTime.{RunTime}
-use Rattle.plan.specs.Reading.{Lined, value, bad, Reader, line}
+use Rattle.lines.specs.Refusals.{lineLacks}
+use Rattle.lines.specs.Reading.{Lined, value, bad, Reader, line}
 use Rattle.runs.specs.declared.Step.{Step}
 use Rattle.runs.specs.declared.Step.the-variants.{Ask, Start, Finish}
 use Rattle.runs.specs.declared.Choice.the-variants.{At, Auto}
@@ -33,7 +34,7 @@ isText t l = isAll (afterKey t l)
 -- a step with the time that a number gives
 unfoldable pub timed : (RunTime → Step) → Number → StepLine
 timed f (number.Value z) = Value (f (record { 0 = z }))
-timed f (number.Bad x) = Bad x
+timed f (number.Bad x) = Bad (lineLacks x)
 
 abbrev pub timeIn : List ℕ → Number
 timeIn s = numberIn (pos 0) lastTime s

@@ -23,8 +23,9 @@ use Rattle.text.specs.Lines.{nextLine, afterKey, isSome, hasKey}
 use Rattle.text.specs.LineLaws.{afterKey-split, hasKey-true, hasKey-false}
 use Rattle.text.specs.Numbers.{isEmpty}
 use Rattle.text.specs.NumberLaws.{numberIn-value, decimal-some}
-use Rattle.text.specs.declared.Fault.{Fault}
-use Rattle.text.specs.declared.Fault.the-variants as fault
+use Rattle.text.specs.declared.NumberFault.{NumberFault}
+use Rattle.lines.specs.declared.Fault.{Fault}
+use Rattle.lines.specs.declared.Fault.the-variants as fault
 use Rattle.text.specs.declared.Number.{Number}
 use Rattle.text.specs.declared.Number.the-variants as number
 use Rattle.clock.specs.declared.RunTime.{RunTime}
@@ -33,11 +34,11 @@ use Rattle.runs.specs.declared.Step.the-variants.{Ask, Start, Finish}
 use Rattle.runs.specs.declared.Choice.the-variants.{At, Auto}
 use Rattle.runs.specs.ValueLimits.{lastTime, isTime}
 use Rattle.runs.specs.Steps.{isStep}
-use Rattle.plan.specs.declared.Refusal.{Refusal}
-use Rattle.plan.specs.declared.Refusal.the-variants.{Form}
-use Rattle.plan.specs.Refusals.{faultAt}
-use Rattle.plan.specs.Reading.{refused}
-use Rattle.plan.specs.ReadAtLaws.{lineTo-bare, lineTo-fault, lineTo-value}
+use Rattle.lines.specs.declared.Refusal.{Refusal}
+use Rattle.lines.specs.declared.Refusal.the-variants.{Form}
+use Rattle.lines.specs.Refusals.{lineLacks, faultAt}
+use Rattle.lines.specs.Reading.{refused}
+use Rattle.lines.specs.ReadAtLaws.{lineTo-bare, lineTo-fault, lineTo-value}
 use Rattle.session.specs.declared.StepAt.{StepAt}
 use Rattle.session.specs.declared.StepAt.the-variants as stepAt
 use Rattle.session.specs.StepAt.{stepTold, StepEnds}
@@ -115,7 +116,7 @@ module _ (f : RunTime → Step) (s : List ℕ) where
       let g : SFits w64 z = omega (wholes, q .0 .least, q .0 .greatest) in
       rw (e, toZ-ofZ g)
 
-  pub timed-bad : (x : Fault) → timeIn s ≡ number.Bad x → timed f (timeIn s) ≡ Bad x
+  pub timed-bad : (x : NumberFault) → timeIn s ≡ number.Bad x → timed f (timeIn s) ≡ Bad (lineLacks x)
   unfolding timed
   timed-bad x e = rw e
 

@@ -6,9 +6,9 @@ use lib.ListN.{length, take}
 use Rattle.text.specs.Unique.{only}
 use Rattle.text.specs.Lent.{written}
 use Rattle.session.specs.declared.StepLine.{StepLine}
-use Rattle.plan.specs.declared.Written.{Written}
-use Rattle.calendars.specs.Whole.{writtenWhole}
-use Rattle.plan.specs.Reading.{refusedNumber, refusedValue, faultyPart}
+use Rattle.lines.specs.declared.Written.{Written}
+use Rattle.lines.specs.Whole.{writtenWhole}
+use Rattle.lines.specs.Reading.{refusedNumber, refusedValue, faultyPart}
 use Rattle.session.specs.StepRead.{stepIn}
 use Rattle.session.specs.SessionRead.{sessionRead}
 use Rattle.session.specs.Sessions.{dispatchOutput, sessionAnswer}

@@ -1,11 +1,11 @@
 // The answer of a session whose plan was judged, written into a lent slice or refused by 12.
 use crate::steps::put_answers;
 use calendars::Calendar;
+use lines::Refusal;
+use lines::Written;
+use lines::put_refused;
 use plan::Plan;
 use plan::PlanRead;
-use plan::Refusal;
-use plan::Written;
-use plan::put_refused;
 use rounds::Verdict;
 use rounds::VerdictTold;
 use rounds::tell_verdict;
@@ -13,13 +13,13 @@ ghost use mathlib.Core.Path.{_≡_};
 ghost use Prim.Native.Nat.{_+_, _*_, _-_, _≤_};
 ghost use lib.ListN.{length, drop};
 ghost use Rattle.text.specs.Lent.{Stored, written};
-ghost use Rattle.plan.specs.Refusals.{refusedLine};
+ghost use Rattle.lines.specs.Refusals.{refusedLine};
 ghost use Rattle.rounds.specs.Rounds.{outcome};
-ghost use Rattle.plan.specs.declared.PlanAnswer.the-variants as planAnswer;
+ghost use Rattle.lines.specs.declared.PlanAnswer.the-variants as planAnswer;
 ghost use Rattle.plan.specs.PlanRead.{planHead};
 ghost use Rattle.plan.specs.PlanAnswers.{planRead};
 ghost use Rattle.session.specs.Sessions.{judgedSession, dispatchOutput, sessionAnswer, mostSessionBytes};
-ghost use Rattle.plan.specs.Written.{writtenAs};
+ghost use Rattle.lines.specs.Written.{writtenAs};
 ghost use Rattle.session.specs.Judged.{Judged};
 
 // The answers of a session whose plan was judged: the steps', from a place of the text on, or the plan's one line.

@@ -1,12 +1,12 @@
 // Sessions: a plan followed by steps, and the answer text to them.
 
-use plan::PlanAnswer;
-use plan::Refusal;
+use lines::Fault;
+use lines::PlanAnswer;
+use lines::Refusal;
 use runs::Step;
-use text::Fault;
 
 // No answer has more bytes: a step has at least 8, and its answer at most 56.
-pub const MOST_BYTES: usize = 7 * plan::LONGEST_TEXT + 56;
+pub const MOST_BYTES: usize = 7 * lines::LONGEST_TEXT + 56;
 
 // A step line as it was read: the step, or what the line lacks.
 pub enum StepLine {

@@ -82,7 +82,7 @@ pub fn put_answer(out: &mut [u8], at: usize, a: Answer) -> usize
             job,
             finish,
         } => put_final(out, at, window, job, finish),
-        Answer::Refused(x) => plan::put_refused(out, at, x),
+        Answer::Refused(x) => lines::put_refused(out, at, x),
     }
 }
 
@@ -102,6 +102,6 @@ pub fn ends_session(a: Answer) -> bool
             job: _,
             finish: _,
         } => false,
-        Answer::Refused(x) => plan::ends(x),
+        Answer::Refused(x) => lines::ends(x),
     }
 }

@@ -1,12 +1,12 @@
 // The dispatch program's answer to what it has read, written whole: no session's answer is longer than the array that is lent.
 use crate::MOST_BYTES;
 use crate::program::answer;
-use plan::LONGEST_TEXT;
-use plan::Written;
+use lines::LONGEST_TEXT;
+use lines::Written;
 ghost use mathlib.Core.Path.{_≡_};
 ghost use Prim.Native.Nat.{_≤_};
 ghost use lib.ListN.{length, take};
-ghost use Rattle.calendars.specs.Whole.{writtenWhole};
+ghost use Rattle.lines.specs.Whole.{writtenWhole};
 ghost use Rattle.session.specs.Sessions.{dispatchOutput};
 
 // The answer to a session text, and its length. No text is refused by 12: the last arm is never reached.

@@ -1,9 +1,9 @@
 // The dispatch program, from the bytes of its input to those of its output.
 use crate::judged::answer_judged;
 use calendars::decide;
-use plan::PlanAnswer;
-use plan::Written;
-use plan::write_refused;
+use lines::PlanAnswer;
+use lines::Written;
+use lines::write_refused;
 ghost use mathlib.Core.Path.{_≡_};
 ghost use Prim.Native.Nat.{_≤_};
 ghost use lib.ListN.{length};

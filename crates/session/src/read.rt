@@ -2,11 +2,12 @@
 use crate::StepAt;
 use crate::StepLine;
 use clock::RunTime;
-use plan::Refusal;
+use lines::Fault;
+use lines::Refusal;
+use lines::line_lacks;
 use runs::Choice;
 use runs::LAST_TIME;
 use runs::Step;
-use text::Fault;
 use text::Number;
 ghost use mathlib.Core.Path.{_≡_};
 ghost use Prim.Native.Nat.{_+_, _≤_};
@@ -34,7 +35,7 @@ fn start_in(s: &[u8]) -> StepLine
     let n = text::read_number(s, 0, LAST_TIME);
     match n {
         Number::Value(t) => StepLine::Value(Step::Start(Choice::At(RunTime(t)))),
-        Number::Bad(f) => StepLine::Bad(f),
+        Number::Bad(f) => StepLine::Bad(line_lacks(f)),
     }
 }
 
@@ -45,7 +46,7 @@ fn finish_in(s: &[u8]) -> StepLine
     let n = text::read_number(s, 0, LAST_TIME);
     match n {
         Number::Value(t) => StepLine::Value(Step::Finish(RunTime(t))),
-        Number::Bad(f) => StepLine::Bad(f),
+        Number::Bad(f) => StepLine::Bad(line_lacks(f)),
     }
 }
 
@@ -80,7 +81,7 @@ pub fn read_step_at(s: &[u8], at: usize, line: usize) -> StepAt
     match read {
         StepLine::Value(st) => StepAt::Value(st, next),
         StepLine::Bad(f) => {
-            let refusal = plan::fault_at(line, f);
+            let refusal = lines::fault_at(line, f);
             StepAt::Bad(refusal)
         }
     }

@@ -4,15 +4,15 @@ use crate::StepsRead;
 use crate::read::read_step_at;
 use crate::read::step_refusal;
 use calendars::decide;
-use plan::PlanAnswer;
-use plan::tell_refusal;
+use lines::PlanAnswer;
+use lines::tell_refusal;
 use rounds::VerdictTold;
 use rounds::tell_verdict;
 ghost use mathlib.Core.Path.{_≡_};
 ghost use Prim.Native.Nat.{_≤_};
 ghost use lib.ListN.{length, drop};
-ghost use Rattle.plan.specs.Reading.{refusedNumber, refusedValue, faultyPart};
-ghost use Rattle.plan.specs.PlanAnswers.{answerNumber, answerValue, partAt, Told};
+ghost use Rattle.lines.specs.Reading.{refusedNumber, refusedValue, faultyPart};
+ghost use Rattle.lines.specs.Answers.{answerNumber, answerValue, partAt, Told};
 ghost use Rattle.session.specs.SessionRead.{stepLines, sessionRead};
 
 // The first step line of a text that is refused, from a place on, whose line has number line.

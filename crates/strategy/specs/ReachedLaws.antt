@@ -18,10 +18,10 @@ use Rattle.whole.specs.Rules.{wholes}
 use Rattle.text.specs.Numbers.{within}
 use Rattle.clock.specs.declared.RunTime.{RunTime}
 use Rattle.plan.specs.declared.Plan.{Plan}
-use Rattle.plan.specs.declared.Refusal.{Refusal}
-use Rattle.plan.specs.declared.Refusal.the-variants as refusal
+use Rattle.lines.specs.declared.Refusal.{Refusal}
+use Rattle.lines.specs.declared.Refusal.the-variants as refusal
 use Rattle.plan.specs.Limits.{mostJobs}
-use Rattle.plan.specs.Refusals.{outsideLimits}
+use Rattle.lines.specs.Refusals.{outsideLimits}
 use Rattle.plan.specs.PlanRead.{noJob}
 use Rattle.bounds.specs.Events.{startNode, finishNode}
 use Rattle.bounds.specs.Tables.{upto, Rows, at}

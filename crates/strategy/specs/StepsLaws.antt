@@ -10,10 +10,10 @@ use lib.ListN.{getD}
 use Rattle.text.specs.Numbers.{within}
 use Rattle.clock.specs.declared.RunTime.{RunTime}
 use Rattle.plan.specs.declared.Plan.{Plan}
-use Rattle.plan.specs.declared.Refusal.{Refusal}
-use Rattle.plan.specs.declared.Refusal.the-variants as refusal
+use Rattle.lines.specs.declared.Refusal.{Refusal}
+use Rattle.lines.specs.declared.Refusal.the-variants as refusal
 use Rattle.plan.specs.PlanRead.{noJob}
-use Rattle.plan.specs.Refusals.{outsideLimits}
+use Rattle.lines.specs.Refusals.{outsideLimits}
 use Rattle.calendars.specs.declared.Calendar.{Calendar}
 use Rattle.runs.specs.declared.Phase.{Phase}
 use Rattle.runs.specs.declared.Phase.the-variants.{Waiting, Running}

@@ -12,7 +12,7 @@ use lib.ListN.{length}
 use Rattle.clock.specs.declared.RunTime.{RunTime}
 use Rattle.plan.specs.declared.Plan.{Plan}
 use Rattle.plan.specs.Accepted.{Accepted}
-use Rattle.plan.specs.declared.Refusal.the-variants as refusal
+use Rattle.lines.specs.declared.Refusal.the-variants as refusal
 use Rattle.bounds.specs.Events.{jobAt, startNode, finishNode, nodes}
 use Rattle.bounds.specs.Tables.{Cell, off, upto, Rows, at, contradiction, bounds, judgedSet}
 use Rattle.bounds.specs.Elimination.{finishCell, startCell}

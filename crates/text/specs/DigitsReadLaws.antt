@@ -21,7 +21,7 @@ use mir.Val.{SFits}
 use Rattle.whole.specs.Rules.{wholes}
 use Rattle.whole.specs.SplitLaws.{split-neg}
 use Rattle.whole.specs.Order.{fits-least, fits-below}
-use Rattle.text.specs.declared.Fault.the-variants.{Form}
+use Rattle.text.specs.declared.NumberFault.the-variants.{Form}
 use Rattle.text.specs.declared.Number.the-variants as number
 use Rattle.text.specs.declared.Digits.the-variants.{Value, Bad}
 use Rattle.text.specs.Numbers.{minus, zeroDigit, nineDigit, isDigit, allDigits, isPositive, isNumber, digitsValue, numberValue, numberWithin, numberIn}

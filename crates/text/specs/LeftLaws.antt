@@ -1,11 +1,15 @@
 -- A text that is written piece by piece: `Left` says what is left to be written. At the beginning that is the whole text (`left-whole`); a piece that was
 -- written is left no more (`left-past`); and where nothing is left, the text was written (`left-end`).
+-- The texts of the first n places of a list, written one by one: at the beginning all are left (`left-places`); one turn (`left-next`); and where no place is
+-- left, the text was written (`left-stop`, `left-out`).
 
-use Prim.Native.Nat.{ℕ, _+_}
-use mathlib.Core.Path.{_≡_, refl, sym, ap, _∙_}
-use mathlib.Core.List.{List, [], _++_}
+use Prim.Native.Nat.{ℕ, zero, suc, _+_, _-_, _≤_, _<_}
+use mathlib.Core.Path.{_≡_, refl, sym, ap, _∙_, subst}
+use mathlib.Core.List.{List, [], _∷_, _++_}
+use native.Mathlib.Numerals.{add-one}
 use native.Mathlib.Omega.{arith}
-use lib.ListN.{length, length-append}
+use lib.ListN.{length, getD, take, drop, length-append, drop-of-length-le}
+use lib.Seq.{drop-cons}
 use Rattle.text.specs.Lent.{put, Stored}
 use Rattle.text.specs.LentLaws.{put-nil, put-append}
 
@@ -26,3 +30,35 @@ left-past {o = o} {t} {u} {j = j} {j′} l d =
 
 pub left-end : {out s o : List ℕ} {at j : ℕ} → Left out at s o j [] → Stored out at s o j
 left-end {o = o} {j = j} l = record { place = omega (arith, l .place); slice = sym (put-nil o j) ∙ l .slice }
+
+-- ---- the first n places of a list, one by one
+
+module _ {A : Type 0} (text : List A → List ℕ) (xs : List A) (n : ℕ) where
+  -- what is left of the text from place i on
+  abbrev pub leftFrom : ℕ → List ℕ
+  leftFrom i = text (take (n - i) (drop i xs))
+
+  pub left-places : (out : List ℕ) (at : ℕ) → Left out at (text (take n xs)) out at (leftFrom 0)
+  left-places out at = let all : n - 0 ≡ n = omega arith in rw all (left-whole out at (text (take n xs)))
+
+  module _ (nil : text [] ≡ []) {out s o : List ℕ} {at j i : ℕ} (l : Left out at s o j (leftFrom i)) where
+    pub left-stop : n ≤ i → Stored out at s o j
+    left-stop h = let none : n - i ≡ 0 = omega arith in left-end (subst (λ (t : List ℕ). Left out at s o j t) (ap (λ (k : ℕ). text (take k (drop i xs))) none ∙ nil) l)
+
+    pub left-out : length xs ≤ i → Stored out at s o j
+    left-out h = left-end (subst (λ (t : List ℕ). Left out at s o j t) (ap (λ (ys : List A). text (take (n - i) ys)) (drop-of-length-le xs h) ∙ take-none (n - i) ∙ nil) l)
+      where
+        take-none : (k : ℕ) → text (take k []) ≡ text []
+        take-none zero = refl
+        take-none (suc k) = refl
+
+  module _ (more : (x : A) (ys : List A) → text (x ∷ ys) ≡ text (x ∷ []) ++ text ys) {out s o : List ℕ} {at j i : ℕ} (l : Left out at s o j (leftFrom i)) where
+    pub left-next : (d : A) {o′ : List ℕ} {j′ : ℕ} → i < n → i < length xs → Stored o j (text (getD xs i d ∷ [])) o′ j′ → Left out at s o′ j′ (leftFrom (i + 1))
+    left-next d h k p =
+        let left : n - i ≡ suc (n - (i + 1)) = omega arith in
+        let e : leftFrom i ≡ text (getD xs i d ∷ []) ++ leftFrom (i + 1) =
+        ap (λ (m : ℕ). text (take m (drop i xs))) left
+        ∙ ap (λ (ys : List A). text (take (suc (n - (i + 1))) ys)) (drop-cons xs i d k)
+        ∙ more (getD xs i d) (take (n - (i + 1)) (drop (suc i) xs))
+        ∙ ap (λ (m : ℕ). text (getD xs i d ∷ []) ++ text (take (n - (i + 1)) (drop m xs))) (sym (add-one i)) in
+        left-past (subst (λ (t : List ℕ). Left out at s o j t) e l) p

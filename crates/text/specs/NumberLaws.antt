@@ -22,39 +22,12 @@ use mir.Syntax.{w64}
 use mir.Val.{SFits}
 use Rattle.whole.specs.Split.{up, dn}
 use Rattle.whole.specs.Rules.{wholes}
-use Rattle.text.specs.declared.Fault.the-variants.{Form, Range}
+use Rattle.text.specs.declared.NumberFault.the-variants.{Form, Range}
 use Rattle.text.specs.declared.Number.the-variants.{Value, Bad}
 use Rattle.text.specs.Lines.{LF, lenTo, afterKey, hasKey}
 use Rattle.text.specs.LineLaws.{lenTo-other, free-append, afterKey-back, afterKey-split, hasKey-true, hasKey-false}
-use Rattle.text.specs.Numbers.{
-  minus,
-  zeroDigit,
-  isDigit,
-  isPositive,
-  isEmpty,
-  isNumber,
-  digitsValue,
-  numberValue,
-  numberWithin,
-  numberIn,
-  numberOf,
-  numberAfter,
-  digitsBefore,
-  digits,
-  decimal,
-}
-use Rattle.text.specs.DigitLaws.{
-  digits-all,
-  digits-positive,
-  digits-some,
-  digits-fits,
-  digits-free,
-  digits-back,
-  isPositive-nil,
-  isPositive-more,
-  positive-back,
-  positive-value,
-}
+use Rattle.text.specs.Numbers.{minus, zeroDigit, isDigit, isPositive, isEmpty, isNumber, digitsValue, numberValue, numberWithin, numberIn, numberOf, numberAfter, digitsBefore, digits, decimal}
+use Rattle.text.specs.DigitLaws.{digits-all, digits-positive, digits-some, digits-fits, digits-free, digits-back, isPositive-nil, isPositive-more, positive-back, positive-value}
 
 -- ---- written
 

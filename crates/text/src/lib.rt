@@ -1,16 +1,15 @@
-// Bytes of a text: where a line ends, its key, and its decimal number, read and written. This crate knows nothing of plans.
+// Bytes of a text: where a line ends, its key, and its decimal number, read and written. This crate knows nothing of refusals.
 
-// What a line can lack, in the order in which a line is judged: its form, the range of a number, a proper pair.
-pub enum Fault {
+// What the text of a number can lack: the form of a number, or its range.
+pub enum NumberFault {
     Form,
     Range,
-    Pair,
 }
 
 // A number as it was read: its value, or what it lacks.
 pub enum Number {
     Value(i64),
-    Bad(Fault),
+    Bad(NumberFault),
 }
 
 // Digits without a leading zero, as they were read: their number, or `TOO_LARGE` for all numbers from there on.

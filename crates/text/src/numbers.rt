@@ -1,7 +1,7 @@
 // Decimal numbers, read inside a range.
 use crate::Digits;
-use crate::Fault;
 use crate::Number;
+use crate::NumberFault;
 use crate::TOO_LARGE;
 use crate::line::has_key;
 ghost use mathlib.Core.Path.{_≡_};
@@ -46,10 +46,10 @@ fn in_range(z: i64, lo: i64, hi: i64) -> Number
     ensures { λ r. ⌜ r ≡ numberWithin lo hi z ⌝ }
 {
     if z < lo {
-        return Number::Bad(Fault::Range);
+        return Number::Bad(NumberFault::Range);
     }
     if hi < z {
-        return Number::Bad(Fault::Range);
+        return Number::Bad(NumberFault::Range);
     }
     Number::Value(z)
 }
@@ -61,7 +61,7 @@ fn positive_in(n: u64, lo: i64, hi: i64) -> Number
     if n <= 9223372036854775807 {
         in_range(n as i64, lo, hi)
     } else {
-        Number::Bad(Fault::Range)
+        Number::Bad(NumberFault::Range)
     }
 }
 
@@ -76,7 +76,7 @@ fn negative_in(n: u64, lo: i64, hi: i64) -> Number
         if n == 9223372036854775808 {
             in_range(-9223372036854775808, lo, hi)
         } else {
-            Number::Bad(Fault::Range)
+            Number::Bad(NumberFault::Range)
         }
     }
 }
@@ -86,11 +86,11 @@ pub fn read_number(s: &[u8], lo: i64, hi: i64) -> Number
     ensures { λ r. ⌜ r ≡ numberIn lo hi (now (s .entry)) ⌝ }
 {
     if s.len() == 0 {
-        return Number::Bad(Fault::Form);
+        return Number::Bad(NumberFault::Form);
     }
     if s[0] == b'-' {
         let Digits::Value(n) = read_positive(s, 1) else {
-            return Number::Bad(Fault::Form);
+            return Number::Bad(NumberFault::Form);
         };
         return negative_in(n, lo, hi);
     }
@@ -98,10 +98,10 @@ pub fn read_number(s: &[u8], lo: i64, hi: i64) -> Number
         if s.len() == 1 {
             return in_range(0, lo, hi);
         }
-        return Number::Bad(Fault::Form);
+        return Number::Bad(NumberFault::Form);
     }
     let Digits::Value(n) = read_positive(s, 0) else {
-        return Number::Bad(Fault::Form);
+        return Number::Bad(NumberFault::Form);
     };
     positive_in(n, lo, hi)
 }
@@ -111,7 +111,7 @@ pub fn number_after(s: &[u8], key: &[u8], lo: i64, hi: i64) -> Number
     ensures { λ r. ⌜ r ≡ numberAfter (now (key .entry)) lo hi (now (s .entry)) ⌝ }
 {
     if !has_key(s, key) {
-        return Number::Bad(Fault::Form);
+        return Number::Bad(NumberFault::Form);
     }
     let from = key.len();
     read_number(&s[from..], lo, hi)

@@ -5,9 +5,9 @@ use mathlib.Core.List.{List, []}
 use Prim.Native.Nat.{ℕ, _+_, _*_}
 use native.Mathlib.Omega.{arith}
 use Rattle.plan.specs.declared.Plan.{Plan}
-use Rattle.plan.specs.declared.PlanAnswer.{PlanAnswer}
-use Rattle.plan.specs.declared.Refusal.{Refusal}
-use Rattle.plan.specs.Reading.{Reading, read, refused}
+use Rattle.lines.specs.declared.PlanAnswer.{PlanAnswer}
+use Rattle.lines.specs.declared.Refusal.{Refusal}
+use Rattle.lines.specs.Reading.{Reading, read, refused}
 use Rattle.plan.specs.PlanRead.{planLines, nothingAfter, planAlone}
 use Rattle.plan.specs.PlanWritten.{trimmed, planText}
 use Rattle.plan.specs.Accepted.{Accepted}

@@ -14,17 +14,17 @@ use lib.Signed.{_≤ℤ_, leZ}
 use mir.Syntax.{w64}
 use mir.Val.{SFits}
 use Rattle.whole.specs.Rules.{whole}
-use Rattle.text.specs.declared.Fault.the-variants as fault
+use Rattle.lines.specs.declared.Fault.the-variants as fault
 use Rattle.plan.specs.declared.Job.{Job}
 use Rattle.plan.specs.declared.Bound.{Bound}
 use Rattle.plan.specs.declared.BoundLine.the-variants as boundLine
 use Rattle.plan.specs.declared.Plan.{Plan}
-use Rattle.plan.specs.declared.PlanAnswer.{PlanAnswer}
-use Rattle.plan.specs.declared.PlanAnswer.the-variants as answer
-use Rattle.plan.specs.declared.Refusal.{Refusal}
-use Rattle.plan.specs.declared.Refusal.the-variants.{Form, Range}
-use Rattle.plan.specs.Limits.{longestText, longestWindow, mostRounds, mostWindows, mostJobs, longestRunning, latestDeadline, mostBounds, leastC, greatestC}
-use Rattle.plan.specs.Reading.{Reading, read, refused}
+use Rattle.lines.specs.declared.PlanAnswer.{PlanAnswer}
+use Rattle.lines.specs.declared.PlanAnswer.the-variants as answer
+use Rattle.lines.specs.declared.Refusal.{Refusal}
+use Rattle.lines.specs.declared.Refusal.the-variants.{Form, Range}
+use Rattle.lines.specs.Reading.{longestText, Reading, read, refused}
+use Rattle.plan.specs.Limits.{longestWindow, mostRounds, mostWindows, mostJobs, longestRunning, latestDeadline, mostBounds, leastC, greatestC}
 use Rattle.plan.specs.PlanRead.{isJob, isWrongPair, noJob, noBound, planAlone}
 use Rattle.plan.specs.PlanWritten.{jobsOf, boundsOf, planText, refusalOf, judgedPlan}
 use Rattle.values.specs.PlanJudged.{judgedAnswer, andThen, numberJudged, jobJudged, jobsJudged, isOneDigit, lineJudged, boundJudged, boundsJudged, planJudged}

@@ -14,9 +14,11 @@ use Rattle.text.specs.Numbers.{decimal}
 use Rattle.plan.specs.declared.Job.{Job}
 use Rattle.plan.specs.declared.Bound.{Bound}
 use Rattle.plan.specs.declared.Plan.{Plan}
-use Rattle.plan.specs.Limits.{longestText}
+use Rattle.lines.specs.Reading.{longestText}
 use Rattle.plan.specs.EventNames.{nameBytes}
-use Rattle.plan.specs.PlanWritten.{keyed, jobsText, boundsText, jobsOf, boundsOf, planText}
+use Rattle.lines.specs.Keyed.{keyed}
+use Rattle.plan.specs.PlanWritten.{jobsText, boundsText, jobsOf, boundsOf, planText}
+use Rattle.lines.specs.KeyedLaws.{keyed-short, count-short}
 use Rattle.plan.specs.ListLaws.{All}
 use Rattle.values.specs.JudgedLines.{Key, keys, Placed}
 
@@ -43,7 +45,7 @@ pub record PlanFits (p : Plan) : Type 0 where
   pub bound-fits : All BoundFits (boundsOf p)
 
 keyed-length : (key : List ℕ) → Key key → (z : ℤ) → length (decimal z) ≤ 20 → (s : List ℕ) → length (keyed key z s) ≤ 30 + length s
-keyed-length key q z h s = omega (arith, length-append key (decimal z ++ (LF ∷ s)), length-append (decimal z) (LF ∷ s), q .short)
+keyed-length key q z h s = keyed-short key 9 z s (q .short) h
 
 jobsText-length : (js : List Job) (s : List ℕ) → All JobFits js → length (jobsText js s) ≤ 120 * length js + length s
 unfolding jobsText
@@ -79,10 +81,6 @@ boundsText-length (d ∷ ds) h =
       decimal-short (d .c) (f .c),
       boundsText-length ds (h .1),
     )
-
-count-short : (n : ℕ) → n < 2 ^ 64 → length (decimal (pos n)) ≤ 20
-unfolding decimal
-count-short n h = digits-short n h
 
 pub planText-short : (p : Plan) → PlanFits p → length (planText p) ≤ longestText
 unfolding planText

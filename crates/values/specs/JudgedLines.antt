@@ -19,7 +19,8 @@ use Rattle.text.specs.DigitLaws.{digits-all, digits-free}
 use Rattle.text.specs.LineLaws.{lenTo-other, free-append, before-back, has-back, after-back, afterKey-back}
 use Rattle.text.specs.NumberLaws.{decimal-form, decimal-back, decimal-free, numberIn-decimal, numberAfter-back, keyed-free}
 use Rattle.text.specs.Numbers.{isDigit, digits, decimal, within}
-use Rattle.text.specs.declared.Fault.the-variants as fault
+use Rattle.text.specs.declared.NumberFault.the-variants as numberFault
+use Rattle.lines.specs.declared.Fault.the-variants as fault
 use Rattle.text.specs.declared.Number.the-variants as number
 use Rattle.plan.specs.declared.Job.{Job}
 use Rattle.plan.specs.declared.Letter.{Letter}
@@ -30,16 +31,17 @@ use Rattle.plan.specs.declared.EventName.{EventName}
 use Rattle.plan.specs.declared.Bound.{Bound}
 use Rattle.plan.specs.declared.BoundLine.the-variants as boundLine
 use Rattle.plan.specs.declared.Plan.{Plan}
-use Rattle.plan.specs.declared.PlanAnswer.{PlanAnswer}
-use Rattle.plan.specs.declared.PlanAnswer.the-variants.{Accepted, Refused}
-use Rattle.plan.specs.declared.Refusal.{Refusal}
-use Rattle.plan.specs.declared.Refusal.the-variants.{Form, Range, Pair}
-use Rattle.plan.specs.Limits.{longestText, longestWindow, mostRounds, mostWindows, mostJobs, longestRunning, latestDeadline, mostBounds, leastC, greatestC}
-use Rattle.plan.specs.Reading.{Lined, Reading, read, refused, Reader, next, _>>=_, answer, lined, line, linedNumber, numberLine}
+use Rattle.lines.specs.declared.PlanAnswer.{PlanAnswer}
+use Rattle.lines.specs.declared.PlanAnswer.the-variants.{Accepted, Refused}
+use Rattle.lines.specs.declared.Refusal.{Refusal}
+use Rattle.lines.specs.declared.Refusal.the-variants.{Form, Range, Pair}
+use Rattle.lines.specs.Reading.{longestText, Lined, Reading, read, refused, Reader, next, _>>=_, answer, lined, line, linedNumber, numberLine, countLine}
+use Rattle.plan.specs.Limits.{longestWindow, mostRounds, mostWindows, mostJobs, longestRunning, latestDeadline, mostBounds, leastC, greatestC}
 use Rattle.plan.specs.EventNames.{letterByte, kindByte, nameBytes, eventName}
 use Rattle.plan.specs.EventNameLaws.{eventName-back, eventName-long}
-use Rattle.plan.specs.PlanRead.{countLine, jobLines, jobsAfter, partsOf, boundParts, isJob, isWrongPair, judgedBound, boundOf, linedBound, boundIn, boundsAfter, planOf, planRest, planLines, nothingAfter}
-use Rattle.plan.specs.PlanWritten.{keyed, jobsText, boundBytes, boundsText, jobsOf, boundsOf, trimmed, planText, refusalOf, judgedPlan}
+use Rattle.plan.specs.PlanRead.{jobLines, jobsAfter, partsOf, boundParts, isJob, isWrongPair, judgedBound, boundOf, linedBound, boundIn, boundsAfter, planOf, planRest, planLines, nothingAfter}
+use Rattle.lines.specs.Keyed.{keyed}
+use Rattle.plan.specs.PlanWritten.{jobsText, boundBytes, boundsText, jobsOf, boundsOf, trimmed, planText, refusalOf, judgedPlan}
 use Rattle.plan.specs.HeadLaws.{planHead-short}
 use Rattle.plan.specs.PlanLaws.{boundBytes-append}
 use Rattle.values.specs.PlanJudged.{judgedAnswer, andThen, numberJudged, jobJudged, jobsJudged, isOneDigit, lineJudged, boundJudged, boundsJudged, planJudged}
@@ -150,7 +152,7 @@ module _ (key : List ℕ) (bare : lenTo LF key ≡ length key) (lo hi z : ℤ) (
       ∙ rw (numberAfter-back key lo hi (decimal z), numberIn-decimal lo hi z)
       (by-range (within lo hi z)))
     where
-      by-range : (b : Bool) → lined (linedNumber (cond b (number.Value z) (number.Bad fault.Range))) ((key ++ decimal z) ++ (LF ∷ s)) n
+      by-range : (b : Bool) → lined (linedNumber (cond b (number.Value z) (number.Bad numberFault.Range))) ((key ++ decimal z) ++ (LF ∷ s)) n
           ≡ cond b (read z s (suc n)) (refused (Range n) ((key ++ decimal z) ++ (LF ∷ s)))
       by-range true = ap (λ (t : List ℕ). read z t (suc n)) (after-back LF (key ++ decimal z) s (keyed-free key z bare))
       by-range false = refl

@@ -13,10 +13,10 @@ use Rattle.plan.specs.declared.Job.{Job}
 use Rattle.plan.specs.declared.EventName.{EventName}
 use Rattle.plan.specs.declared.Bound.{Bound}
 use Rattle.plan.specs.declared.Plan.{Plan}
-use Rattle.plan.specs.declared.PlanAnswer.{PlanAnswer}
-use Rattle.plan.specs.declared.PlanAnswer.the-variants.{Accepted, Refused}
-use Rattle.plan.specs.declared.Refusal.{Refusal}
-use Rattle.plan.specs.declared.Refusal.the-variants.{Form}
+use Rattle.lines.specs.declared.PlanAnswer.{PlanAnswer}
+use Rattle.lines.specs.declared.PlanAnswer.the-variants.{Accepted, Refused}
+use Rattle.lines.specs.declared.Refusal.{Refusal}
+use Rattle.lines.specs.declared.Refusal.the-variants.{Form}
 use Rattle.plan.specs.Limits.{longestWindow, mostRounds, mostWindows, mostJobs, mostBounds, longestRunning, latestDeadline}
 use Rattle.plan.specs.PlanRead.{isWrongPair, judgedBound, noJob, noBound}
 use Rattle.plan.specs.PlanWritten.{jobsOf, boundsOf}

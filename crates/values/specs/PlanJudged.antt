@@ -13,12 +13,12 @@ use Rattle.plan.specs.declared.Bound.{Bound}
 use Rattle.plan.specs.declared.BoundLine.{BoundLine}
 use Rattle.plan.specs.declared.BoundLine.the-variants as boundLine
 use Rattle.plan.specs.declared.Plan.{Plan}
-use Rattle.plan.specs.declared.PlanAnswer.{PlanAnswer}
-use Rattle.plan.specs.declared.PlanAnswer.the-variants.{Accepted, Refused}
-use Rattle.plan.specs.declared.Refusal.{Refusal}
-use Rattle.plan.specs.declared.Refusal.the-variants.{Form, Range}
+use Rattle.lines.specs.declared.PlanAnswer.{PlanAnswer}
+use Rattle.lines.specs.declared.PlanAnswer.the-variants.{Accepted, Refused}
+use Rattle.lines.specs.declared.Refusal.{Refusal}
+use Rattle.lines.specs.declared.Refusal.the-variants.{Form, Range}
 use Rattle.plan.specs.Limits.{longestWindow, mostRounds, mostWindows, mostJobs, longestRunning, latestDeadline, mostBounds}
-use Rattle.plan.specs.Refusals.{faultAt}
+use Rattle.lines.specs.Refusals.{faultAt}
 use Rattle.plan.specs.PlanRead.{isWrongPair, judgedBound}
 use Rattle.plan.specs.PlanWritten.{jobsOf, boundsOf}
 

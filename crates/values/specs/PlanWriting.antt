@@ -4,11 +4,11 @@ use mathlib.Core.List.{List}
 use mathlib.Core.Option.{Option, none, some}
 use Rattle.text.specs.Lent.{written}
 use Rattle.plan.specs.declared.Plan.{Plan}
-use Rattle.plan.specs.declared.Refusal.{Refusal}
-use Rattle.plan.specs.declared.Written.{Written}
-use Rattle.plan.specs.declared.Written.the-variants.{Refused}
+use Rattle.lines.specs.declared.Refusal.{Refusal}
+use Rattle.lines.specs.declared.Written.{Written}
+use Rattle.lines.specs.declared.Written.the-variants.{Refused}
 use Rattle.plan.specs.PlanWritten.{planText, judgedPlan}
-use Rattle.plan.specs.Written.{writtenAs}
+use Rattle.lines.specs.Written.{writtenAs}
 
 -- a text that is to be written where nothing is refused: what is answered, and what the lent slice holds then. 'none writes to a lent buffer'
 unfoldable pub writtenWhere : Option Refusal → List ℕ → List ℕ → Written

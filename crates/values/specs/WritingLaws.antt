@@ -6,13 +6,13 @@ use mathlib.Core.Option.{Option, none, some}
 use Prim.Native.Nat.{ℕ}
 use Rattle.text.specs.Lent.{written}
 use Rattle.plan.specs.declared.Plan.{Plan}
-use Rattle.plan.specs.declared.PlanAnswer.{PlanAnswer}
-use Rattle.plan.specs.declared.PlanAnswer.the-variants as answer
-use Rattle.plan.specs.declared.Refusal.{Refusal}
-use Rattle.plan.specs.declared.Written.{Written}
-use Rattle.plan.specs.declared.Written.the-variants.{Refused}
+use Rattle.lines.specs.declared.PlanAnswer.{PlanAnswer}
+use Rattle.lines.specs.declared.PlanAnswer.the-variants as answer
+use Rattle.lines.specs.declared.Refusal.{Refusal}
+use Rattle.lines.specs.declared.Written.{Written}
+use Rattle.lines.specs.declared.Written.the-variants.{Refused}
 use Rattle.plan.specs.PlanWritten.{planText, judgedPlan}
-use Rattle.plan.specs.Written.{writtenAs}
+use Rattle.lines.specs.Written.{writtenAs}
 use Rattle.values.specs.PlanJudged.{judgedAnswer}
 use Rattle.values.specs.PlanWriting.{writtenWhere, bytesWhere, writtenPlan, planBytes}
 use Rattle.values.specs.JudgedLaws.{judgedAnswer-none, judgedAnswer-some}

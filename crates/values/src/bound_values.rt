@@ -1,11 +1,11 @@
 // The bounds of a plan's value, judged as their lines would be.
+use lines::PlanAnswer;
+use lines::Refusal;
+use lines::fault_at;
 use plan::Bound;
 use plan::BoundLine;
 use plan::MOST_BOUNDS;
 use plan::Plan;
-use plan::PlanAnswer;
-use plan::Refusal;
-use plan::fault_at;
 use plan::judge_bound;
 use plan::pair_number;
 ghost use mathlib.Core.Path.{_≡_};

@@ -1,8 +1,8 @@
 // The numbers and the jobs of a plan's value, judged as their lines would be.
+use lines::PlanAnswer;
+use lines::Refusal;
 use plan::Job;
 use plan::Plan;
-use plan::PlanAnswer;
-use plan::Refusal;
 ghost use mathlib.Core.Path.{_≡_};
 ghost use Prim.Native.Nat.{_≤_};
 ghost use lib.IntN.{pos};

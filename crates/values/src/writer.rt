@@ -1,5 +1,8 @@
 // A plan's text, written into a lent slice.
 use crate::plan_value::judge_plan;
+use lines::PlanAnswer;
+use lines::Refusal;
+use lines::Written;
 use plan::Bound;
 use plan::EventName;
 use plan::Job;
@@ -8,41 +11,15 @@ use plan::Letter;
 use plan::MOST_BOUNDS;
 use plan::MOST_JOBS;
 use plan::Plan;
-use plan::PlanAnswer;
-use plan::Refusal;
-use plan::Written;
 ghost use mathlib.Core.Path.{_≡_};
 ghost use mathlib.Core.List.{[], _∷_, _++_};
-ghost use lib.IntN.{pos};
 ghost use lib.ListN.{length, take};
 ghost use Prim.Native.Nat.{_+_, _^_, _≤_};
 ghost use Rattle.text.specs.Lent.{Stored, written};
 ghost use Rattle.plan.specs.EventNames.{letterByte, kindByte, nameBytes};
-ghost use Rattle.plan.specs.PlanWritten.{keyed, jobsText, boundsText, planText};
-ghost use Rattle.plan.specs.Written.{writtenAs};
+ghost use Rattle.plan.specs.PlanWritten.{jobsText, boundsText, planText};
+ghost use Rattle.lines.specs.Written.{writtenAs};
 ghost use Rattle.values.specs.PlanWriting.{writtenPlan, planBytes};
-
-// A line that is a key and a number, from a place on, as far as there is room; answers the place behind it.
-pub fn put_line(out: &mut [u8], at: usize, key: &[u8], z: i64) -> usize
-    requires { ⌜ at ≤ 2 ^ 60 ⌝ }
-    requires { ⌜ length (now key) ≤ 9 ⌝ }
-    ensures { λ r. ⌜ Stored (now (out .entry)) at (keyed (now (key .entry)) z []) (now (out .exit)) r ⌝ }
-    ensures { λ r. ⌜ r ≤ at + (length (now (key .entry)) + 21) ⌝ }
-{
-    let number = text::put_bytes(out, at, key);
-    text::put_ended_number(out, number, z, b'\n')
-}
-
-// A line that is a key and a count, likewise.
-pub fn put_count_line(out: &mut [u8], at: usize, key: &[u8], n: u64) -> usize
-    requires { ⌜ at ≤ 2 ^ 60 ⌝ }
-    requires { ⌜ length (now key) ≤ 9 ⌝ }
-    ensures { λ r. ⌜ Stored (now (out .entry)) at (keyed (now (key .entry)) (pos n) []) (now (out .exit)) r ⌝ }
-    ensures { λ r. ⌜ r ≤ at + (length (now (key .entry)) + 21) ⌝ }
-{
-    let number = text::put_bytes(out, at, key);
-    text::put_ended_count(out, number, n, b'\n')
-}
 
 // The four lines of a job.
 fn put_job(out: &mut [u8], at: usize, j: Job) -> usize
@@ -54,10 +31,10 @@ fn put_job(out: &mut [u8], at: usize, j: Job) -> usize
     let max = j.max as i64;
     let release = j.release as i64;
     let deadline = j.deadline as i64;
-    let second = put_line(out, at, b"min=", min);
-    let third = put_line(out, second, b"max=", max);
-    let fourth = put_line(out, third, b"release=", release);
-    put_line(out, fourth, b"deadline=", deadline)
+    let second = lines::put_line(out, at, b"min=", min);
+    let third = lines::put_line(out, second, b"max=", max);
+    let fourth = lines::put_line(out, third, b"release=", release);
+    lines::put_line(out, fourth, b"deadline=", deadline)
 }
 
 // The jobs among the first so many places.
@@ -158,12 +135,12 @@ pub fn put_plan(out: &mut [u8], at: usize, p: Plan) -> usize
     let bounds = p.bounds;
     let job = p.job;
     let bound = p.bound;
-    let second = put_line(out, at, b"window=", window);
-    let third = put_count_line(out, second, b"rounds=", p.rounds);
-    let fourth = put_count_line(out, third, b"last=", p.last);
-    let fifth = put_count_line(out, fourth, b"jobs=", jobs as u64);
+    let second = lines::put_line(out, at, b"window=", window);
+    let third = lines::put_count_line(out, second, b"rounds=", p.rounds);
+    let fourth = lines::put_count_line(out, third, b"last=", p.last);
+    let fifth = lines::put_count_line(out, fourth, b"jobs=", jobs as u64);
     let after_jobs = put_jobs(out, fifth, jobs, job);
-    let first_bound = put_count_line(out, after_jobs, b"bounds=", bounds as u64);
+    let first_bound = lines::put_count_line(out, after_jobs, b"bounds=", bounds as u64);
     put_bounds(out, first_bound, bounds, bound)
 }
 

@@ -1,5 +1,5 @@
 -- `answered`: the length that was answered counts bytes of the slice, by `written-counts`.
-use Rattle.plan.specs.WrittenLaws.{written-counts}
+use Rattle.lines.specs.WrittenLaws.{written-counts}
 use borrow.Author.Needs.{needs}
 use Rattle.by_value.proofs.plans.answered.Statement.{statement}
 use Rattle.by_value.proofs.plans.answered.Tie as tie

@@ -1,6 +1,6 @@
 -- `put_decision`: by how the verdict is told, `text-settled`, `text-refused`.
 use native.Mathlib.Omega.{arith}
-use Rattle.plan.specs.WrittenLaws.{stored-as}
+use Rattle.lines.specs.WrittenLaws.{stored-as}
 use Rattle.calendars.specs.DecisionsLaws.{text-settled, text-refused}
 use borrow.Author.Needs.{needs}
 use Rattle.calendars.proofs.decision_text.put_decision.Statement.{statement}

@@ -2,7 +2,7 @@
 -- came to bounds the length (`wrote-within`).
 use mathlib.Core.Path.{refl}
 use native.Mathlib.Omega.{arith}
-use Rattle.plan.specs.WrittenLaws.{stored-whole, measured-none, measured-whole, wrote-within}
+use Rattle.lines.specs.WrittenLaws.{stored-whole, measured-none, measured-whole, wrote-within}
 use borrow.Author.Needs.{needs}
 use Rattle.calendars.proofs.decision_text.write_decision.Statement.{statement}
 use Rattle.calendars.proofs.decision_text.write_decision.Tie as tie

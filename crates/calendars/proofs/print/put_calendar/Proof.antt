@@ -4,7 +4,7 @@ use borrow.Author.Needs.{needs}
 use lib.IntN.{pos}
 use Rattle.text.specs.Bytes.{bytes}
 use Rattle.calendars.specs.CalendarText.{calendarText}
-use Rattle.values.specs.PlanWrittenLaws.{stored-keyed}
+use Rattle.lines.specs.KeyedLaws.{stored-keyed}
 use Rattle.calendars.proofs.print.put_calendar.Statement.{statement}
 use Rattle.calendars.proofs.print.put_calendar.Tie as tie
 

@@ -7,8 +7,8 @@ use mir.Syntax.{w64}
 use Rattle.whole.specs.SplitLaws.{told-fits}
 use borrow.Author.Needs.{needs}
 use Rattle.text.specs.Bytes.{bytes}
-use Rattle.plan.specs.PlanWritten.{keyed}
-use Rattle.values.specs.PlanWrittenLaws.{stored-told, stored-keyed}
+use Rattle.lines.specs.Keyed.{keyed}
+use Rattle.lines.specs.KeyedLaws.{stored-told, stored-keyed}
 use Rattle.calendars.proofs.print.put_head.Statement.{statement}
 use Rattle.calendars.proofs.print.put_head.Tie as tie
 

@@ -4,7 +4,7 @@ use borrow.Author.Needs.{needs}
 use Rattle.whole.specs.SplitLaws.{cast-wide}
 use Rattle.text.specs.LentLaws.{stored-append, stored-near}
 use Rattle.text.specs.Numbers.{decimal}
-use Rattle.values.specs.PlanWrittenLaws.{stored-narrow}
+use Rattle.lines.specs.KeyedLaws.{stored-narrow}
 use Rattle.calendars.specs.CalendarTextLaws.{eventBytes-short}
 use Rattle.calendars.proofs.print.put_term.Statement.{statement}
 use Rattle.calendars.proofs.print.put_term.Tie as tie

@@ -2,7 +2,7 @@
 use native.Mathlib.Omega.{arith}
 use denote.Ref.{now}
 use Rattle.calendars.specs.CalendarText.{calendarOutput}
-use Rattle.calendars.specs.WholeLaws.{answered-whole, answered-never}
+use Rattle.lines.specs.WholeLaws.{answered-whole, answered-never}
 use borrow.Author.Needs.{needs}
 use Rattle.calendars.proofs.printed.answer_whole.Statement.{statement}
 use Rattle.calendars.proofs.printed.answer_whole.Tie as tie

@@ -2,7 +2,7 @@
 use mathlib.Core.Path.{_∙_}
 use native.Mathlib.Omega.{arith}
 use denote.Ref.{now}
-use Rattle.plan.specs.WrittenLaws.{wrote-as}
+use Rattle.lines.specs.WrittenLaws.{wrote-as}
 use Rattle.calendars.specs.DecisionsLaws.{plan-accepted, plan-refused, text-of-outcome}
 use borrow.Author.Needs.{needs}
 use Rattle.calendars.proofs.program.answer.Statement.{statement}

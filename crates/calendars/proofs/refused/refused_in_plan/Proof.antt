@@ -1,9 +1,11 @@
--- `refused_in_plan`: by what the reader answered and how the verdict is told, `alone-refused`, `alone-settled`, `alone-judged`.
+-- `refused_in_plan`: by what the reader answered and how the verdict is told, `told-lines`, `told-settled-alone`, `told-verdict`. Nothing comes after the plan.
 use mathlib.Core.Path.{refl, sym, ap, _∙_}
 use denote.Ref.{now}
 use Rattle.rounds.specs.Rounds.{verdictTold}
 use Rattle.calendars.specs.DecisionsLaws.{plan-accepted}
-use Rattle.calendars.specs.RefusedLaws.{alone-refused, alone-settled, alone-judged}
+use Rattle.plan.specs.PlanRead.{planAlone}
+use Rattle.plan.specs.PlanPartLaws.{planAlone-tail}
+use Rattle.calendars.specs.RefusedLaws.{told-lines, told-settled-alone, told-verdict}
 use borrow.Author.Needs.{needs}
 use Rattle.calendars.proofs.refused.refused_in_plan.Statement.{statement}
 use Rattle.calendars.proofs.refused.refused_in_plan.Tie as tie
@@ -25,7 +27,7 @@ returns c =
     let r = c .before .before .before .before .before .read-plan in
     let s = now (c .before .before .before .before .before .before .before .args .s) in
     let q = c .before .before .before .enum-told2 .given .1 in
-    let t = alone-refused s (r .result) (r .ensures) (r .result .answer) _ q q in
+    let t = told-lines (λ m. m) (λ x t. refl) s (planAlone s) (planAlone-tail s) (r .result) (r .ensures) (r .result .answer) _ q q in
     let e = c .tell-refusal .ensures in
     (e .0 ∙ t .part-is, (e .1 .0 ∙ t .number-is, e .1 .1 ∙ t .value-is))
 
@@ -52,7 +54,7 @@ returns-2 c =
     let s = now (c .before .before .before .before .before .before .before .before .before .before .before .before .args .s) in
     let q = c .before .before .before .before .before .before .before .before .enum-told .given .1 in
     let v = sym (ap verdictTold (c .before .before .before .before .before .before .decide .ensures .0)) ∙ sym (c .before .before .before .before .before .tell-verdict .ensures) ∙ c .before .before .before .enum-told3 .given .1 in
-    let t = alone-settled s (r .result) (r .ensures) (r .result .answer) q _ v q in
+    let t = told-settled-alone s (r .result) (r .ensures) q _ v (r .result .answer) q in
     let e = c .tell-refusal2 .ensures in
     (e .0 ∙ t .part-is, (e .1 .0 ∙ t .number-is, e .1 .1 ∙ t .value-is))
 
@@ -65,7 +67,7 @@ returns-3 c =
     let s = now (c .before .before .before .before .before .before .before .before .before .before .before .before .before .args .s) in
     let q = c .before .before .before .before .before .before .before .before .before .enum-told .given .1 in
     let v = sym (ap verdictTold (c .before .before .before .before .before .before .before .decide .ensures .0)) ∙ sym (c .before .before .before .before .before .before .tell-verdict .ensures) ∙ c .before .before .before .before .verdict .given .1 in
-    let t = alone-judged s (r .result) (r .ensures) _ q _ v refl _ refl in
+    let t = told-verdict (λ m. m) (λ x t. refl) s (planAlone s) (planAlone-tail s) (r .result) (r .ensures) _ _ refl q v _ refl in
     let e = c .tell-refusal3 .ensures in
     (e .0 ∙ t .part-is, (e .1 .0 ∙ t .number-is, e .1 .1 ∙ t .value-is))
 

@@ -4,11 +4,11 @@ use native.Mathlib.Omega.{arith}
 use denote.Ref.{now}
 use lib.ListN.{take, drop}
 use Rattle.text.specs.LineLaws.{nextLine-at}
-use Rattle.plan.specs.Reading.{refused}
+use Rattle.lines.specs.Reading.{refused}
 use Rattle.plan.specs.PlanRead.{linedBound}
 use Rattle.plan.specs.Pairs.{isWrongNumbered}
 use Rattle.plan.specs.ReadAt.{boundLined}
-use Rattle.plan.specs.ReadAtLaws.{lineTo-bare, lineTo-value, lineTo-fault}
+use Rattle.lines.specs.ReadAtLaws.{lineTo-bare, lineTo-value, lineTo-fault}
 use borrow.Author.Needs.{needs}
 use Rattle.plan.proofs.bound_at.read_bound_at.Statement.{statement}
 use Rattle.plan.proofs.bound_at.read_bound_at.Tie as tie

@@ -16,6 +16,7 @@ use Rattle.plan.specs.Limits.{leastC, greatestC}
 use Rattle.plan.specs.PlanRead.{judgedBound}
 use Rattle.plan.specs.BoundNames.{namesIn}
 use Rattle.plan.specs.Pairs.{isWrongNumbered}
+use Rattle.plan.specs.declared.BoundLine.the-variants as boundLine
 use Rattle.plan.specs.BoundLaws.{namesIn-fits, boundOf-bare, boundOf-value, boundOf-fault}
 use borrow.Author.Needs.{needs}
 use Rattle.plan.proofs.bound_line.read_bound.Statement.{statement}
@@ -75,6 +76,9 @@ judge-bound-requires c κs = search needs
 enum-known-number-2 : tie.Need-enum-known-number-2
 enum-known-number-2 c = search needs
 
+line-lacks-requires : tie.Need-line-lacks-requires
+line-lacks-requires c κs = search needs
+
 returns-2 : tie.Need-returns-2
 returns-2 c =
     let e = c .before .before in
@@ -89,13 +93,15 @@ returns-2 c =
 
 returns-3 : tie.Need-returns-3
 returns-3 c =
-    let f = c .before .before .before .before .before in
+    let q = c .before in
+    let f = q .before .before .before .before .before in
     let a = f .before .before .before .before .before .args in
     let l = now (a .line) in
     let at = f .before .a .given .0 .1 .1 .0 in
-    sym
+    ap boundLine.Bad (c .line-lacks .ensures)
+    ∙ sym
     (boundOf-fault (a .jobs) (isWrongNumbered (take (a .n) (now (a .given)))) l (named f)
-    (ap (numberIn leastC greatestC) (sym (drop-rest at l)) ∙ sym (c .before .before .before .read-number .ensures) ∙ c .before .number2 .given .1))
+    (ap (numberIn leastC greatestC) (sym (drop-rest at l)) ∙ sym (q .before .before .before .read-number .ensures) ∙ q .before .number2 .given .1))
 
 pub read-bound-spec : {M : Type 1} → statement M
 read-bound-spec =
@@ -113,5 +119,6 @@ read-bound-spec =
     narrow-requires
     judge-bound-requires
     enum-known-number-2
+    line-lacks-requires
     returns-2
     returns-3)

@@ -6,7 +6,7 @@ use borrow.Author.Needs.{needs}
 use denote.Ref.{now}
 use lib.ListN.{length}
 use Rattle.plan.specs.ReadAt.{boundAt}
-use Rattle.plan.specs.ReadAtLaws.{atTold-goes, atTold-stops, atPlace-goes, atPlace-stops}
+use Rattle.lines.specs.ReadAtLaws.{atTold-goes, atTold-stops, atPlace-goes, atPlace-stops}
 use Rattle.plan.specs.BoundsLoop.{BoundsPassed, BoundsPassed-start, BoundsPassed-stop, BoundsPassed-past, BoundsPassed-end, BoundsPassed-filled}
 use Rattle.plan.proofs.bounds_lines.read_bounds.Statement.{statement}
 use Rattle.plan.proofs.bounds_lines.read_bounds.Tie as tie

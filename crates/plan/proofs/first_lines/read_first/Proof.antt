@@ -11,9 +11,10 @@ use mir.Syntax.{w32}
 use Rattle.whole.specs.Rules.{whole}
 use Rattle.text.specs.Bytes.{bytes}
 use Rattle.plan.specs.PlanRead.{planLines}
-use Rattle.plan.specs.ReadingLaws.{numberLine-read}
+use Rattle.lines.specs.ReadingLaws.{numberLine-read}
 use Rattle.plan.specs.ReadAt.{numberAt, FirstTold}
-use Rattle.plan.specs.ReadAtLaws.{atTold-goes, atTold-stops, atPlace-goes, atPlace-stops, planLines-first, planLines-second, planLines-third, planLines-fourth, planLines-rest}
+use Rattle.lines.specs.ReadAtLaws.{atTold-goes, atTold-stops, atPlace-goes, atPlace-stops}
+use Rattle.plan.specs.ReadAtLaws.{planLines-first, planLines-second, planLines-third, planLines-fourth, planLines-rest}
 use borrow.Author.Needs.{needs}
 use Rattle.plan.proofs.first_lines.read_first.Statement.{statement}
 use Rattle.plan.proofs.first_lines.read_first.Tie as tie

@@ -7,7 +7,8 @@ use mir.Facts.{toZ-ofZ}
 use mir.Syntax.{w32}
 use Rattle.text.specs.Bytes.{bytes}
 use Rattle.plan.specs.ReadAt.{numberAt}
-use Rattle.plan.specs.ReadAtLaws.{atTold-goes, atTold-stops, atPlace-goes, atPlace-stops, jobLines-first, jobLines-second, jobLines-third, jobLines-fourth, jobLines-all}
+use Rattle.lines.specs.ReadAtLaws.{atTold-goes, atTold-stops, atPlace-goes, atPlace-stops}
+use Rattle.plan.specs.ReadAtLaws.{jobLines-first, jobLines-second, jobLines-third, jobLines-fourth, jobLines-all}
 use borrow.Author.Needs.{needs}
 use Rattle.plan.proofs.job_lines.read_job.Statement.{statement}
 use Rattle.plan.proofs.job_lines.read_job.Tie as tie

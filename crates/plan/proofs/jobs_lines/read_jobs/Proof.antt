@@ -6,7 +6,7 @@ use borrow.Author.Needs.{needs}
 use denote.Ref.{now}
 use lib.ListN.{length}
 use Rattle.plan.specs.ReadAt.{jobAt}
-use Rattle.plan.specs.ReadAtLaws.{atTold-goes, atTold-stops, atPlace-goes, atPlace-stops}
+use Rattle.lines.specs.ReadAtLaws.{atTold-goes, atTold-stops, atPlace-goes, atPlace-stops}
 use Rattle.plan.specs.JobsLoop.{JobsPassed, JobsPassed-start, JobsPassed-stop, JobsPassed-past, JobsPassed-end, JobsPassed-filled}
 use Rattle.plan.proofs.jobs_lines.read_jobs.Statement.{statement}
 use Rattle.plan.proofs.jobs_lines.read_jobs.Tie as tie

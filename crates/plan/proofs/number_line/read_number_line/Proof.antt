@@ -14,8 +14,9 @@ use Rattle.text.specs.Numbers.{numberAfter}
 use Rattle.text.specs.NumberLaws.{numberAfter-value}
 use Rattle.whole.specs.Rules.{whole}
 use Rattle.text.specs.declared.Number.the-variants as number
-use Rattle.plan.specs.Reading.{refused, linedNumber}
-use Rattle.plan.specs.ReadAtLaws.{lineTo-bare, lineTo-value, lineTo-fault}
+use Rattle.lines.specs.Refusals.{faultAt}
+use Rattle.lines.specs.Reading.{refused, linedNumber}
+use Rattle.lines.specs.ReadAtLaws.{lineTo-bare, lineTo-value, lineTo-fault}
 use borrow.Author.Needs.{needs}
 use Rattle.whole.specs.Widths.{i32-least, i32-most, i32-wide, i32-widened}
 use Rattle.plan.proofs.number_line.read_number_line.Statement.{statement}
@@ -93,6 +94,9 @@ narrow-requires c κs =
 enum-known-number-2 : tie.Need-enum-known-number-2
 enum-known-number-2 c = search needs
 
+line-lacks-requires : tie.Need-line-lacks-requires
+line-lacks-requires c κs = search needs
+
 fault-at-requires : tie.Need-fault-at-requires
 fault-at-requires c κs = search needs
 
@@ -109,15 +113,16 @@ returns-2 c =
 returns-3 : tie.Need-returns-3
 unfolding linedNumber
 returns-3 c =
-    let m = c .before .before .before .before in
+    let q = c .before in
+    let m = q .before .before .before .before in
     let l = m .before .before .before in
     let f = l .before .before .before in
     let a = f .args in
     let x = now (a .s) in
-    let back : numberAfter (now (a .key)) (a .lo) (a .hi) (take (l .next-line .result - 1 - a .at) (drop (a .at) x)) ≡ number.Bad (c .before .before .number2 .given .0 .0) =
-    sym (rw (i32-widened (f .fits .lo), i32-widened (f .fits .hi)) at (m .number-after .ensures)) ∙ c .before .before .number2 .given .1 in (
+    let back : numberAfter (now (a .key)) (a .lo) (a .hi) (take (l .next-line .result - 1 - a .at) (drop (a .at) x)) ≡ number.Bad (q .before .before .number2 .given .0 .0) =
+    sym (rw (i32-widened (f .fits .lo), i32-widened (f .fits .hi)) at (m .number-after .ensures)) ∙ q .before .before .number2 .given .1 in (
       lineTo-fault (λ l. linedNumber (numberAfter (now (a .key)) (a .lo) (a .hi) l)) x (a .at) (a .line) (l .next-line .result) (f .pre) (l .next-line .ensures) (omega arith) (ap linedNumber back)
-          ∙ ap (λ r. refused r (drop (a .at) x)) (sym (c .fault-at .ensures)),
+          ∙ ap (λ r. refused r (drop (a .at) x)) (sym (c .fault-at .ensures ∙ ap (faultAt (a .line)) (q .line-lacks .ensures))),
       f .pre,
     )
 
@@ -137,6 +142,7 @@ read-number-line-spec =
     enum-known-number
     narrow-requires
     enum-known-number-2
+    line-lacks-requires
     fault-at-requires
     returns-2
     returns-3)

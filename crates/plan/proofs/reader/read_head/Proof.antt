@@ -14,15 +14,17 @@ use Rattle.text.specs.Bytes.{bytes}
 use Rattle.plan.specs.declared.Job.{Job}
 use Rattle.plan.specs.declared.Bound.{Bound}
 use Rattle.plan.specs.declared.PlanRead.{PlanRead}
-use Rattle.plan.specs.declared.PlanAnswer.the-variants.{Accepted}
+use Rattle.lines.specs.declared.PlanAnswer.the-variants.{Accepted}
 use Rattle.plan.specs.declared.First.{First}
 use Rattle.plan.specs.declared.Jobs.{Jobs}
 use Rattle.plan.specs.Limits.{mostJobs, mostBounds}
-use Rattle.plan.specs.Reading.{read, numberLine}
-use Rattle.plan.specs.ReadingLaws.{numberLine-read}
+use Rattle.lines.specs.Reading.{read, numberLine}
+use Rattle.lines.specs.ReadingLaws.{numberLine-read}
 use Rattle.plan.specs.PlanRead.{jobsAfter, boundsAfter, noJob, noBound, filled, planRest, planHead}
-use Rattle.plan.specs.ReadAt.{numberAt, wentAt, endAt, atFault, firstRest, faultyIn, IfOn}
-use Rattle.plan.specs.ReadAtLaws.{atTold-goes, atTold-stops, atPlace-goes, atPlace-stops, endAt-fault}
+use Rattle.plan.specs.ReadAt.{numberAt, wentAt, endAt, firstRest, IfOn}
+use Rattle.lines.specs.ReadAt.{atFault, faultyIn}
+use Rattle.lines.specs.ReadAtLaws.{atTold-goes, atTold-stops, atPlace-goes, atPlace-stops}
+use Rattle.plan.specs.ReadAtLaws.{endAt-fault}
 use Rattle.plan.specs.HeadLaws.{planHead-long, planHead-short, planRest-jobs, planRest-count, planRest-bounds, planRest-all, planRead-refused, planRead-accepted}
 use borrow.Author.Needs.{needs}
 use Rattle.plan.proofs.reader.read_head.Statement.{statement}

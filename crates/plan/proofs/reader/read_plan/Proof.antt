@@ -4,7 +4,7 @@ use Prim.Native.Nat.{_≤_, _<_}
 use denote.Ref.{now}
 use lib.ListN.{length}
 use Rattle.plan.specs.declared.PlanRead.{PlanRead}
-use Rattle.plan.specs.declared.Refusal.the-variants.{Form}
+use Rattle.lines.specs.declared.Refusal.the-variants.{Form}
 use Rattle.plan.specs.PlanRead.{planHead}
 use Rattle.plan.specs.PlanAnswers.{refusedRead}
 use Rattle.plan.specs.HeadLaws.{alone-refused, alone-more, alone-end, planHead-rest}

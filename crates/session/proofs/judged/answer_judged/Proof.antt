@@ -2,7 +2,7 @@
 use native.Mathlib.Omega.{arith}
 use denote.Ref.{now}
 use Rattle.session.specs.HeadLaws.{HeadRead, head-accepted}
-use Rattle.plan.specs.WrittenLaws.{wrote-as}
+use Rattle.lines.specs.WrittenLaws.{wrote-as}
 use borrow.Author.Needs.{needs}
 use Rattle.session.proofs.judged.answer_judged.Statement.{statement}
 use Rattle.session.proofs.judged.answer_judged.Tie as tie

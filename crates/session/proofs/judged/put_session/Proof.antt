@@ -3,7 +3,7 @@ use native.Mathlib.Omega.{arith}
 use denote.Ref.{now}
 use lib.ListN.{drop}
 use Rattle.session.specs.JudgedLaws.{judged-inside, judged-settled, judged-refused}
-use Rattle.plan.specs.WrittenLaws.{stored-as}
+use Rattle.lines.specs.WrittenLaws.{stored-as}
 use borrow.Author.Needs.{needs}
 use Rattle.session.proofs.judged.put_session.Statement.{statement}
 use Rattle.session.proofs.judged.put_session.Tie as tie

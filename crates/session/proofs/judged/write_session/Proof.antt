@@ -2,7 +2,7 @@
 -- came to bounds the length (`wrote-within`).
 use mathlib.Core.Path.{refl}
 use native.Mathlib.Omega.{arith}
-use Rattle.plan.specs.WrittenLaws.{stored-whole, measured-none, measured-whole, wrote-within}
+use Rattle.lines.specs.WrittenLaws.{stored-whole, measured-none, measured-whole, wrote-within}
 use borrow.Author.Needs.{needs}
 use Rattle.session.proofs.judged.write_session.Statement.{statement}
 use Rattle.session.proofs.judged.write_session.Tie as tie

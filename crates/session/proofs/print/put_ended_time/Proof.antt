@@ -6,7 +6,7 @@ use mir.Syntax.{w64}
 use mir.Facts.{toZ-ofZ}
 use Rattle.whole.specs.SplitLaws.{told-fits}
 use Rattle.text.specs.Numbers.{decimal}
-use Rattle.plan.specs.WrittenLaws.{stored-as}
+use Rattle.lines.specs.WrittenLaws.{stored-as}
 use borrow.Author.Needs.{needs}
 use Rattle.session.proofs.print.put_ended_time.Statement.{statement}
 use Rattle.session.proofs.print.put_ended_time.Tie as tie

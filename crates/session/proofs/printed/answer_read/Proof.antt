@@ -1,11 +1,9 @@
--- `answer_read`: where n is no count of its bytes, all that was read is its first n bytes (`take-all`).
-use mathlib.Core.Path.{sym, ap}
+-- `answer_read`: where n is no count of its bytes, all that was read is its first n bytes (`whole-cut`).
 use native.Mathlib.Omega.{arith}
 use denote.Ref.{now}
 use lib.ListN.{length-take}
-use lib.Seq.{take-all}
 use Rattle.session.specs.Sessions.{dispatchOutput}
-use Rattle.calendars.specs.WholeLaws.{whole-as}
+use Rattle.lines.specs.WholeLaws.{whole-cut}
 use borrow.Author.Needs.{needs}
 use Rattle.session.proofs.printed.answer_read.Statement.{statement}
 use Rattle.session.proofs.printed.answer_read.Tie as tie
@@ -25,8 +23,7 @@ answer-whole-requires-2 c κs = search needs
 returns-2 : tie.Need-returns-2
 returns-2 c =
     let s = c .before .before .before .before in
-    let all = take-all (s .args .n) (now (s .args .read)) (omega arith) in
-    whole-as (now (s .args .out)) (ap dispatchOutput (sym all)) (c .answer-whole2 .ensures)
+    whole-cut dispatchOutput (now (s .args .read)) (now (s .args .out)) (s .args .n) (omega arith) (c .answer-whole2 .ensures)
 
 pub answer-read-spec : {M : Type 1} → statement M
 answer-read-spec = tie.close (tie.spec slice-aggregate-answer-whole answer-whole-requires returns answer-whole-requires-2 returns-2)

@@ -2,7 +2,7 @@
 use native.Mathlib.Omega.{arith}
 use denote.Ref.{now}
 use Rattle.session.specs.Sessions.{dispatchOutput}
-use Rattle.calendars.specs.WholeLaws.{answered-whole, answered-never}
+use Rattle.lines.specs.WholeLaws.{answered-whole, answered-never}
 use borrow.Author.Needs.{needs}
 use Rattle.session.proofs.printed.answer_whole.Statement.{statement}
 use Rattle.session.proofs.printed.answer_whole.Tie as tie

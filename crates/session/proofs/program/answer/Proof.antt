@@ -3,7 +3,7 @@ use native.Mathlib.Omega.{arith}
 use denote.Ref.{now}
 use Rattle.session.specs.HeadLaws.{head-accepted, head-refused}
 use Rattle.session.specs.JudgedLaws.{judged-decided}
-use Rattle.plan.specs.WrittenLaws.{wrote-as}
+use Rattle.lines.specs.WrittenLaws.{wrote-as}
 use borrow.Author.Needs.{needs}
 use Rattle.session.proofs.program.answer.Statement.{statement}
 use Rattle.session.proofs.program.answer.Tie as tie

@@ -1,9 +1,10 @@
 -- `start_in`: `auto` by `startIn-auto`, else a time by `startIn-time` and then `timed-value` or `timed-bad`.
-use mathlib.Core.Path.{sym, _∙_}
+use mathlib.Core.Path.{sym, ap, _∙_}
 use denote.Ref.{now}
 use Rattle.text.specs.Bytes.{bytes}
 use Rattle.runs.specs.declared.Step.the-variants.{Start}
 use Rattle.runs.specs.declared.Choice.the-variants.{At}
+use Rattle.session.specs.declared.StepLine.the-variants.{Bad}
 use Rattle.session.specs.StepReadLaws.{startIn-auto, startIn-time, timed-value, timed-bad}
 use borrow.Author.Needs.{needs}
 use Rattle.session.proofs.read.start_in.Statement.{statement}
@@ -28,6 +29,9 @@ enum-known-n c = search needs
 enum-known-n-2 : tie.Need-enum-known-n-2
 enum-known-n-2 c = search needs
 
+line-lacks-requires : tie.Need-line-lacks-requires
+line-lacks-requires c κs = search needs
+
 returns-2 : tie.Need-returns-2
 unfolding bytes
 returns-2 c =
@@ -39,10 +43,12 @@ returns-2 c =
 returns-3 : tie.Need-returns-3
 unfolding bytes
 returns-3 c =
-    let s = now (c .before .before .before .before .before .before .before .before .args .s) in
-    sym
-    (startIn-time s (sym (c .before .before .before .before .before .is-text .ensures) ∙ c .before .before .before .before .if1 .left)
-    ∙ timed-bad (λ t. Start (At t)) s _ (sym (c .before .before .before .read-number .ensures) ∙ c .before .n2 .given .1))
+    let q = c .before in
+    let s = now (q .before .before .before .before .before .before .before .before .args .s) in
+    ap Bad (c .line-lacks .ensures)
+    ∙ sym
+    (startIn-time s (sym (q .before .before .before .before .before .is-text .ensures) ∙ q .before .before .before .before .if1 .left)
+    ∙ timed-bad (λ t. Start (At t)) s _ (sym (q .before .before .before .read-number .ensures) ∙ q .before .n2 .given .1))
 
 pub start-in-spec : {M : Type 1} → statement M
 start-in-spec =
@@ -54,5 +60,6 @@ start-in-spec =
     read-number-requires
     enum-known-n
     enum-known-n-2
+    line-lacks-requires
     returns-2
     returns-3)

@@ -1,11 +1,14 @@
--- `refused_in_session`: by what the reader of the plan answered and how the verdict is told, `sessionRead-refused`, `sessionRead-judged`, and by the step
--- lines, `sessionRead-settled`.
+-- `refused_in_session`: by what the reader of the plan answered and how the verdict is told, `told-lines`, `told-verdict`, and by the step lines,
+-- `sessionRead-settled`.
 use mathlib.Core.Path.{refl, sym, ap, _∙_}
 use denote.Ref.{now}
-use Rattle.plan.specs.Reading.{refusedNumber, refusedValue, faultyPart}
+use Rattle.lines.specs.Reading.{refusedNumber, refusedValue, faultyPart}
 use Rattle.rounds.specs.Rounds.{verdictTold}
 use Rattle.session.specs.HeadLaws.{head-accepted}
-use Rattle.session.specs.SessionReadLaws.{sessionRead-refused, sessionRead-judged, sessionRead-settled}
+use Rattle.session.specs.SessionReadLaws.{stepsBehind, stepsBehind-keeps, sessionRead-settled}
+use Rattle.plan.specs.PlanRead.{planHead}
+use Rattle.plan.specs.PlanPartLaws.{planHead-tail}
+use Rattle.calendars.specs.RefusedLaws.{told-lines, told-verdict}
 use borrow.Author.Needs.{needs}
 use Rattle.session.proofs.refused.refused_in_session.Statement.{statement}
 use Rattle.session.proofs.refused.refused_in_session.Tie as tie
@@ -27,7 +30,7 @@ returns c =
     let r = c .before .before .before .before .before .read-head in
     let s = now (c .before .before .before .before .before .before .before .args .text) in
     let q = c .before .before .before .enum-told2 .given .1 in
-    let t = sessionRead-refused s (r .result) (r .ensures) (r .result .answer) _ q q in
+    let t = told-lines stepsBehind stepsBehind-keeps s (planHead s) (planHead-tail s) (r .result) (r .ensures) (r .result .answer) _ q q in
     let e = c .tell-refusal .ensures in
     (e .0 ∙ t .part-is, (e .1 .0 ∙ t .number-is, e .1 .1 ∙ t .value-is))
 
@@ -60,7 +63,7 @@ returns-2 c =
     let s = now (c .before .before .before .before .before .before .before .before .before .before .before .before .before .args .text) in
     let q = c .before .before .before .before .before .before .before .before .before .enum-told .given .1 in
     let v = sym (ap verdictTold (c .before .before .before .before .before .before .before .decide .ensures .0)) ∙ sym (c .before .before .before .before .before .before .tell-verdict .ensures) ∙ c .before .before .before .before .enum-told3 .given .1 in
-    let m = sessionRead-settled s (r .result) (r .ensures) (r .result .answer) q _ v in
+    let m = sessionRead-settled s (r .result) (r .ensures) q _ v in
     let t = c .before .before .before .read-steps .ensures in
     let e = c .tell-refusal2 .ensures in
     (e .0 ∙ t .part-is ∙ sym (ap faultyPart m), (e .1 .0 ∙ t .number-is ∙ sym (ap refusedNumber m), e .1 .1 ∙ t .value-is ∙ sym (ap refusedValue m)))
@@ -74,7 +77,7 @@ returns-3 c =
     let s = now (c .before .before .before .before .before .before .before .before .before .before .before .before .before .args .text) in
     let q = c .before .before .before .before .before .before .before .before .before .enum-told .given .1 in
     let v = sym (ap verdictTold (c .before .before .before .before .before .before .before .decide .ensures .0)) ∙ sym (c .before .before .before .before .before .before .tell-verdict .ensures) ∙ c .before .before .before .before .verdict .given .1 in
-    let t = sessionRead-judged s (r .result) (r .ensures) _ q _ v refl _ refl in
+    let t = told-verdict stepsBehind stepsBehind-keeps s (planHead s) (planHead-tail s) (r .result) (r .ensures) _ _ refl q v _ refl in
     let e = c .tell-refusal3 .ensures in
     (e .0 ∙ t .part-is, (e .1 .0 ∙ t .number-is, e .1 .1 ∙ t .value-is))
 

@@ -10,10 +10,10 @@ use mir.Syntax.{w32}
 use mir.Val.{SFits, toZ, ofZ}
 use mir.Facts.{toZ-ofZ}
 use Rattle.text.specs.Lent.{Stored}
-use Rattle.plan.specs.declared.Refusal.{Refusal}
-use Rattle.plan.specs.Reading.{read, refused}
+use Rattle.lines.specs.declared.Refusal.{Refusal}
+use Rattle.lines.specs.Reading.{read, refused}
 use Rattle.plan.specs.PlanRead.{noJob}
-use Rattle.plan.specs.WrittenLaws.{stored-as}
+use Rattle.lines.specs.WrittenLaws.{stored-as}
 use Rattle.calendars.specs.Calendars.{noTerms}
 use Rattle.runs.specs.declared.Answer.{Answer}
 use Rattle.runs.specs.declared.Answered.{Answered}
@@ -27,18 +27,7 @@ use Rattle.runs.specs.Due.{dueOf}
 use Rattle.runs.specs.DueLaws.{dueOf-made}
 use Rattle.runs.specs.InsideLaws.{inside-job}
 use Rattle.runs.specs.SeenLaws.{put-length}
-use Rattle.runs.specs.MoveLaws.{
-  stepped-moved,
-  due-inside,
-  due-answer,
-  inside-moving,
-  move-placed,
-  newRun-seen,
-  moved-stay,
-  moved-begin,
-  moved-next,
-  moved-close,
-}
+use Rattle.runs.specs.MoveLaws.{stepped-moved, due-inside, due-answer, inside-moving, move-placed, newRun-seen, moved-stay, moved-begin, moved-next, moved-close}
 use Rattle.session.specs.StepRead.{stepLine}
 use Rattle.session.specs.StepAt.{stepTold, stepRefusal}
 use Rattle.session.specs.AnswerText.{answerJob, answerLine, endsSession}

@@ -3,15 +3,7 @@ use mathlib.Core.Path.{sym, _∙_}
 use native.Mathlib.Omega.{arith}
 use mir.Facts.{toZ-ofZ}
 use borrow.Author.Needs.{needs}
-use Rattle.text.specs.DigitsReadLaws.{
-  numberIn-empty,
-  numberIn-zero,
-  numberIn-zero-led,
-  numberIn-positive,
-  numberIn-positive-bad,
-  numberIn-negative,
-  numberIn-negative-bad,
-}
+use Rattle.text.specs.DigitsReadLaws.{numberIn-empty, numberIn-zero, numberIn-zero-led, numberIn-positive, numberIn-positive-bad, numberIn-negative, numberIn-negative-bad}
 use Rattle.text.proofs.numbers.read_number.Statement.{statement}
 use Rattle.text.proofs.numbers.read_number.Tie as tie
 

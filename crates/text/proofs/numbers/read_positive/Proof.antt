@@ -5,16 +5,7 @@ use mathlib.Core.Logic.{⊎-elim}
 use native.Mathlib.Omega.{arith}
 use lib.ListN.{length, drop}
 use Rattle.text.specs.DigitsRead.{tooLarge, digitsRead, positiveRead}
-use Rattle.text.specs.DigitsReadLaws.{
-  digitsRead-below,
-  digitsRead-above,
-  digitsRead-past,
-  digitsRead-cut,
-  digitsRead-end,
-  positiveRead-empty,
-  positiveRead-zero,
-  positiveRead-first,
-}
+use Rattle.text.specs.DigitsReadLaws.{digitsRead-below, digitsRead-above, digitsRead-past, digitsRead-cut, digitsRead-end, positiveRead-empty, positiveRead-zero, positiveRead-first}
 use Rattle.text.proofs.numbers.read_positive.Statement.{statement}
 use Rattle.text.proofs.numbers.read_positive.Tie as tie
 

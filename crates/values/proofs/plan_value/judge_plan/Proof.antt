@@ -9,8 +9,8 @@ use mir.Syntax.{w32}
 use Rattle.whole.specs.Rules.{whole}
 use native.Mathlib.Omega.{arith}
 use Rattle.plan.specs.declared.Plan.{Plan}
-use Rattle.plan.specs.declared.PlanAnswer.{PlanAnswer}
-use Rattle.plan.specs.declared.PlanAnswer.the-variants as answer
+use Rattle.lines.specs.declared.PlanAnswer.{PlanAnswer}
+use Rattle.lines.specs.declared.PlanAnswer.the-variants as answer
 use Rattle.plan.specs.Accepted.{Accepted}
 use Rattle.plan.specs.Limits.{longestWindow, mostRounds, mostWindows, mostJobs, mostBounds}
 use Rattle.plan.specs.PlanWritten.{jobsOf, boundsOf, judgedPlan}

@@ -4,11 +4,11 @@ use mathlib.Core.Path.{_≡_, refl, _∙_}
 use mathlib.Core.List.{List, []}
 use native.Mathlib.Omega.{arith}
 use lib.ListN.{length, take}
-use Rattle.text.specs.LeftLaws.{Left}
+use Rattle.text.specs.LeftLaws.{Left, leftFrom, left-places, left-next, left-stop, left-out}
 use Rattle.plan.specs.declared.Bound.{Bound}
 use Rattle.plan.specs.PlanRead.{noBound}
 use Rattle.plan.specs.PlanWritten.{boundsText}
-use Rattle.values.specs.PlanWrittenLaws.{leftFrom, left-places, left-next, left-stop, left-out, boundsText-nil, boundsText-more}
+use Rattle.values.specs.PlanWrittenLaws.{boundsText-nil, boundsText-more}
 use Rattle.values.proofs.writer.put_bounds.Statement.{statement}
 use Rattle.values.proofs.writer.put_bounds.Tie as tie
 

@@ -6,8 +6,9 @@ use lib.IntN.{ℤ}
 use mir.Syntax.{w32}
 use Rattle.whole.specs.SplitLaws.{cast-wide, told-fits}
 use Rattle.text.specs.Bytes.{bytes}
-use Rattle.plan.specs.PlanWritten.{keyed, jobsText}
-use Rattle.values.specs.PlanWrittenLaws.{stored-keyed-narrow, stored-narrow}
+use Rattle.lines.specs.Keyed.{keyed}
+use Rattle.plan.specs.PlanWritten.{jobsText}
+use Rattle.lines.specs.KeyedLaws.{stored-keyed-narrow, stored-narrow}
 use borrow.Author.Needs.{needs}
 use Rattle.values.proofs.writer.put_job.Statement.{statement}
 use Rattle.values.proofs.writer.put_job.Tie as tie

@@ -4,11 +4,11 @@ use mathlib.Core.Path.{_≡_, refl, _∙_}
 use mathlib.Core.List.{List, []}
 use native.Mathlib.Omega.{arith}
 use lib.ListN.{length, take}
-use Rattle.text.specs.LeftLaws.{Left}
+use Rattle.text.specs.LeftLaws.{Left, leftFrom, left-places, left-next, left-stop, left-out}
 use Rattle.plan.specs.declared.Job.{Job}
 use Rattle.plan.specs.PlanRead.{noJob}
 use Rattle.plan.specs.PlanWritten.{jobsText}
-use Rattle.values.specs.PlanWrittenLaws.{leftFrom, left-places, left-next, left-stop, left-out, jobsText-nil, jobsText-next}
+use Rattle.values.specs.PlanWrittenLaws.{jobsText-nil, jobsText-next}
 use Rattle.values.proofs.writer.put_jobs.Statement.{statement}
 use Rattle.values.proofs.writer.put_jobs.Tie as tie
 

@@ -6,7 +6,8 @@ use mir.Syntax.{w32}
 use Rattle.whole.specs.SplitLaws.{cast-wide, told-fits}
 use Rattle.text.specs.Bytes.{bytes}
 use Rattle.plan.specs.PlanWritten.{planText, jobsOf}
-use Rattle.values.specs.PlanWrittenLaws.{stored-keyed, stored-keyed-narrow, stored-jobs}
+use Rattle.lines.specs.KeyedLaws.{stored-keyed, stored-keyed-narrow}
+use Rattle.values.specs.PlanWrittenLaws.{stored-jobs}
 use Rattle.values.proofs.writer.put_plan.Statement.{statement}
 use Rattle.values.proofs.writer.put_plan.Tie as tie
 

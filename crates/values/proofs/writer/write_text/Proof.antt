@@ -2,7 +2,7 @@
 use native.Mathlib.Omega.{arith}
 use denote.Ref.{now}
 use lib.ListN.{length, length-take}
-use Rattle.plan.specs.WrittenLaws.{measured-none, measured-whole}
+use Rattle.lines.specs.WrittenLaws.{measured-none, measured-whole}
 use borrow.Author.Needs.{needs}
 use Rattle.values.proofs.writer.write_text.Statement.{statement}
 use Rattle.values.proofs.writer.write_text.Tie as tie

@@ -1,0 +1,32 @@
+-- What a reader of lines at a place of a text answers, as a reading of the text: a place in the text stands for the text from there on.
+use Prim.Native.Nat.{ℕ}
+use mathlib.Core.List.{List}
+use lib.ListN.{drop}
+use Rattle.lines.specs.declared.Faulty.{Faulty}
+use Rattle.lines.specs.declared.Refusal.the-variants.{Form}
+use Rattle.lines.specs.Reading.{Reading, read, refused}
+
+abbrev pub faultyIn : {A : Type 0} → List ℕ → Faulty → Reading A
+faultyIn s f = refused (f .refusal) (drop (f .at) s)
+
+-- What a line reader answers: a value and the place of the line after it, or a fault.
+pub data At (A : Type 0) : Type 0 where
+  goes : A → ℕ → At A
+  stops : Faulty → At A
+
+-- the reading of the text s that an answer tells, with the number of the line after it
+abbrev pub atTold : {A : Type 0} → List ℕ → ℕ → At A → Reading A
+atTold s n (goes a at) = read a (drop at s) n
+atTold s n (stops f) = faultyIn s f
+
+abbrev pub atPlace : {A : Type 0} → At A → ℕ
+atPlace (goes a at) = at
+atPlace (stops f) = f .at
+
+-- the fault of an answer that is one
+abbrev pub noFault : Faulty
+noFault = record { refusal = Form 0; at = 0 }
+
+abbrev pub atFault : {A : Type 0} → At A → Faulty
+atFault (goes a at) = noFault
+atFault (stops f) = f

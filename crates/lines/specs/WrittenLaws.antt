@@ -1,0 +1,107 @@
+-- The laws of a whole text in a lent slice: one that has room is written, with its length as the answer (`stored-whole`); one that has none is refused by 12 and
+-- leaves every byte (`stored-none`). A text that was measured first, on a part without places, which leaves every byte too, is refused or written by its
+-- measure (`measured-none`, `measured-whole`); and it is no longer than where its writer came to (`wrote-within`). A text is stored, and written, as any text that equals it
+-- (`stored-as`, `wrote-as`). A length that a writer answers counts bytes of its slice (`written-counts`).
+
+use Prim.Native.Nat.{ℕ, _≤_, _<_}
+use mathlib.Core.Path.{_≡_, refl, sym, ap, subst, _∙_}
+use mathlib.Core.Bool.{Bool, true, false, cond}
+use mathlib.Core.List.{List, [], _∷_, _++_, append-assoc}
+use native.Mathlib.Omega.{arith}
+use lib.ListN.{length, take, length-take}
+use borrow.Author.Tests.{le-leb, lt-leb, leb-true}
+use Rattle.text.specs.Lent.{hasRoom, written, Stored}
+use Rattle.text.specs.LentLaws.{put-length, put-written, stored-append}
+use Rattle.text.specs.Bytes.{bytes}
+use Rattle.text.specs.Lines.{LF, comma}
+use Rattle.text.specs.Numbers.{digits}
+use Rattle.lines.specs.declared.Refusal.{Refusal}
+use Rattle.lines.specs.declared.Refusal.the-variants as refusal
+use Rattle.lines.specs.Refusals.{number, value, refusedLine}
+use Rattle.lines.specs.declared.Written.{Written}
+use Rattle.lines.specs.declared.Written.the-variants.{Length, Refused}
+use Rattle.lines.specs.Written.{writtenAs}
+
+-- what a writer of a whole text answers and leaves
+pub record WroteAll (t out : List ℕ) (r : Written) (out′ : List ℕ) : Type 0 where
+  pub answer : r ≡ writtenAs t out
+  pub bytes : out′ ≡ written t out
+
+pub stored-as : {out t u out′ : List ℕ} {at n : ℕ} → t ≡ u → Stored out at t out′ n → Stored out at u out′ n
+stored-as {out} {out′ = out′} {at = at} {n = n} e p = subst (λ (s : List ℕ). Stored out at s out′ n) e p
+
+stored-length : {t out out′ : List ℕ} {n : ℕ} → Stored out 0 t out′ n → n ≡ length t
+stored-length {t} p = omega (arith, p .place)
+
+pub stored-whole : {t out out′ : List ℕ} {n : ℕ} → Stored out 0 t out′ n → n ≤ length out → WroteAll t out (Length n) out′
+unfolding writtenAs
+stored-whole {t} {out} {out′} {n} p h =
+    let e = stored-length p in
+    let room : length t ≤ length out = omega arith in
+    record {
+      answer = ap Length e ∙ sym (ap (λ (b : Bool). cond b (Length (length t)) (Refused refusal.NoRoom)) (le-leb (length t) (length out) room));
+      bytes = p .slice ∙ put-written out t room;
+    }
+
+pub stored-none : {t out o o′ : List ℕ} {n : ℕ} → Stored o 0 t o′ n → length out < n → WroteAll t out (Refused refusal.NoRoom) out
+unfolding writtenAs written
+stored-none {t} {out} p h =
+    let e = stored-length p in
+    let none : length out < length t = omega arith in
+    record { answer = rw (lt-leb (length t) (length out) none); bytes = rw (lt-leb (length t) (length out) none) }
+
+module _ {t out o o′ : List ℕ} {n : ℕ} (p : Stored o 0 t o′ n) (h : length o ≡ 0) where
+  part-keeps : o′ ++ out ≡ out
+  part-keeps = of o′ (ap length (p .slice) ∙ put-length o 0 t ∙ h)
+    where
+      of : (s : List ℕ) → length s ≡ 0 → s ++ out ≡ out
+      of [] e = refl
+      of (b ∷ s) e = absurd (omega arith)
+
+  pub measured-none : length (o′ ++ out) < n → WroteAll t out (Refused refusal.NoRoom) (o′ ++ out)
+  measured-none g = rw part-keeps (stored-none p (rw part-keeps at g))
+
+  pub measured-whole : {out′ : List ℕ} {m : ℕ} → n ≤ length (o′ ++ out) → Stored (o′ ++ out) 0 t out′ m → WroteAll t out (Length m) out′
+  measured-whole {out′} {m} g q =
+      let r : Stored out 0 t out′ m = rw part-keeps at q in
+      let l : n ≤ length out = rw part-keeps at g in
+      stored-whole r (omega (arith, stored-length p, stored-length r))
+
+-- and the text is no longer than where its writer came to
+pub wrote-within : {t out out′ o o′ : List ℕ} {r : Written} {n k : ℕ} → Stored o 0 t o′ n → n ≤ k → WroteAll t out r out′
+    → (r ≡ writtenAs t out) × ((out′ ≡ written t out) × (length t ≤ k))
+wrote-within p h w = (w .answer, (w .bytes, omega (arith, stored-length p)))
+
+-- what was written as one text was written as any text that equals it
+pub wrote-as : (out : List ℕ) {t u o : List ℕ} {r : Written} {k m : ℕ} → k ≤ m → t ≡ u
+    → (r ≡ writtenAs t out) × ((o ≡ written t out) × (length t ≤ k))
+    → (r ≡ writtenAs u out) × ((o ≡ written u out) × (length u ≤ m))
+wrote-as out h e w = (
+  w .0 ∙ ap (λ (s : List ℕ). writtenAs s out) e,
+  (w .1 .0 ∙ ap (λ (s : List ℕ). written s out) e, omega (arith, w .1 .1, ap length e)),
+)
+
+-- ---- the length that was answered counts bytes of the slice
+
+pub written-counts : (t out out′ : List ℕ) {r : Written} {m : ℕ} → r ≡ writtenAs t out → length out′ ≡ length out → r ≡ Length m
+    → (m ≤ length out′) × (m ≡ length (take m out′))
+unfolding writtenAs
+written-counts t out out′ {r} {m} e k d = of (hasRoom t out) refl (sym d ∙ e)
+  where
+    of : (b : Bool) → hasRoom t out ≡ b → Length m ≡ cond b (Length (length t)) (Refused refusal.NoRoom) → (m ≤ length out′) × (m ≡ length (take m out′))
+    of true h f =
+        let g : m ≡ length t = cc in
+        let room : m ≤ length out′ = omega (arith, leb-true (length t) (length out) h) in
+        (room, omega (arith, length-take m out′))
+    of false h f = absurd (let z : _≡_ {A = ℕ} 0 1 = cc in omega arith)
+
+-- ---- the line of a refusal, stored part by part
+
+module _ {out out′ out″ out‴ : List ℕ} {at at′ at″ at‴ : ℕ} where
+  pub refusedLine-stored : (x : Refusal) {n d : ℕ} → n ≡ number x → d ≡ value x
+      → Stored out at (bytes "refused=") out′ at′ → Stored out′ at′ (digits n ++ (comma ∷ [])) out″ at″ → Stored out″ at″ (digits d ++ (LF ∷ [])) out‴ at‴
+      → Stored out at (refusedLine x) out‴ at‴
+  unfolding refusedLine
+  refusedLine-stored x {n} {d} a b p q r =
+      let e : (digits n ++ (comma ∷ [])) ++ (digits d ++ (LF ∷ [])) ≡ digits n ++ (comma ∷ (digits d ++ (LF ∷ []))) = simp append-assoc in
+      rw (← a, ← b) (stored-append p (rw e at (stored-append q r)))
