@@ -13,11 +13,11 @@ use borrow.Author.Tests.{eq-eqb, eqb-true}
 use Rattle.whole.specs.Split.{eqZ}
 use Rattle.whole.specs.Rules.{wholes}
 use Rattle.plan.specs.declared.Plan.{Plan}
-use Rattle.bounds.specs.Events.{nodeOf}
+use Rattle.bounds.specs.Events.{nodeOf, mostNodes}
 use Rattle.bounds.specs.Tables.{Cell, off, upto, least, plus, Between, leastOf, Set, contradiction, bounds, judgedSet}
 use Rattle.bounds.specs.TablesLaws.{least-off, off-least, judgedSet-ext}
 use Rattle.bounds.specs.Spans.{Times}
-use Rattle.bounds.specs.Flat.{noBound, place, cellOf, cellAt, rowsOf, Flat, flat, putAt, thenFlat, putBounds, noBounds}
+use Rattle.bounds.specs.Flat.{noBound, place, cellOf, cellAt, rowsOf, Flat, flat, putAt, thenFlat, putBounds, noBounds, cells}
 use Rattle.bounds.specs.FlatLaws.{Outcome, thenFlat-outcome, thenFlat-found, thenFlat-next}
 use Rattle.bounds.specs.PutLaws.{cellOf-mark, cellOf-on, below-on}
 use Rattle.bounds.specs.TowardsLaws.{least-assoc, Towards, putAt-towards, towards-end}
@@ -113,7 +113,7 @@ low-sum w h = omega wholes
 
 -- ---- all of them
 
-module _ (p : Plan) (k : ℕ) (early late : List ℤ) (times : Times p k early late) (small : k ≤ 37) (set : Set) (rest : ℕ → ℕ → Cell) where
+module _ (p : Plan) (k : ℕ) (early late : List ℤ) (times : Times p k early late) (small : k ≤ mostNodes) (set : Set) (rest : ℕ → ℕ → Cell) where
   pub putBounds-towards : (bs : List Between) → AllNamed k bs → (ws : List ℤ) → Towards p k (λ y z. least (leastOf bs y z) (rest y z)) set ws
       → Outcome (Towards p k rest set) (set ≡ contradiction) (putBounds early late bs ws)
   unfolding putBounds
@@ -147,10 +147,10 @@ module _ (p : Plan) (k : ℕ) (early late : List ℤ) (times : Times p k early l
 
 -- ---- into the array without a bound
 
-none-at : (i : ℕ) → i < 1369 → getD noBounds i (pos 0) ≡ noBound
-none-at i h = getD-replicate 1369 i noBound (pos 0) h
+none-at : (i : ℕ) → i < cells → getD noBounds i (pos 0) ≡ noBound
+none-at i h = getD-replicate cells i noBound (pos 0) h
 
-pub noBounds-off : (y z : ℕ) → y < 37 → z < 37 → cellAt noBounds y z ≡ off
+pub noBounds-off : (y z : ℕ) → y < mostNodes → z < mostNodes → cellAt noBounds y z ≡ off
 noBounds-off y z h l = cellOf-mark (getD noBounds (place y z) (pos 0)) (ap (λ w. eqZ w noBound) (none-at (place y z) (omega arith)))
 
 pub outcome-set : (k : ℕ) (set : Set) (r : Flat) → Outcome (λ us. set ≡ bounds (rowsOf k us)) (set ≡ contradiction) r
@@ -161,11 +161,11 @@ outcome-set k set r o = by (r .found) refl
     by true e = sym (o .fails e)
     by false e = sym (o .keeps e)
 
-module _ (p : Plan) (k : ℕ) (early late : List ℤ) (times : Times p k early late) (small : k ≤ 37) (bs : List Between) (named : AllNamed k bs) where
+module _ (p : Plan) (k : ℕ) (early late : List ℤ) (times : Times p k early late) (small : k ≤ mostNodes) (bs : List Between) (named : AllNamed k bs) where
   empty-towards : Towards p k (λ y z. least (leastOf bs y z) off) (judgedSet p k (leastOf bs)) noBounds
   empty-towards =
       record {
-        len = length-replicate 1369 noBound;
+        len = length-replicate cells noBound;
         kept = λ y z h l. record { kept = λ w e. absurd (let o = noBounds-off y z (omega arith) (omega arith) in let z : _≡_ {A = ℕ} 0 1 = cc in omega arith) };
         leads =
             judgedSet-ext p k _ _

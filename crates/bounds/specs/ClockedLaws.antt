@@ -11,12 +11,12 @@ use Rattle.whole.specs.SplitLaws.{split-neg}
 use Rattle.whole.specs.Rules.{wholes}
 use Rattle.plan.specs.declared.Plan.{Plan}
 use Rattle.plan.specs.Accepted.{Accepted}
-use Rattle.bounds.specs.Events.{jobAt, earliest, latest, startNode, finishNode, nodes}
+use Rattle.bounds.specs.Events.{jobAt, earliest, latest, startNode, finishNode, nodes, mostNodes}
 use Rattle.bounds.specs.Tables.{contradiction, bounds}
 use Rattle.bounds.specs.Elimination.{withoutStart, withoutFinish}
 use Rattle.bounds.specs.BuildLaws.{eventOf-start, eventOf-finish}
 use Rattle.bounds.specs.Spans.{Times, timeAt}
-use Rattle.bounds.specs.Flat.{rowsOf, weightAt, Weighed, Moving, JoinsRows, MovesRows, joinedRows, movedRows}
+use Rattle.bounds.specs.Flat.{rowsOf, weightAt, Weighed, Moving, JoinsRows, MovesRows, joinedRows, movedRows, cells}
 use Rattle.bounds.specs.StartLaws.{withoutStart-is}
 use Rattle.bounds.specs.FinishLaws.{withoutFinish-is}
 use Rattle.bounds.specs.Fit.{Fit, Clocked}
@@ -27,7 +27,7 @@ pub times-below : {p : Plan} {early late : List ℤ} (n m : ℕ) → m ≤ n →
 times-below n m h t = record { earliest-at = λ y l. t .earliest-at y (omega arith); latest-at = λ y l. t .latest-at y (omega arith) }
 
 -- both windows have room
-pub nodes-room : {p : Plan} → Accepted p → nodes (p .jobs + p .jobs) ≤ 37
+pub nodes-room : {p : Plan} → Accepted p → nodes (p .jobs + p .jobs) ≤ mostNodes
 nodes-room a = let most = a .jobs-most in omega arith
 
 module _ (p : Plan) (early late : List ℤ) (clocked : Clocked p early late) (k : ℕ) (ws : List ℤ) where
@@ -45,7 +45,7 @@ module _ (p : Plan) (early late : List ℤ) (clocked : Clocked p early late) (k 
           row = λ z h. start-weighed (startNode k) z (omega arith) (omega arith);
         }
 
-    pub start-is : length ws ≡ 1369
+    pub start-is : length ws ≡ cells
         → let r = joinedRows early late (startNode k) ws in
         cond (r .found) contradiction (bounds (rowsOf (startNode k) (r .weights))) ≡ withoutStart p k (rowsOf (suc (startNode k)) ws)
     start-is size =
@@ -98,7 +98,7 @@ module _ (p : Plan) (early late : List ℤ) (clocked : Clocked p early late) (k 
           row = λ z h. finish-weighed (finishNode k) z (omega arith) (omega arith);
         }
 
-    pub finish-is : length ws ≡ 1369
+    pub finish-is : length ws ≡ cells
         → let r = movedRows early late (startNode k) (finishNode k) (negℤ (jobAt p k .max)) (jobAt p k .min) ws in
         cond (r .found) contradiction (bounds (rowsOf (finishNode k) (r .weights))) ≡ withoutFinish p k (rowsOf (suc (finishNode k)) ws)
     finish-is size =

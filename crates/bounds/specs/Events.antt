@@ -7,6 +7,7 @@ use lib.ListN.{getD}
 use Rattle.plan.specs.declared.Job.{Job}
 use Rattle.plan.specs.declared.Plan.{Plan}
 use Rattle.plan.specs.PlanRead.{noJob}
+use Rattle.events.specs.Bits.{mostEvents}
 use Rattle.bounds.specs.declared.Event.{Event}
 use Rattle.bounds.specs.declared.Event.the-variants.{Origin, Start, Finish}
 
@@ -53,6 +54,9 @@ unfoldable pub eventOf : ℕ → Event
 eventOf zero = Origin
 eventOf (suc m) = cond (eqb (m % 2) 0) (Start (m / 2)) (Finish (m / 2))
 
--- how many nodes the origin and so many places have
+-- how many nodes the origin and so many places have, and how many two windows have at most
 abbrev pub nodes : ℕ → ℕ
 nodes places = startNode places
+
+abbrev pub mostNodes : ℕ
+mostNodes = mostEvents + 1

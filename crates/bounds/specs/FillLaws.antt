@@ -15,7 +15,7 @@ use Rattle.plan.specs.declared.Plan.{Plan}
 use Rattle.plan.specs.Accepted.{Accepted}
 use Rattle.bounds.specs.declared.Event.{Event}
 use Rattle.bounds.specs.declared.Event.the-variants.{Origin, Start, Finish}
-use Rattle.bounds.specs.Events.{earliest, latest, eventOf, startNode, finishNode, nodes}
+use Rattle.bounds.specs.Events.{earliest, latest, eventOf, startNode, finishNode, nodes, mostNodes}
 use Rattle.bounds.specs.BuildLaws.{eventOf-start, eventOf-finish}
 use Rattle.bounds.specs.Spans.{timeAt, InRange}
 use Rattle.bounds.specs.Fit.{Clocked}
@@ -24,11 +24,11 @@ use Rattle.bounds.specs.StartLaws.{less-or-same}
 
 -- the first n nodes have their times
 pub record Filled (t : Event → ℤ) (n : ℕ) (ts : List ℤ) : Type 0 where
-  pub len : length ts ≡ 37
+  pub len : length ts ≡ mostNodes
   pub done : (y : ℕ) → y < n → timeAt ts y ≡ t (eventOf y)
-  pub rest : (y : ℕ) → n ≤ y → y < 37 → timeAt ts y ≡ pos 0
+  pub rest : (y : ℕ) → n ≤ y → y < mostNodes → timeAt ts y ≡ pos 0
 
-filled-more : (t : Event → ℤ) (n : ℕ) (ts : List ℤ) (a : ℤ) → n < 37 → a ≡ t (eventOf n) → Filled t n ts → Filled t (n + 1) (set ts n a)
+filled-more : (t : Event → ℤ) (n : ℕ) (ts : List ℤ) (a : ℤ) → n < mostNodes → a ≡ t (eventOf n) → Filled t n ts → Filled t (n + 1) (set ts n a)
 filled-more t n ts a h e f =
     record {
       len = length-set ts n a ∙ f .len;
@@ -40,19 +40,19 @@ filled-more t n ts a h e f =
     }
 
 -- the origin has 0 already
-pub filled-origin : (t : Event → ℤ) → t Origin ≡ pos 0 → Filled t (nodes 0) (replicate 37 (pos 0))
+pub filled-origin : (t : Event → ℤ) → t Origin ≡ pos 0 → Filled t (nodes 0) (replicate mostNodes (pos 0))
 unfolding eventOf
 filled-origin t e =
     record {
-      len = length-replicate 37 (pos 0);
+      len = length-replicate mostNodes (pos 0);
       done = λ y h.
           let first : y ≡ 0 = omega arith in
-          subst (λ y. timeAt (replicate 37 (pos 0)) y ≡ t (eventOf y)) (sym first) (getD-replicate 37 0 (pos 0) (pos 0) (omega arith) ∙ sym e);
-      rest = λ y h l. getD-replicate 37 y (pos 0) (pos 0) l;
+          subst (λ y. timeAt (replicate mostNodes (pos 0)) y ≡ t (eventOf y)) (sym first) (getD-replicate mostNodes 0 (pos 0) (pos 0) (omega arith) ∙ sym e);
+      rest = λ y h l. getD-replicate mostNodes y (pos 0) (pos 0) l;
     }
 
 -- and a place has its start and its finish
-pub filled-place : (t : Event → ℤ) (k : ℕ) (ts : List ℤ) (a b : ℤ) → finishNode k < 37 → a ≡ t (Start k) → b ≡ t (Finish k) → Filled t (nodes k) ts
+pub filled-place : (t : Event → ℤ) (k : ℕ) (ts : List ℤ) (a b : ℤ) → finishNode k < mostNodes → a ≡ t (Start k) → b ≡ t (Finish k) → Filled t (nodes k) ts
     → Filled t (nodes (k + 1)) (set (set ts (startNode k) a) (finishNode k) b)
 filled-place t k ts a b h d e f =
     let next : startNode k + 1 ≡ finishNode k = omega arith in
@@ -65,7 +65,7 @@ filled-place t k ts a b h d e f =
 -- ---- both arrays
 
 module _ (t : Event → ℤ) (n : ℕ) (ts : List ℤ) (f : Filled t n ts) (known : (y : ℕ) → y < n → InRange (t (eventOf y))) where
-  filled-in : (y : ℕ) → y < 37 → InRange (timeAt ts y)
+  filled-in : (y : ℕ) → y < mostNodes → InRange (timeAt ts y)
   filled-in y h = by (ltb y n) refl
     where
       by : (b : Bool) → ltb y n ≡ b → InRange (timeAt ts y)

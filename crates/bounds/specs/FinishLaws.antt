@@ -15,7 +15,7 @@ use Rattle.whole.specs.Split.{eqZ}
 use Rattle.whole.specs.Rules.{wholes}
 use Rattle.plan.specs.declared.Plan.{Plan}
 use Rattle.bounds.specs.declared.Judgement.the-variants.{Kept}
-use Rattle.bounds.specs.Events.{startNode, finishNode, eventOf, jobAt}
+use Rattle.bounds.specs.Events.{startNode, finishNode, eventOf, jobAt, mostNodes}
 use Rattle.bounds.specs.Judgements.{judged}
 use Rattle.bounds.specs.JudgementsLaws.{judged-running, judged-reverse}
 use Rattle.bounds.specs.Tables.{Cell, off, upto, least, plus, at, contradiction, bounds, judgement, isContradiction, judgedSet}
@@ -24,7 +24,7 @@ use Rattle.bounds.specs.BuildLaws.{at-build, eventOf-start, eventOf-fini
 use Rattle.bounds.specs.TablesLaws.{least-off, off-least, plus-off, JudgedCell, KeptCell, judged-again, Contradicted, judgedSet-ext}
 use Rattle.bounds.specs.Spans.{Times}
 use Rattle.bounds.specs.SpansLaws.{judgedAt-is}
-use Rattle.bounds.specs.Flat.{noBound, place, weightAt, cellOf, cellAt, rowsOf, Weighed, Moving, flat, putAt, thenFlat, movedAt, movedRows}
+use Rattle.bounds.specs.Flat.{noBound, place, weightAt, cellOf, cellAt, rowsOf, Weighed, Moving, flat, putAt, thenFlat, movedAt, movedRows, cells}
 use Rattle.bounds.specs.FlatLaws.{putAt-none, putAt-same, putAt-length, Outcome, thenFlat-outcome, eachNode-outcome}
 use Rattle.bounds.specs.PutLaws.{mark-of-off, putAt-left}
 use Rattle.bounds.specs.StartLaws.{place-one, less-or-same, answer-is}
@@ -52,19 +52,19 @@ moved-low v a h k = omega wholes
 
 -- ---- places of two rows, or of two columns
 
-row-apart : (u x y z : ℕ) → x < 37 → z < 37 → (u ≡ y → ⊥) → place u x ≡ place y z → ⊥
+row-apart : (u x y z : ℕ) → x < mostNodes → z < mostNodes → (u ≡ y → ⊥) → place u x ≡ place y z → ⊥
 row-apart u x y z a b n e = n (place-one u x y z a b e .0)
 
-column-apart : (u x y z : ℕ) → x < 37 → z < 37 → (x ≡ z → ⊥) → place u x ≡ place y z → ⊥
+column-apart : (u x y z : ℕ) → x < mostNodes → z < mostNodes → (x ≡ z → ⊥) → place u x ≡ place y z → ⊥
 column-apart u x y z a b n e = n (place-one u x y z a b e .1)
 
 -- ---- the finish f of the start s
 
 module _ (p : Plan) (early late : List ℤ) (s f : ℕ) (less more : ℤ) (ws : List ℤ)
     (times : Times p (suc f) early late)
-    (node : f < 37)
+    (node : f < mostNodes)
     (order : s < f)
-    (size : length ws ≡ 1369)
+    (size : length ws ≡ cells)
     (kept : (y z : ℕ) → y < suc f → z < suc f → KeptCell p y z (cellAt ws y z))
     (weighed : (y z : ℕ) → y < suc f → z < suc f → Weighed (weightAt ws y z))
     (running : cellAt ws s f ≡ off)
@@ -91,12 +91,12 @@ module _ (p : Plan) (early late : List ℤ) (s f : ℕ) (less more : ℤ) (ws : 
   made-other y z m n = rw (ne-eqb y s m, ne-eqb z s n) (ap (least (cellAt ws y z)) (off-least off) ∙ least-off (cellAt ws y z))
 
   record Stage (y : ℕ) (us : List ℤ) : Type 0 where
-    len : length us ≡ 1369
+    len : length us ≡ cells
     column : (u : ℕ) → u < y → JudgedCell p u s (made u s) (cellAt us u s)
     row : (x : ℕ) → x < y → JudgedCell p s x (made s x) (cellAt us s x)
     rest-column : (u : ℕ) → y ≤ u → u < suc f → weightAt us u s ≡ weightAt ws u s
     rest-row : (x : ℕ) → y ≤ x → x < suc f → weightAt us s x ≡ weightAt ws s x
-    other : (u x : ℕ) → (u ≡ s → ⊥) → (x ≡ s → ⊥) → x < 37 → weightAt us u x ≡ weightAt ws u x
+    other : (u x : ℕ) → (u ≡ s → ⊥) → (x ≡ s → ⊥) → x < mostNodes → weightAt us u x ≡ weightAt ws u x
 
   -- at the start itself there is nothing to move
   stage-start : (us : List ℤ) → Stage s us → Stage (s + 1) us
@@ -120,7 +120,7 @@ module _ (p : Plan) (early late : List ℤ) (s f : ℕ) (less more : ℤ) (ws : 
       → a < suc f
       → b < suc f
       → Moving m
-      → length us ≡ 1369
+      → length us ≡ cells
       → cellAt us y z ≡ cellAt ws y z
       → weightAt us a b ≡ weightAt ws a b
       → made y z ≡ least (cellAt ws y z) (plus (cellAt ws a b) m)
@@ -140,9 +140,9 @@ module _ (p : Plan) (early late : List ℤ) (s f : ℕ) (less more : ℤ) (ws : 
 
   -- between the two cells of node y: the first is written
   record Half (y : ℕ) (us vs : List ℤ) : Type 0 where
-    len : length vs ≡ 1369
+    len : length vs ≡ cells
     first : JudgedCell p y s (made y s) (cellAt vs y s)
-    same : (u x : ℕ) → x < 37 → (place u x ≡ place y s → ⊥) → weightAt vs u x ≡ weightAt us u x
+    same : (u x : ℕ) → x < mostNodes → (place u x ≡ place y s → ⊥) → weightAt vs u x ≡ weightAt us u x
 
   first-half : (y : ℕ) (us : List ℤ) → y < f → (y ≡ s → ⊥) → Stage y us
       → Outcome (Half y us) (Contradicted p f made) (putAt early late y s (weightAt us y f) less us)
@@ -165,8 +165,8 @@ module _ (p : Plan) (early late : List ℤ) (s f : ℕ) (less more : ℤ) (ws : 
   second-half : (y : ℕ) (us vs : List ℤ) → y < f → (y ≡ s → ⊥) → Stage y us → Half y us vs
       → Outcome (Stage (y + 1)) (Contradicted p f made) (putAt early late s y (weightAt vs f y) more vs)
   second-half y us vs l n g h =
-      let low : y < 37 = omega arith in
-      let start-low : s < 37 = omega arith in
+      let low : y < mostNodes = omega arith in
+      let start-low : s < mostNodes = omega arith in
       let f≢s : f ≡ s → ⊥ = λ e. omega arith in
       let s≢y : s ≡ y → ⊥ = λ e. n (sym e) in
       let r = putAt early late s y (weightAt vs f y) more vs in
@@ -271,8 +271,8 @@ module _ (p : Plan) (early late : List ℤ) (s f : ℕ) (less more : ℤ) (ws : 
 
 pub withoutFinish-is : (p : Plan) (early late : List ℤ) (k : ℕ) (ws : List ℤ)
     → Times p (suc (finishNode k)) early late
-    → finishNode k < 37
-    → length ws ≡ 1369
+    → finishNode k < mostNodes
+    → length ws ≡ cells
     → ((y z : ℕ) → y < suc (finishNode k) → z < suc (finishNode k) → KeptCell p y z (cellAt ws y z))
     → ((y z : ℕ) → y < suc (finishNode k) → z < suc (finishNode k) → Weighed (weightAt ws y z))
     → Moving (negℤ (jobAt p k .max))

@@ -13,7 +13,7 @@ use Rattle.bounds.specs.Events.{earliest, latest, eventOf, nodes}
 use Rattle.bounds.specs.Judgements.{judged}
 use Rattle.bounds.specs.Tables.{Cell, upto, Rows, at}
 use Rattle.bounds.specs.Spans.{Times}
-use Rattle.bounds.specs.Flat.{AllTimed, rowsOf}
+use Rattle.bounds.specs.Flat.{AllTimed, rowsOf, cells}
 
 -- a cell that holds a bound of at most w
 pub record AtMost (c : Cell) (w : ℤ) : Type 0 where
@@ -37,7 +37,7 @@ pub record Clocked (p : Plan) (early late : List ℤ) : Type 0 where
 pub record StandingOf (p : Plan) (early late : List ℤ) (k : ℕ) (ws : List ℤ) : Type 0 where
   pub clocked : Clocked p early late
   pub room : k ≤ nodes (p .jobs + p .jobs)
-  pub size : length ws ≡ 1369
+  pub size : length ws ≡ cells
   pub fit : Fit p k (rowsOf k ws)
 
 -- and the same of some plan

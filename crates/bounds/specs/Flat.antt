@@ -1,4 +1,4 @@
--- A table as the code has it: one array, in which the cell of z - y <= w stands at y * 37 + z, and a mark stands where there is no bound.
+-- A table as the code has it: one array, in which the cell of z - y <= w stands at y * side + z, and a mark stands where there is no bound.
 -- What the code does to it, cell by cell, in the code's order.
 use Prim.Native.Nat.{ℕ, zero, suc, _+_, _*_, _<_}
 use mathlib.Core.Path.{_≡_}
@@ -14,14 +14,18 @@ use Rattle.events.specs.declared.Events.{Events}
 use Rattle.events.specs.Bits.{bitsOf, hasEvent, eventSet}
 use Rattle.bounds.specs.declared.Judgement.{Judgement}
 use Rattle.bounds.specs.declared.Judgement.the-variants.{Contradiction, LeftOut, Kept}
-use Rattle.bounds.specs.Events.{nodeOf}
+use Rattle.bounds.specs.Events.{nodeOf, mostNodes}
 use Rattle.bounds.specs.Tables.{Cell, off, upto, Rows, listed, build, Between, Set, contradiction, bounds}
 use Rattle.bounds.specs.Spans.{judgedAt, Timed}
 
 -- ---- the rows that an array holds
 
+-- a row has a cell for each node, and a table a row
 abbrev pub side : ℕ
-side = 37
+side = mostNodes
+
+abbrev pub cells : ℕ
+cells = side * side
 
 -- the mark for no bound
 abbrev pub noBound : ℤ
@@ -91,7 +95,7 @@ putBounds early late (b ∷ bs) ws =
 
 -- the array without a bound
 abbrev pub noBounds : List ℤ
-noBounds = replicate 1369 noBound
+noBounds = replicate cells noBound
 
 -- ---- a start s eliminated
 
@@ -147,12 +151,12 @@ pub record Moving (a : ℤ) : Type 0 where
   pub greatest : a ≤ℤ pos 86400000
 
 abbrev pub AllTimed : List ℤ → List ℤ → Type 0
-AllTimed early late = (y : ℕ) → y < 37 → Timed early late y
+AllTimed early late = (y : ℕ) → y < mostNodes → Timed early late y
 
 -- what each function of the elimination of the start s rests on: times in range, and weights in range in row s and in column s
 pub record JoinsCells (early late : List ℤ) (s : ℕ) (set : Events) (y : ℕ) (w : ℤ) (ws : List ℤ) : Type 0 where
   pub times : AllTimed early late
-  pub node : s < 37
+  pub node : s < mostNodes
   pub before : y < s
   pub bounded : HasBounded ws s set
   pub on : eqZ w noBound ≡ false
@@ -161,7 +165,7 @@ pub record JoinsCells (early late : List ℤ) (s : ℕ) (set : Events) (y : ℕ)
 
 pub record JoinsRow (early late : List ℤ) (s : ℕ) (set : Events) (y : ℕ) (ws : List ℤ) : Type 0 where
   pub times : AllTimed early late
-  pub node : s < 37
+  pub node : s < mostNodes
   pub before : y < s
   pub bounded : HasBounded ws s set
   pub weighed : Weighed (weightAt ws y s)
@@ -169,14 +173,14 @@ pub record JoinsRow (early late : List ℤ) (s : ℕ) (set : Events) (y : ℕ) (
 
 pub record JoinsRows (early late : List ℤ) (s : ℕ) (ws : List ℤ) : Type 0 where
   pub times : AllTimed early late
-  pub node : s < 37
+  pub node : s < mostNodes
   pub column : (y : ℕ) → y < s → Weighed (weightAt ws y s)
   pub row : (z : ℕ) → z < s → Weighed (weightAt ws s z)
 
 -- and the same of the finish f of the start s
 pub record MovesAt (early late : List ℤ) (s f : ℕ) (less more : ℤ) (y : ℕ) (ws : List ℤ) : Type 0 where
   pub times : AllTimed early late
-  pub node : f < 37
+  pub node : f < mostNodes
   pub order : s < f
   pub before : y < f
   pub less-moves : Moving less
@@ -186,7 +190,7 @@ pub record MovesAt (early late : List ℤ) (s f : ℕ) (less more : ℤ) (y : �
 
 pub record MovesRows (early late : List ℤ) (s f : ℕ) (less more : ℤ) (ws : List ℤ) : Type 0 where
   pub times : AllTimed early late
-  pub node : f < 37
+  pub node : f < mostNodes
   pub order : s < f
   pub less-moves : Moving less
   pub more-moves : Moving more

@@ -11,7 +11,7 @@ use Rattle.plan.specs.declared.Plan.{Plan}
 use Rattle.bounds.specs.declared.Event.{Event}
 use Rattle.bounds.specs.declared.Event.the-variants.{Origin, Start, Finish}
 use Rattle.bounds.specs.declared.Judgement.{Judgement}
-use Rattle.bounds.specs.Events.{earliest, latest, eventOf}
+use Rattle.bounds.specs.Events.{earliest, latest, eventOf, mostNodes}
 use Rattle.bounds.specs.Judgements.{judgedSame, atLeast, fromOrigin, apart}
 
 -- The judgement of z - y <= w by four differences: low is earliest(z) - latest(y), high is latest(z) - earliest(y), late is
@@ -56,6 +56,6 @@ pub record InRange (t : ℤ) : Type 0 where
 
 -- what it takes to judge a bound between two nodes
 pub record Timed (early late : List ℤ) (y : ℕ) : Type 0 where
-  pub node : y < 37
+  pub node : y < mostNodes
   pub early-in : InRange (timeAt early y)
   pub late-in : InRange (timeAt late y)

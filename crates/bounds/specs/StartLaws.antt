@@ -15,21 +15,21 @@ use lib.ListN.{length, getD}
 use Rattle.whole.specs.Split.{eqZ}
 use Rattle.whole.specs.Rules.{wholes}
 use Rattle.plan.specs.declared.Plan.{Plan}
-use Rattle.bounds.specs.Events.{startNode}
+use Rattle.bounds.specs.Events.{startNode, mostNodes}
 use Rattle.bounds.specs.Tables.{Cell, least, plus, join, at, contradiction, bounds, judgement, isContradiction, judgedSet}
 use Rattle.bounds.specs.Elimination.{startCell, withoutStart}
 use Rattle.bounds.specs.BuildLaws.{at-build}
 use Rattle.bounds.specs.TablesLaws.{least-off, join-off, join-plus, JudgedCell, KeptCell, judged-again, Contradicted, judgedSet-none, judgedSet-kept, judgedSet-ext}
 use Rattle.bounds.specs.Spans.{Times}
 use Rattle.bounds.specs.SpansLaws.{judgedAt-is}
-use Rattle.bounds.specs.Flat.{noBound, place, weightAt, cellOf, cellAt, rowsOf, Weighed, Flat, flat, joinedAt, joinedCells, joinedRow, joinedRows}
+use Rattle.bounds.specs.Flat.{noBound, place, weightAt, cellOf, cellAt, rowsOf, Weighed, Flat, flat, joinedAt, joinedCells, joinedRow, joinedRows, cells}
 use Rattle.bounds.specs.FlatLaws.{putAt-same, putAt-length, Outcome, eachNode-outcome}
 use Rattle.bounds.specs.PutLaws.{cellOf-mark, cellOf-on, putAt-left}
 
 -- ---- places
 
 -- a place is of one pair alone
-pub place-one : (y z u x : ℕ) → z < 37 → x < 37 → place y z ≡ place u x → (y ≡ u) × (z ≡ x)
+pub place-one : (y z u x : ℕ) → z < mostNodes → x < mostNodes → place y z ≡ place u x → (y ≡ u) × (z ≡ x)
 place-one y z u x a b e = (omega arith, omega arith)
 
 pub less-or-same : (a n : ℕ) → a < n + 1 → (a < n) ⊎ (a ≡ n)
@@ -63,8 +63,8 @@ weighed-low v w a b on e = sum-low v w (a .greatest e) (b .greatest on)
 
 module _ (p : Plan) (early late : List ℤ) (s : ℕ) (ws : List ℤ)
     (times : Times p (suc s) early late)
-    (node : s < 37)
-    (size : length ws ≡ 1369)
+    (node : s < mostNodes)
+    (size : length ws ≡ cells)
     (kept : (y z : ℕ) → y < suc s → z < suc s → KeptCell p y z (cellAt ws y z))
     (weighed : (y z : ℕ) → y < suc s → z < suc s → Weighed (weightAt ws y z)) where
   -- the made cell
@@ -72,7 +72,7 @@ module _ (p : Plan) (early late : List ℤ) (s : ℕ) (ws : List ℤ)
   made y z = least (cellAt ws y z) (join (cellAt ws y s) (cellAt ws s z))
 
   record Stage (n : ℕ) (us : List ℤ) : Type 0 where
-    len : length us ≡ 1369
+    len : length us ≡ cells
     done : (y z : ℕ) → y < s → z < s → place y z < n → JudgedCell p y z (made y z) (cellAt us y z)
     rest : (i : ℕ) → n ≤ i → getD us i (pos 0) ≡ getD ws i (pos 0)
 
@@ -170,8 +170,8 @@ module _ (p : Plan) (early late : List ℤ) (s : ℕ) (ws : List ℤ)
 
 pub withoutStart-is : (p : Plan) (early late : List ℤ) (k : ℕ) (ws : List ℤ)
     → Times p (suc (startNode k)) early late
-    → startNode k < 37
-    → length ws ≡ 1369
+    → startNode k < mostNodes
+    → length ws ≡ cells
     → ((y z : ℕ) → y < suc (startNode k) → z < suc (startNode k) → KeptCell p y z (cellAt ws y z))
     → ((y z : ℕ) → y < suc (startNode k) → z < suc (startNode k) → Weighed (weightAt ws y z))
     → let r = joinedRows early late (startNode k) ws in

@@ -15,7 +15,7 @@ use Rattle.whole.specs.Rules.{whole}
 use Rattle.plan.specs.declared.Plan.{Plan}
 use Rattle.bounds.specs.declared.Judgement.{Judgement}
 use Rattle.bounds.specs.declared.Judgement.the-variants.{Contradiction, LeftOut, Kept}
-use Rattle.bounds.specs.Events.{eventOf}
+use Rattle.bounds.specs.Events.{eventOf, mostNodes}
 use Rattle.bounds.specs.Judgements.{judged}
 use Rattle.bounds.specs.JudgementsLaws.{judged-left-out, judged-none}
 use Rattle.bounds.specs.Tables.{Cell, off, upto, least, plus, at, build, judgement, isContradiction, keptCell, Set, contradiction, bounds, contradicts, keptRows, judgedSet}
@@ -23,7 +23,7 @@ use Rattle.bounds.specs.BuildLaws.{at-build}
 use Rattle.bounds.specs.TablesLaws.{least-off, anyBelow-ext, build-ext, JudgedCell, KeptCell, judged-again, judged-kept, judgedSet-none, judgedSet-kept}
 use Rattle.bounds.specs.Spans.{Times}
 use Rattle.bounds.specs.SpansLaws.{judgedAt-is}
-use Rattle.bounds.specs.Flat.{noBound, place, cellOf, cellAt, rowsOf, putAt}
+use Rattle.bounds.specs.Flat.{noBound, place, cellOf, cellAt, rowsOf, putAt, cells}
 use Rattle.bounds.specs.FlatLaws.{putAt-same, putAt-length, Outcome}
 use Rattle.bounds.specs.PutLaws.{putAt-left}
 use Rattle.bounds.specs.StartLaws.{place-one}
@@ -142,23 +142,23 @@ none-stays p y z (upto w) e s = none-by p y z w e (judged p (eventOf y) (eventOf
 
 -- ---- at one place, or at another
 
-at-place-by : (P : ℕ → ℕ → Type 0) (u x y z : ℕ) → x < 37 → z < 37 → (b : Bool) → eqb (place u x) (place y z) ≡ b
+at-place-by : (P : ℕ → ℕ → Type 0) (u x y z : ℕ) → x < mostNodes → z < mostNodes → (b : Bool) → eqb (place u x) (place y z) ≡ b
     → ((place u x ≡ place y z → ⊥) → P u x) → P y z → P u x
 at-place-by P u x y z a b true e f g = let one = place-one u x y z a b (eqb-true (place u x) (place y z) e) in subst₂ P (sym (one .0)) (sym (one .1)) g
 at-place-by P u x y z a b false e f g = f (eqb-false (place u x) (place y z) e)
 
-at-place : (P : ℕ → ℕ → Type 0) (u x y z : ℕ) → x < 37 → z < 37 → ((place u x ≡ place y z → ⊥) → P u x) → P y z → P u x
+at-place : (P : ℕ → ℕ → Type 0) (u x y z : ℕ) → x < mostNodes → z < mostNodes → ((place u x ≡ place y z → ⊥) → P u x) → P y z → P u x
 at-place P u x y z a b f g = at-place-by P u x y z a b (eqb (place u x) (place y z)) refl f g
 
 -- ---- towards a set
 
 -- an array and the cells still to be put lead to a set on k nodes
 pub record Towards (p : Plan) (k : ℕ) (rest : ℕ → ℕ → Cell) (set : Set) (ws : List ℤ) : Type 0 where
-  pub len : length ws ≡ 1369
+  pub len : length ws ≡ cells
   pub kept : (y z : ℕ) → y < k → z < k → KeptCell p y z (cellAt ws y z)
   pub leads : set ≡ judgedSet p k (λ y z. least (cellAt ws y z) (rest y z))
 
-module _ (p : Plan) (k : ℕ) (early late : List ℤ) (times : Times p k early late) (small : k ≤ 37) (set : Set) (ws : List ℤ) where
+module _ (p : Plan) (k : ℕ) (early late : List ℤ) (times : Times p k early late) (small : k ≤ mostNodes) (set : Set) (ws : List ℤ) where
   pub putAt-towards : (rest more : ℕ → ℕ → Cell) → Towards p k more set ws → (y z : ℕ) → y < k → z < k → (v a : ℤ)
       → (eqZ v noBound ≡ false → (v +ℤ a) <ℤ noBound)
       → more y z ≡ least (plus (cellOf v) a) (rest y z)

@@ -5,10 +5,11 @@ ghost use mathlib.Core.Path.{_≡_};
 ghost use Prim.Native.Nat.{_<_};
 ghost use Rattle.events.specs.Bits.{bitsOf};
 ghost use Rattle.bounds.specs.Flat.{boundedNodes};
+ghost use Rattle.bounds.specs.Events.{mostNodes};
 
 // The nodes z before s for which z - s has a bound.
 pub fn bounded_nodes<'a>(weights: &'a [i32; Table::SIZE], s: usize) -> Events
-    requires { ⌜ s < 37 ⌝ }
+    requires { ⌜ s < mostNodes ⌝ }
     ensures { λ r. ⌜ bitsOf r ≡ boundedNodes (now (weights .entry)) s ⌝ }
 {
     let row = s * Table::SIDE;

@@ -42,10 +42,10 @@ pub struct Table {
 }
 
 impl Table {
-    // The origin, and a start and a finish for each job of two windows.
-    pub const SIDE: usize = 37;
+    // The origin, and the events of two windows.
+    pub const SIDE: usize = events::MOST_EVENTS + 1;
 
-    pub const SIZE: usize = 1369;
+    pub const SIZE: usize = Table::SIDE * Table::SIDE;
     // The mark for no bound on a pair.
     pub const NO_BOUND: i32 = 2147483647;
 }

@@ -70,11 +70,11 @@ jobTexts jobs c i (suc count) =
 unfoldable pub calendarText : ℕ → ℕ → Calendar → List ℕ
 calendarText jobs m c = keyed (bytes "settled=") (pos m) (jobTexts jobs c 0 jobs)
 
--- ---- how long it is, with at most nine jobs: a job's text has three lines of at most 29 bytes, and on either side a line of at most 52 bytes for each of at
--- most 34 events
+-- ---- how long it is: a job's text has three lines of at most 29 bytes, and on either side a line of at most 52 bytes for each event before its start,
+-- which are at most all events of two windows but the last job's two
 
 abbrev pub mostJobBytes : ℕ
-mostJobBytes = 3623
+mostJobBytes = 3 * 29 + 2 * (52 * (mostEvents - 2))
 
 abbrev pub mostCalendarBytes : ℕ
 mostCalendarBytes = 32768

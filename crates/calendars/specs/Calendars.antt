@@ -14,6 +14,7 @@ use Rattle.calendars.specs.declared.Terms.{Terms}
 use Rattle.calendars.specs.declared.Calendar.{Calendar}
 use Rattle.rounds.specs.Rounds.{C0, joined, Outcome, settled, noStrategy, unsettled}
 use Rattle.events.specs.Bits.{eventsOf, eventSet}
+pub use Rattle.events.specs.Bits.{mostEvents}
 
 -- ---- 'the bounds on each start just before it is eliminated'
 
@@ -76,9 +77,6 @@ unfoldable pub mostCs : Plan → ℕ → Rows → List ℤ
 mostCs p i t = listed (eventsBefore p i) (λ e. weight (fromAbove t (startNode (p .jobs + i)) e))
 
 -- ---- the calendar as a value
-
-abbrev pub mostEvents : ℕ
-mostEvents = 36
 
 abbrev pub noTerms : Terms
 noTerms = record { low = record { 0 = pos 0 }; high = record { 0 = pos 0 }; below = eventsOf 0; above = eventsOf 0 }

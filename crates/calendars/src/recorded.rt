@@ -10,18 +10,19 @@ use plan::Plan;
 ghost use mathlib.Core.Path.{_≡_};
 ghost use lib.IntN.{negℤ, _-ℤ_};
 ghost use lib.Seq.{sets};
-ghost use Prim.Native.Nat.{ℕ, suc, _+_, _≤_, _<_};
+ghost use Prim.Native.Nat.{ℕ, suc, _+_, _*_, _≤_, _<_};
 ghost use Rattle.plan.specs.Accepted.{Accepted};
-ghost use Rattle.bounds.specs.Events.{startNode};
+ghost use Rattle.plan.specs.Limits.{mostJobs};
+ghost use Rattle.bounds.specs.Events.{startNode, mostNodes};
 ghost use Rattle.bounds.specs.Flat.{cellOf, rowsOf, Weighed};
 ghost use Rattle.bounds.specs.Fit.{Fit};
-ghost use Rattle.events.specs.Bits.{bitsOf};
+ghost use Rattle.events.specs.Bits.{bitsOf, mostEvents};
 ghost use Rattle.calendars.specs.Calendars.{termsOf, leastCs, mostCs};
 ghost use Rattle.calendars.specs.Recorded.{weightOn, cOn, eventsOn, csOn, rowAt};
 
 // The weight by which event e bounds the start s.
 fn weight_on(weights: &[i32; Table::SIZE], side: Side, s: usize, e: usize) -> i32
-    requires { ⌜ (s < 37) × (e < s) ⌝ }
+    requires { ⌜ (s < mostNodes) × (e < s) ⌝ }
     ensures { λ r. ⌜ r ≡ weightOn side (now (weights .entry)) s e ⌝ }
 {
     let node = e + 1;
@@ -53,7 +54,7 @@ fn put_side(
     row: usize,
     count: usize,
 ) -> Events
-    requires { ⌜ (count < 36) × (row + count ≤ 324) × ((e : ℕ) → e < count → Weighed (weightOn side (now weights) (suc count) e)) ⌝ }
+    requires { ⌜ (count < mostEvents) × (row + count ≤ mostJobs * mostEvents) × ((e : ℕ) → e < count → Weighed (weightOn side (now weights) (suc count) e)) ⌝ }
     ensures { λ r. ⌜ (bitsOf r ≡ eventsOn side (now (weights .entry)) count) × (now (cs .exit) ≡ sets (now (cs .entry)) row (csOn side (now (weights .entry)) count)) ⌝ }
 {
     let s = count + 1;

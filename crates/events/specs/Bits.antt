@@ -4,7 +4,12 @@ use Prim.Native.Nat.{ℕ, zero, suc, _+_, _*_, _/_, _-_, _%_, _^_, _<_}
 use mathlib.Core.Bool.{Bool, true, false, cond}
 use mathlib.Core.List.{List, [], _∷_}
 use lib.Dec.{eqb}
+use Rattle.plan.specs.Limits.{mostJobs}
 use Rattle.events.specs.declared.Events.{Events}
+
+-- as many events as two windows have at most: a start and a finish for each job
+abbrev pub mostEvents : ℕ
+mostEvents = 4 * mostJobs
 
 -- ---- a set as a number: event e has digit e of it
 

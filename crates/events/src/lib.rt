@@ -4,6 +4,9 @@ ghost use mathlib.Core.List.{[]};
 ghost use Prim.Native.Nat.{_<_};
 ghost use Rattle.events.specs.Bits.{hasEvent, eventSet, withEvent, withIf, mostBits, HasRoom, withFirst, eventCount, nextEvent};
 
+// As many events as two windows have at most: a start and a finish for each job.
+pub const MOST_EVENTS: usize = 4 * plan::MOST_JOBS;
+
 // A set of events, by their numbers; or of a table's nodes, which are the origin and the events. Nothing outside of this file knows what holds it.
 pub struct Events(pub u64);
 

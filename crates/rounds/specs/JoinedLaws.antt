@@ -11,7 +11,7 @@ use lib.IntN.{ℤ, pos}
 use lib.ListN.{getD}
 use borrow.Author.Tests.{ltb-true, ltb-false}
 use Rattle.plan.specs.declared.Plan.{Plan}
-use Rattle.bounds.specs.Events.{nodeOf, nodes}
+use Rattle.bounds.specs.Events.{nodeOf, nodes, mostNodes}
 use Rattle.bounds.specs.Tables.{off, least, Rows, at, Between, leastOf, contradiction, bounds, judgedSet}
 use Rattle.bounds.specs.BuildLaws.{at-build, at-build-past}
 use Rattle.bounds.specs.TablesLaws.{judgedSet-ext}
@@ -29,7 +29,7 @@ use Rattle.rounds.specs.NamedLaws.{own-named, own-named-both, between-na
 -- ---- what is put elsewhere
 
 -- bounds between the first k nodes write no cell of another node
-putBounds-same : (early late : List ℤ) (k : ℕ) → k ≤ 37 → (bs : List Between) → AllNamed k bs → (y z : ℕ) → z < 37 → (k ≤ y) ⊎ (k ≤ z) → (ws : List ℤ)
+putBounds-same : (early late : List ℤ) (k : ℕ) → k ≤ mostNodes → (bs : List Between) → AllNamed k bs → (y z : ℕ) → z < mostNodes → (k ≤ y) ⊎ (k ≤ z) → (ws : List ℤ)
     → getD (putBounds early late bs ws .weights) (place y z) (pos 0) ≡ getD ws (place y z) (pos 0)
 unfolding putBounds
 putBounds-same early late k small [] a y z l past ws = refl
@@ -70,14 +70,14 @@ module _ (p : Plan) (early late : List ℤ) (clocked : Clocked p early late) (ow
   own-rows =
       sym (own-is p early late clocked) ∙ ap (λ r. cond (r .found) contradiction (bounds (rowsOf (nodes (p .jobs)) (r .weights)))) (sym put)
 
-  own-past : (y z : ℕ) → y < 37 → z < 37 → (nodes (p .jobs) ≤ y) ⊎ (nodes (p .jobs) ≤ z) → cellAt own y z ≡ off
+  own-past : (y z : ℕ) → y < mostNodes → z < mostNodes → (nodes (p .jobs) ≤ y) ⊎ (nodes (p .jobs) ≤ z) → cellAt own y z ≡ off
   own-past y z h l past =
       let room = nodes-room (clocked .accepted) in
       ap (λ r. cellAt (r .weights) y z) put
       ∙ ap cellOf (putBounds-same early late (nodes (p .jobs)) (omega arith) (ownBounds p) (own-named p (clocked .accepted)) y z l past noBounds)
       ∙ noBounds-off y z h l
 
-  own-cell : (y z : ℕ) → y < 37 → z < 37 → at (rowsOf (nodes (p .jobs)) own) y z ≡ cellAt own y z
+  own-cell : (y z : ℕ) → y < mostNodes → z < mostNodes → at (rowsOf (nodes (p .jobs)) own) y z ≡ cellAt own y z
   own-cell y z h l = by (ltb y (nodes (p .jobs))) refl (ltb z (nodes (p .jobs))) refl
     where
       past : (nodes (p .jobs) ≤ y) ⊎ (nodes (p .jobs) ≤ z) → at (rowsOf (nodes (p .jobs)) own) y z ≡ cellAt own y z

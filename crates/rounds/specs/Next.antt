@@ -5,6 +5,7 @@ use mathlib.Core.List.{List}
 use lib.Dec.{eqb}
 use lib.IntN.{ℤ, pos, _-ℤ_}
 use lib.Signed.{_≤ℤ_}
+use Rattle.plan.specs.Limits.{mostJobs}
 use Rattle.bounds.specs.Events.{nodes}
 use Rattle.bounds.specs.Flat.{weightAt, Flat, putAt, eachNode, AllTimed, Weighed}
 
@@ -28,7 +29,7 @@ nextRows early late jobs window ts = eachNode (nextRow early late jobs window ts
 -- what it takes: times in range, a window, and a carried table with its weights in range
 pub record Nexts (early late : List ℤ) (jobs : ℕ) (window : ℤ) (ts : List ℤ) : Type 0 where
   pub times : AllTimed early late
-  pub jobs-most : jobs ≤ 9
+  pub jobs-most : jobs ≤ mostJobs
   pub window-least : pos 0 ≤ℤ window
   pub window-most : window ≤ℤ pos 86400000
   pub weighed : (y z : ℕ) → y < nodes jobs → z < nodes jobs → Weighed (weightAt ts y z)

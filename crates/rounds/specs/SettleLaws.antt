@@ -11,7 +11,7 @@ use Rattle.plan.specs.declared.Plan.{Plan}
 use Rattle.bounds.specs.Events.{nodes}
 use Rattle.bounds.specs.Tables.{Rows, Set, contradiction, bounds}
 use Rattle.bounds.specs.Elimination.{thenSet, eliminated}
-use Rattle.bounds.specs.Flat.{rowsOf, setIn, weightAt, Weighed, flat, noBound, putBounds, noBounds}
+use Rattle.bounds.specs.Flat.{rowsOf, setIn, weightAt, Weighed, flat, noBound, putBounds, noBounds, cells}
 use Rattle.bounds.specs.FlatLaws as flats
 use Rattle.bounds.specs.FlatLaws.{putAt-length, eachNode-length, putBounds-length}
 use Rattle.bounds.specs.TowardsLaws.{Towards}
@@ -100,8 +100,8 @@ module _ (p : Plan) (early late : List ℤ) (clocked : Clocked p early late) (ow
   pub own-fit : Fit p (nodes (p .jobs)) (rowsOf (nodes (p .jobs)) own)
   own-fit = C0-fit p c0 (own-rows p early late clocked own own-put)
 
-  pub own-size : length own ≡ 1369
-  own-size = ap (λ r. length (r .weights)) own-put ∙ putBounds-length early late (ownBounds p) noBounds ∙ length-replicate 1369 noBound
+  pub own-size : length own ≡ cells
+  own-size = ap (λ r. length (r .weights)) own-put ∙ putBounds-length early late (ownBounds p) noBounds ∙ length-replicate cells noBound
 
   pub own-standing : StandingOf p early late (nodes (p .jobs)) own
   own-standing = record { clocked = clocked; room = omega arith; size = own-size; fit = own-fit }
@@ -129,7 +129,7 @@ pub record Carrying (p : Plan) (early late own base : List ℤ) (m left : ℕ) (
   pub some : 0 < left
   pub before : outcome p ≡ roundsFrom p (rowsOf (nodes (p .jobs)) own) m left (rowsOf (nodes (p .jobs)) ts)
   pub fit : Fit p (nodes (p .jobs)) (rowsOf (nodes (p .jobs)) ts)
-  pub size : length ts ≡ 1369
+  pub size : length ts ≡ cells
 
 -- a carried set that is put on the next window keeps the array's length
 nextRows-length : (early late : List ℤ) (jobs : ℕ) (window : ℤ) (ts ws : List ℤ) → length (nextRows early late jobs window ts ws .weights) ≡ length ws
@@ -153,7 +153,7 @@ module _ {p : Plan} {early late own base : List ℤ} {m left : ℕ} {ts : List �
   pub carried-standing : StandingOf p early late (nodes (p .jobs)) ts
   carried-standing = record { clocked = g .clocked; room = omega arith; size = g .size; fit = g .fit }
 
-  base-size : length base ≡ 1369
+  base-size : length base ≡ cells
   base-size =
       ap (λ r. length (r .weights)) (g .based .base-put) ∙ putBounds-length early late (betweenBounds p) own
       ∙ own-size p early late (g .clocked) own (g .based .own-put)

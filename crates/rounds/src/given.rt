@@ -9,21 +9,22 @@ use plan::Plan;
 ghost use mathlib.Core.Path.{_≡_};
 ghost use mathlib.Core.Bool.{_||_};
 ghost use mathlib.Core.List.{[], _∷_};
-ghost use Prim.Native.Nat.{_≤_, _<_};
+ghost use Prim.Native.Nat.{_+_, _≤_, _<_};
 ghost use Rattle.plan.specs.declared.Plan.{Plan};
 ghost use Rattle.plan.specs.EventNames.{isNext};
 ghost use Rattle.plan.specs.PlanWritten.{boundsOf};
 ghost use Rattle.plan.specs.Accepted.{BoundAccepted};
-ghost use Rattle.bounds.specs.Events.{nodeOf};
+ghost use Rattle.plan.specs.Limits.{mostJobs};
+ghost use Rattle.bounds.specs.Events.{nodeOf, mostNodes};
 ghost use Rattle.bounds.specs.Flat.{AllTimed, flat, putBounds};
 ghost use Rattle.bounds.specs.Fit.{Clocked};
 ghost use Rattle.rounds.specs.Given.{placeOf, named, meant, givenBounds};
 
 // The place of job i of this window or of the next.
 fn place_of(jobs: usize, letter: Letter, i: usize) -> usize
-    requires { ⌜ (1 ≤ i) × (i ≤ 9) × (jobs ≤ 9) ⌝ }
+    requires { ⌜ (1 ≤ i) × (i ≤ mostJobs) × (jobs ≤ mostJobs) ⌝ }
     ensures { λ r. ⌜ ((p : Plan) → jobs ≡ p .jobs → r ≡ placeOf p letter i) ⌝ }
-    ensures { λ r. ⌜ r < 18 ⌝ }
+    ensures { λ r. ⌜ r < mostJobs + mostJobs ⌝ }
 {
     match letter {
         Letter::This => i - 1,
@@ -33,9 +34,9 @@ fn place_of(jobs: usize, letter: Letter, i: usize) -> usize
 
 // The node of the event that a name means, with so many jobs.
 fn node_of(jobs: usize, e: EventName) -> usize
-    requires { ⌜ (1 ≤ e .job) × (e .job ≤ 9) × (jobs ≤ 9) ⌝ }
+    requires { ⌜ (1 ≤ e .job) × (e .job ≤ mostJobs) × (jobs ≤ mostJobs) ⌝ }
     ensures { λ r. ⌜ ((p : Plan) → jobs ≡ p .jobs → r ≡ nodeOf (named p e)) ⌝ }
-    ensures { λ r. ⌜ r < 37 ⌝ }
+    ensures { λ r. ⌜ r < mostNodes ⌝ }
 {
     let letter = e.letter;
     let kind = e.kind;
@@ -55,7 +56,7 @@ fn put_bound<'a>(
     jobs: usize,
     d: Bound,
 ) -> bool
-    requires { ⌜ (AllTimed (now early) (now late)) × (jobs ≤ 9) × (BoundAccepted jobs d) ⌝ }
+    requires { ⌜ (AllTimed (now early) (now late)) × (jobs ≤ mostJobs) × (BoundAccepted jobs d) ⌝ }
     ensures { λ r. ⌜ ((p : Plan) → jobs ≡ p .jobs → flat r (now (weights .exit)) ≡ putBounds (now (early .entry)) (now (late .entry)) (meant p d ∷ []) (now (weights .entry))) ⌝ }
 {
     let a = d.a;
@@ -88,7 +89,7 @@ fn put_due<'a>(
     d: Bound,
     between: bool,
 ) -> bool
-    requires { ⌜ (AllTimed (now early) (now late)) × (jobs ≤ 9) × (BoundAccepted jobs d) ⌝ }
+    requires { ⌜ (AllTimed (now early) (now late)) × (jobs ≤ mostJobs) × (BoundAccepted jobs d) ⌝ }
     ensures { λ r. ⌜ ((p : Plan) → jobs ≡ p .jobs → flat r (now (weights .exit)) ≡ putBounds (now (early .entry)) (now (late .entry)) (givenBounds p between (d ∷ [])) (now (weights .entry))) ⌝ }
 {
     let a = d.a;

@@ -3,12 +3,14 @@ use bounds::Table;
 use bounds::put;
 ghost use mathlib.Core.Path.{_≡_};
 ghost use Prim.Native.Nat.{_+_, _*_, _≤_, _<_};
+ghost use Rattle.plan.specs.Limits.{mostJobs};
 ghost use Rattle.bounds.specs.Flat.{flat};
+ghost use Rattle.bounds.specs.Events.{mostNodes};
 ghost use Rattle.rounds.specs.Next.{Nexts, onto, movedBy, nextAt, nextRow, nextRows};
 
 // The node on the next window of node y of one window; the origin stays.
 fn node_onto(jobs: usize, y: usize) -> usize
-    requires { ⌜ (jobs ≤ 9) × (y < 37) ⌝ }
+    requires { ⌜ (jobs ≤ mostJobs) × (y < mostNodes) ⌝ }
     ensures { λ r. ⌜ r ≡ onto jobs y ⌝ }
 {
     if y == 0 {

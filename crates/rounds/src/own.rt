@@ -5,7 +5,7 @@ use bounds::put;
 use plan::Plan;
 ghost use mathlib.Core.Path.{_≡_};
 ghost use Prim.Native.Nat.{_+_, _*_, _<_};
-ghost use Rattle.bounds.specs.Events.{eventOf};
+ghost use Rattle.bounds.specs.Events.{eventOf, mostNodes};
 ghost use Rattle.bounds.specs.Flat.{AllTimed, flat, putBounds};
 ghost use mathlib.Core.List.{[], _∷_};
 ghost use Rattle.bounds.specs.Fit.{Clocked};
@@ -19,7 +19,7 @@ fn put_range<'a>(
     late: &'a [i32; Table::SIDE],
     y: usize,
 ) -> bool
-    requires { ⌜ (AllTimed (now early) (now late)) × (y < 37) ⌝ }
+    requires { ⌜ (AllTimed (now early) (now late)) × (y < mostNodes) ⌝ }
     ensures { λ r. ⌜ flat r (now (weights .exit)) ≡ putBounds (now (early .entry)) (now (late .entry)) (rangeOf (now (early .entry)) (now (late .entry)) (eventOf y)) (now (weights .entry)) ⌝ }
 {
     let latest = late[y];
@@ -38,7 +38,7 @@ fn put_place<'a>(
     late: &'a [i32; Table::SIDE],
     k: usize,
 ) -> bool
-    requires { ⌜ (AllTimed (now early) (now late)) × (2 + 2 * k < 37) ⌝ }
+    requires { ⌜ (AllTimed (now early) (now late)) × (2 + 2 * k < mostNodes) ⌝ }
     ensures { λ r. ⌜ flat r (now (weights .exit)) ≡ putBounds (now (early .entry)) (now (late .entry)) (rangeOfPlace (now (early .entry)) (now (late .entry)) k) (now (weights .entry)) ⌝ }
 {
     if put_range(weights, early, late, 1 + 2 * k) {
@@ -54,7 +54,7 @@ fn put_ranges<'a>(
     late: &'a [i32; Table::SIDE],
     count: usize,
 ) -> bool
-    requires { ⌜ (AllTimed (now early) (now late)) × (2 * count < 37) ⌝ }
+    requires { ⌜ (AllTimed (now early) (now late)) × (2 * count < mostNodes) ⌝ }
     ensures { λ r. ⌜ flat r (now (weights .exit)) ≡ putBounds (now (early .entry)) (now (late .entry)) (rangesOf (now (early .entry)) (now (late .entry)) count) (now (weights .entry)) ⌝ }
 {
     let mut left = count;
@@ -74,7 +74,7 @@ pub fn put_order<'a>(
     late: &'a [i32; Table::SIDE],
     k: usize,
 ) -> bool
-    requires { ⌜ (AllTimed (now early) (now late)) × (3 + 2 * k < 37) ⌝ }
+    requires { ⌜ (AllTimed (now early) (now late)) × (3 + 2 * k < mostNodes) ⌝ }
     ensures { λ r. ⌜ flat r (now (weights .exit)) ≡ putBounds (now (early .entry)) (now (late .entry)) (inOrder k ∷ []) (now (weights .entry)) ⌝ }
 {
     put(weights, early, late, 3 + 2 * k, 2 + 2 * k, 0, 0)
@@ -87,7 +87,7 @@ fn put_orders<'a>(
     late: &'a [i32; Table::SIDE],
     count: usize,
 ) -> bool
-    requires { ⌜ (AllTimed (now early) (now late)) × (2 + 2 * count < 37) ⌝ }
+    requires { ⌜ (AllTimed (now early) (now late)) × (2 + 2 * count < mostNodes) ⌝ }
     ensures { λ r. ⌜ flat r (now (weights .exit)) ≡ putBounds (now (early .entry)) (now (late .entry)) (orders count) (now (weights .entry)) ⌝ }
 {
     let mut left = count;

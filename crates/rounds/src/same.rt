@@ -4,6 +4,7 @@ ghost use mathlib.Core.Path.{_≡_};
 ghost use Prim.Native.Nat.{_≤_, _<_};
 ghost use Rattle.bounds.specs.Tables.{listed};
 ghost use Rattle.bounds.specs.Flat.{cellAt, rowsOf};
+ghost use Rattle.bounds.specs.Events.{mostNodes};
 ghost use Rattle.rounds.specs.Rounds.{sameRow, sameRows};
 
 // Whether row y of the first k nodes is the same.
@@ -13,7 +14,7 @@ fn same_row<'a>(
     k: usize,
     y: usize,
 ) -> bool
-    requires { ⌜ (k ≤ 37) × (y < 37) ⌝ }
+    requires { ⌜ (k ≤ mostNodes) × (y < mostNodes) ⌝ }
     ensures { λ r. ⌜ r ≡ sameRow (listed k (cellAt (now (first .entry)) y)) (listed k (cellAt (now (second .entry)) y)) ⌝ }
 {
     let mut z = 0;
@@ -35,7 +36,7 @@ pub fn same_rows<'a>(
     second: &'a [i32; Table::SIZE],
     k: usize,
 ) -> bool
-    requires { ⌜ k ≤ 37 ⌝ }
+    requires { ⌜ k ≤ mostNodes ⌝ }
     ensures { λ r. ⌜ r ≡ sameRows (rowsOf k (now (first .entry))) (rowsOf k (now (second .entry))) ⌝ }
 {
     let mut y = 0;

@@ -13,7 +13,7 @@ ghost use Prim.Native.Nat.{_+_, _≤_};
 ghost use lib.ListN.{length};
 ghost use Rattle.plan.specs.Limits.{mostRounds};
 ghost use Rattle.bounds.specs.Events.{nodes};
-ghost use Rattle.bounds.specs.Flat.{rowsOf, noBounds};
+ghost use Rattle.bounds.specs.Flat.{rowsOf, noBounds, cells};
 ghost use Rattle.bounds.specs.Fit.{Clocked, StandingOf};
 ghost use Rattle.rounds.specs.declared.Verdict.the-variants.{NoStrategy};
 ghost use Rattle.rounds.specs.Rounds.{failsAlone, verdict};
@@ -61,10 +61,10 @@ fn settle_rounds<'a>(
     carried: &mut [i32; Table::SIZE],
     joined: &mut [i32; Table::SIZE],
 ) -> Verdict
-    requires { ⌜ (Clocked p (now early) (now late)) × (Based p (now early) (now late) (now carried) (now joined)) × (length (now joined) ≡ 1369) ⌝ }
+    requires { ⌜ (Clocked p (now early) (now late)) × (Based p (now early) (now late) (now carried) (now joined)) × (length (now joined) ≡ cells) ⌝ }
     ensures { λ r. ⌜ r ≡ verdict p ⌝ }
     ensures { λ r. ⌜ SettledOn p (rowsOf (nodes (p .jobs + p .jobs)) (now (joined .exit))) ⌝ }
-    ensures { λ r. ⌜ length (now (joined .exit)) ≡ 1369 ⌝ }
+    ensures { λ r. ⌜ length (now (joined .exit)) ≡ cells ⌝ }
 {
     let jobs = p.jobs;
     let window = p.window;
@@ -100,7 +100,7 @@ pub fn settle<'a>(
     requires { ⌜ (Clocked p (now early) (now late)) × (now joined ≡ noBounds) ⌝ }
     ensures { λ r. ⌜ r ≡ verdict p ⌝ }
     ensures { λ r. ⌜ SettledOn p (rowsOf (nodes (p .jobs + p .jobs)) (now (joined .exit))) ⌝ }
-    ensures { λ r. ⌜ length (now (joined .exit)) ≡ 1369 ⌝ }
+    ensures { λ r. ⌜ length (now (joined .exit)) ≡ cells ⌝ }
 {
     if put_own(joined, early, late, p) {
         return Verdict::NoStrategy(1);

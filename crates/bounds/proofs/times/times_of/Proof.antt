@@ -5,6 +5,7 @@ use mathlib.Core.Path.{_≡_, refl, sym, _∙_, ap₂, subst, subst₂}
 use native.Mathlib.Omega.{arith}
 use lib.IntN.{ℤ, pos, _+ℤ_, _-ℤ_}
 use Rattle.plan.specs.declared.Plan.{Plan}
+use Rattle.plan.specs.Limits.{mostJobs}
 use Rattle.bounds.specs.declared.Event.the-variants.{Origin}
 use Rattle.bounds.specs.Events.{nodes, earliest, latest}
 use Rattle.bounds.specs.EventTimesLaws.{JobIn, job-in}
@@ -47,7 +48,7 @@ place-in c =
     let s = c .before .before .before .before .before in
     subst₂ JobIn (sym (c .before .job-at .ensures)) (sym (c .shift-at .ensures)) (job-in (s .args .p) (s .pre) (c .before .before .before .loop .k) (omega arith))
 
-room : (c : tie.After-shift-at Inv-loop μ-loop) → c .before .before .before .loop .k < 18
+room : (c : tie.After-shift-at Inv-loop μ-loop) → c .before .before .before .loop .k < mostJobs + mostJobs
 room c = let most = c .before .before .before .before .before .pre .jobs-most in omega arith
 
 add-first-start : tie.Need-add-first-start Inv-loop μ-loop

@@ -11,7 +11,9 @@ use mir.Val.{SFits}
 use mir.Facts.{toZ-ofZ}
 use Rattle.whole.specs.Rules.{wholes}
 use Rattle.whole.specs.SplitLaws.{told-fits}
+use Rattle.events.specs.Bits.{mostEvents}
 use Rattle.bounds.specs.Events.{startNode}
+use Rattle.bounds.specs.Flat.{side}
 use Rattle.calendars.specs.declared.Side.the-variants.{Below, Above}
 use Rattle.calendars.specs.RecordedLaws.{weightOn-fits, csOn-least, csOn-most, termsOf-is}
 use Rattle.calendars.proofs.recorded.put_terms_of.Statement.{statement}
@@ -75,9 +77,9 @@ returns c =
     let window-fits : SFits w32 (a .p .window) = omega wholes in
     let window = toZ-ofZ window-fits in
     let end = 2 * (a .p .jobs + a .i) + 1 in
-    let row : end * 37 ≡ startNode (a .p .jobs + a .i) * 37 + 0 = omega arith in
-    let column : end ≡ 0 * 37 + startNode (a .p .jobs + a .i) = omega arith in
-    let to-origin = toZ-ofZ (told-fits w32 (getD (a .weights .now) (end * 37) (pos 0)) (c .before .before .before .to-origin .given))
+    let row : end * side ≡ startNode (a .p .jobs + a .i) * side + 0 = omega arith in
+    let column : end ≡ 0 * side + startNode (a .p .jobs + a .i) = omega arith in
+    let to-origin = toZ-ofZ (told-fits w32 (getD (a .weights .now) (end * side) (pos 0)) (c .before .before .before .to-origin .given))
     ∙ ap (λ (k : ℕ). getD (a .weights .now) k (pos 0)) row in
     let from-origin = toZ-ofZ (told-fits w32 (getD (a .weights .now) end (pos 0)) (c .before .before .from-origin .given))
     ∙ ap (λ (k : ℕ). getD (a .weights .now) k (pos 0)) column in (
@@ -87,8 +89,8 @@ returns c =
           (first .ensures .0)
           (second .ensures .0),
       (
-        first .ensures .1 ∙ ap (sets (a .least .now) (a .i * 36)) (csOn-least (a .p) (s .pre .0) (a .i) (s .pre .1) (a .weights .now) (s .pre .2)),
-        second .ensures .1 ∙ ap (sets (a .most .now) (a .i * 36)) (csOn-most (a .p) (s .pre .0) (a .i) (s .pre .1) (a .weights .now) (s .pre .2)),
+        first .ensures .1 ∙ ap (sets (a .least .now) (a .i * mostEvents)) (csOn-least (a .p) (s .pre .0) (a .i) (s .pre .1) (a .weights .now) (s .pre .2)),
+        second .ensures .1 ∙ ap (sets (a .most .now) (a .i * mostEvents)) (csOn-most (a .p) (s .pre .0) (a .i) (s .pre .1) (a .weights .now) (s .pre .2)),
       ),
     )
 

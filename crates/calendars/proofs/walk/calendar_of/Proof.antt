@@ -4,7 +4,7 @@ use mathlib.Core.Path.{_≡_, _∙_, subst}
 use native.Mathlib.Omega.{arith}
 use lib.ListN.{length}
 use Rattle.bounds.specs.Events.{startNode, finishNode, nodes}
-use Rattle.bounds.specs.Flat.{rowsOf}
+use Rattle.bounds.specs.Flat.{rowsOf, cells}
 use Rattle.bounds.specs.Fit.{StandingOf}
 use Rattle.calendars.specs.CalendarsLaws.{Walked, Walked-start, Walked-some, Walked-finish, Walked-last, Walked-more, Walked-end}
 use Rattle.calendars.proofs.walk.calendar_of.Statement.{statement}
@@ -12,7 +12,7 @@ use Rattle.calendars.proofs.walk.calendar_of.Tie as tie
 
 abbrev Inv-loop : tie.InvT-loop
 Inv-loop p joined early late jobs terms₀ least₀ most₀ weights₀ left₀ terms least most weights left =
-    (Walked p (rowsOf (nodes (p .jobs + p .jobs)) joined) left weights terms least most) × (length weights ≡ 1369)
+    (Walked p (rowsOf (nodes (p .jobs + p .jobs)) joined) left weights terms least most) × (length weights ≡ cells)
 
 abbrev μ-loop : tie.MeasureT-loop
 μ-loop p joined early late jobs terms₀ least₀ most₀ weights₀ left₀ terms least most weights left = left

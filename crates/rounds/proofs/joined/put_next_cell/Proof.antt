@@ -9,6 +9,7 @@ use mir.Facts.{toZ-ofZ}
 use Rattle.whole.specs.SplitLaws.{told-fits}
 use Rattle.bounds.specs.Spans.{Timed}
 use Rattle.bounds.specs.Flat.{weightAt, putAt}
+use Rattle.bounds.specs.Events.{mostNodes}
 use Rattle.rounds.specs.Next.{onto, movedBy}
 use Rattle.rounds.specs.NextLaws.{Shifted, onto-below, movedBy-in, shifted-moving}
 use Rattle.rounds.proofs.Moved.{shifted-back, apart-fits, apart-back, moved-putting}
@@ -75,7 +76,7 @@ put-requires c κs =
     let a = s .args in
     let n = s .pre .0 .jobs-most in
     let timed : (y : ℕ) → y < 1 + 2 * a .jobs → Timed (a .early .now) (a .late .now) (onto (a .jobs) y)
-    = λ y h. s .pre .0 .times (onto (a .jobs) y) (onto-below (a .jobs) y 37 (omega arith)) in (
+    = λ y h. s .pre .0 .times (onto (a .jobs) y) (onto-below (a .jobs) y mostNodes (omega arith)) in (
       subst (λ n. Timed (a .early .now) (a .late .now) n) (sym (c .before .before .before .before .node-onto .ensures)) (timed (a .y) (s .pre .1)),
       subst (λ n. Timed (a .early .now) (a .late .now) n) (sym (c .before .before .before .node-onto2 .ensures)) (timed (a .z) (s .pre .2)),
       moved-putting (toZ-ofZ (told-fits w32 (weightAt (a .carried .now) (a .y) (a .z)) (c .before .before .before .before .before .v .given)))

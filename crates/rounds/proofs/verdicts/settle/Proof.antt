@@ -3,7 +3,7 @@ use mathlib.Core.Path.{_≡_, sym, _∙_, ap}
 use mathlib.Core.Bool.{false}
 use native.Mathlib.Omega.{arith}
 use lib.ListN.{length, length-replicate}
-use Rattle.bounds.specs.Flat.{flat, putBounds, noBound, noBounds}
+use Rattle.bounds.specs.Flat.{flat, putBounds, noBound, noBounds, cells}
 use Rattle.bounds.specs.FlatLaws.{putBounds-length}
 use Rattle.rounds.specs.Given.{ownBounds, betweenBounds}
 use Rattle.rounds.specs.JoinedLaws.{own-none}
@@ -23,8 +23,8 @@ module _ (c : tie.After-put-own) where
   own-ensures : flat (c .put-own .result) (c .put-own .last .0) ≡ putBounds (start .args .early .now) (start .args .late .now) (ownBounds (start .args .p)) noBounds
   own-ensures = c .put-own .ensures ∙ ap (putBounds (start .args .early .now) (start .args .late .now) (ownBounds (start .args .p))) (start .pre .1)
 
-  own-length : length (c .put-own .last .0) ≡ 1369
-  own-length = ap (λ r. length (r .weights)) own-ensures ∙ putBounds-length (start .args .early .now) (start .args .late .now) (ownBounds (start .args .p)) noBounds ∙ length-replicate 1369 noBound
+  own-length : length (c .put-own .last .0) ≡ cells
+  own-length = ap (λ r. length (r .weights)) own-ensures ∙ putBounds-length (start .args .early .now) (start .args .late .now) (ownBounds (start .args .p)) noBounds ∙ length-replicate cells noBound
 
   -- where it finds no contradiction, the array holds C(0)
   own-put : c .put-own .result ≡ false → flat false (c .put-own .last .0) ≡ putBounds (start .args .early .now) (start .args .late .now) (ownBounds (start .args .p)) noBounds
@@ -42,7 +42,7 @@ put-between-requires : tie.Need-put-between-requires
 put-between-requires c κs = c .before .before .before .before .before .pre .0
 
 -- the bounds between windows leave the length as it is
-between-length : (c : tie.After-put-between) → length (c .put-between .last .0) ≡ 1369
+between-length : (c : tie.After-put-between) → length (c .put-between .last .0) ≡ cells
 between-length c =
     let o = c .before .before .before .before in
     let a = start o .args in

@@ -13,7 +13,7 @@ use Rattle.plan.specs.declared.Plan.{Plan}
 use Rattle.plan.specs.Accepted.{Accepted}
 use Rattle.bounds.specs.Events.{nodes}
 use Rattle.bounds.specs.Elimination.{eliminated}
-use Rattle.bounds.specs.Flat.{rowsOf, setIn, flat}
+use Rattle.bounds.specs.Flat.{rowsOf, setIn, flat, cells}
 use Rattle.bounds.specs.Fit.{Fit, StandingOf}
 use Rattle.rounds.specs.Rounds.{unsettled, roundsFrom, outcome}
 use Rattle.rounds.specs.Next.{Nexts, nextRows}
@@ -28,7 +28,7 @@ Inv-loop p early late carried₀ joined₀ jobs window rounds count m₀ carried
     × (m ≤ p .rounds + 1)
     × (outcome p ≡ roundsFrom p (rowsOf (nodes (p .jobs)) carried₀) m ((p .rounds + 1) - m) (rowsOf (nodes (p .jobs)) carried))
     × (Fit p (nodes (p .jobs)) (rowsOf (nodes (p .jobs)) carried))
-    × (length carried ≡ 1369)
+    × (length carried ≡ cells)
     × (joined ≡ joined₀)
 
 abbrev μ-loop : tie.MeasureT-loop
