@@ -90,7 +90,8 @@ weight-cell w h = ap (λ c. plus c (pos 0)) (cellOf-on w (below-on w h)) ∙ ap 
     plus-zero : (w : ℤ) → w +ℤ pos 0 ≡ w
     plus-zero w = omega wholes
 
-one-here : (b : Between) (bs : List Between) → leastOf (b ∷ bs) (nodeOf (b .y)) (nodeOf (b .z)) ≡ least (upto (b .w)) (leastOf bs (nodeOf (b .y)) (nodeOf (b .z)))
+one-here : (b : Between) (bs : List Between) → leastOf (b ∷ bs) (nodeOf (b .y)) (nodeOf (b .z))
+    ≡ least (upto (b .w)) (leastOf bs (nodeOf (b .y)) (nodeOf (b .z)))
 unfolding leastOf
 one-here b bs = rw (eq-eqb (nodeOf (b .y)) (nodeOf (b .y)) refl, eq-eqb (nodeOf (b .z)) (nodeOf (b .z)) refl)
 
@@ -98,7 +99,8 @@ one-there : (b : Between) (bs : List Between) (u x : ℕ) → (place u x ≡ pla
 unfolding leastOf
 one-there b bs u x n = by (eqb (nodeOf (b .y)) u) refl (eqb (nodeOf (b .z)) x) refl
   where
-    by : (c : Bool) → eqb (nodeOf (b .y)) u ≡ c → (d : Bool) → eqb (nodeOf (b .z)) x ≡ d → cond (c && d) (least (upto (b .w)) (leastOf bs u x)) (leastOf bs u x) ≡ leastOf bs u x
+    by : (c : Bool) → eqb (nodeOf (b .y)) u ≡ c → (d : Bool) → eqb (nodeOf (b .z)) x ≡ d
+        → cond (c && d) (least (upto (b .w)) (leastOf bs u x)) (leastOf bs u x) ≡ leastOf bs u x
     by true e true f =
         absurd (n (ap₂ place (sym (eqb-true (nodeOf (b .y)) u e)) (sym (eqb-true (nodeOf (b .z)) x f))))
     by true e false f = refl
@@ -176,7 +178,8 @@ module _ (p : Plan) (k : ℕ) (early late : List ℤ) (times : Times p k early l
             ∙ least-off (leastOf bs y z)));
       }
 
-  pub putBounds-outcome : Outcome (Towards p k (λ y z. off) (judgedSet p k (leastOf bs))) (judgedSet p k (leastOf bs) ≡ contradiction) (putBounds early late bs noBounds)
+  pub putBounds-outcome : Outcome (Towards p k (λ y z. off) (judgedSet p k (leastOf bs))) (judgedSet p k (leastOf bs) ≡ contradiction)
+      (putBounds early late bs noBounds)
   putBounds-outcome = putBounds-towards p k early late times small (judgedSet p k (leastOf bs)) (λ y z. off) bs named noBounds empty-towards
 
   -- the bounds of a list, judged

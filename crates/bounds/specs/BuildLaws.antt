@@ -1,8 +1,7 @@
--- Lists that are listed: their places (`getD-listed`, `listed-past`), their length, and one more element (`listed-more`). A set of events made of a listed list has
--- the events that the list holds true (`hasEvent-listed`), a bit for each place (`eventSet-listed-fits`), and with one place more one event more, or none
--- (`eventSet-listed`).
--- What stands in a table that was built: `at (build k f) y z` is f y z below k, and nothing past it. What two tests joined say of each. A test
--- of `anyBelow` that holds, holds somewhere; one that does not, holds nowhere. Events and nodes are one to one, and a node is the origin, a start or a
+-- Lists that are listed: their places (`getD-listed`, `listed-past`), their length, and one more element (`listed-more`). A set of events made of a listed list
+-- has the events that the list holds true (`hasEvent-listed`), a bit for each place (`eventSet-listed-fits`), and with one place more one event more, or none
+-- (`eventSet-listed`). What stands in a table that was built: `at (build k f) y z` is f y z below k, and nothing past it. What two tests joined say of each. A
+-- test of `anyBelow` that holds, holds somewhere; one that does not, holds nowhere. Events and nodes are one to one, and a node is the origin, a start or a
 -- finish (`byNode`).
 use Prim.Native.Nat.{ℕ, zero, suc, _+_, _*_, _/_, _%_, _^_, _≤_, _<_}
 use mathlib.Core.Path.{_≡_, refl, ap, subst, _∙_}

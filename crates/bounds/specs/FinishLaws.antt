@@ -187,14 +187,16 @@ module _ (p : Plan) (early late : List ℤ) (s f : ℕ) (less more : ℤ) (ws : 
               column = λ u k.
                   subst (λ c. JudgedCell p u s (made u s) c) (sym (ap cellOf (in-column u)))
                   (⊎-elim
-                  (λ a. subst (λ c. JudgedCell p u s (made u s) c) (sym (ap cellOf (h .same u s start-low (row-apart u s y s start-low start-low (λ e. omega arith))))) (g .column u a))
+                  (λ a. subst (λ c. JudgedCell p u s (made u s) c) (sym (ap cellOf
+                  (h .same u s start-low (row-apart u s y s start-low start-low (λ e. omega arith))))) (g .column u a))
                   (λ e. subst (λ u. JudgedCell p u s (made u s) (cellAt vs u s)) (sym e) (h .first))
                   (less-or-same u y k));
               row = λ x k.
                   ⊎-elim
                   (λ a.
                   subst (λ c. JudgedCell p s x (made s x) c)
-                  (sym (ap cellOf (same s x (column-apart s x s y (omega arith) low (λ e. omega arith)) ∙ h .same s x (omega arith) (row-apart s x y s (omega arith) start-low s≢y))))
+                  (sym (ap cellOf (same s x (column-apart s x s y (omega arith) low (λ e. omega arith))
+                  ∙ h .same s x (omega arith) (row-apart s x y s (omega arith) start-low s≢y))))
                   (g .row x a))
                   (λ e. subst (λ x. JudgedCell p s x (made s x) (cellAt (r .weights) s x)) (sym e) (o .keeps q))
                   (less-or-same x y k);

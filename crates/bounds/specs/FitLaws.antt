@@ -189,7 +189,8 @@ least-most d {a} m = subst (λ c. AtMost (least c d) a) (sym (m .held)) (upto-le
 kept-most : (j : Judgement) (c : Cell) (a : ℤ) → j ≡ Kept → AtMost c a → AtMost (keptCell j c) a
 kept-most j c a e m = subst (λ j. AtMost (keptCell j c) a) (sym e) m
 
-left-most : (p : Plan) (y z : ℕ) (c d : Cell) (a : ℤ) → ((w : ℤ) → isContradiction (judged p (eventOf y) (eventOf z) w) ≡ false → judged p (eventOf y) (eventOf z) w ≡ Kept)
+left-most : (p : Plan) (y z : ℕ) (c d : Cell) (a : ℤ) → ((w : ℤ) → isContradiction (judged p (eventOf y) (eventOf z) w) ≡ false
+    → judged p (eventOf y) (eventOf z) w ≡ Kept)
     → JudgedCell p y z c d → AtMost c a → AtMost d a
 unfolding judgement
 left-most p y z c d a never j m =
@@ -225,4 +226,5 @@ withoutStart-fit p k t u fit e =
 pub withoutFinish-fit : (p : Plan) (k : ℕ) (t u : Rows) → Fit p (suc (finishNode k)) t → withoutFinish p k t ≡ bounds u → Fit p (finishNode k) u
 unfolding finishCell
 withoutFinish-fit p k t u fit e =
-    fit-judged p (finishNode k) (finishCell p k t) u (λ y h l. least-most _ (fit .above y h (omega arith))) (λ y h l. least-most _ (fit .below y h (omega arith))) e
+    fit-judged p (finishNode k) (finishCell p k t) u (λ y h l. least-most _ (fit .above y h (omega arith)))
+    (λ y h l. least-most _ (fit .below y h (omega arith))) e

@@ -26,7 +26,29 @@ use Rattle.bounds.specs.declared.Judgement.the-variants.{Contradiction, 
 use Rattle.bounds.specs.Events.{nodeOf}
 use Rattle.bounds.specs.Tables.{listed, Between}
 use Rattle.bounds.specs.Spans.{judgedAt}
-use Rattle.bounds.specs.Flat.{noBound, place, weightAt, Flat, flat, stored, keptAt, putAt, thenFlat, eachNode, putBounds, isBound, isBounded, boundedNodes, HasBounded, joinedAt, joinedCells, joinedRow, joinedRows, movedAt, movedRows}
+use Rattle.bounds.specs.Flat.{
+  noBound,
+  place,
+  weightAt,
+  Flat,
+  flat,
+  stored,
+  keptAt,
+  putAt,
+  thenFlat,
+  eachNode,
+  putBounds,
+  isBound,
+  isBounded,
+  boundedNodes,
+  HasBounded,
+  joinedAt,
+  joinedCells,
+  joinedRow,
+  joinedRows,
+  movedAt,
+  movedRows,
+}
 use Rattle.bounds.specs.BuildLaws.{eventSet-listed-fits, hasEvent-listed}
 use Rattle.bounds.specs.TablesLaws.{listed-ext}
 
@@ -185,7 +207,8 @@ isBound-read f = ap not (bits-eqb f (sfits-lit tt))
 pub boundedNodes-has : (ws : List ℤ) (s : ℕ) (set : Events) → bitsOf set ≡ boundedNodes ws s → HasBounded ws s set
 boundedNodes-has ws s set e z h = ap (hasEvent z) e ∙ hasEvent-listed s (isBounded ws s) z h
 
-pub HasBounded-same : (ws us : List ℤ) (s : ℕ) (set : Events) → ((z : ℕ) → z < s → weightAt us s z ≡ weightAt ws s z) → HasBounded ws s set → HasBounded us s set
+pub HasBounded-same : (ws us : List ℤ) (s : ℕ) (set : Events) → ((z : ℕ) → z < s → weightAt us s z ≡ weightAt ws s z) → HasBounded ws s set
+    → HasBounded us s set
 HasBounded-same ws us s set same has z h = has z h ∙ ap isBound (sym (same z h))
 
 -- the nodes from node z on, by how much they come after it: there are so many, and with one more in front, at the end with none

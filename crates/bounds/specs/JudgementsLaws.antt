@@ -114,14 +114,19 @@ record Rising (j : ℤ → Judgement) : Type 0 where
   none : (w v : ℤ) → v ≤ℤ w → j w ≡ Contradiction → j v ≡ Contradiction
 
 atLeast-rising : (limit : ℤ) → Rising (atLeast limit)
-atLeast-rising limit = record { left = λ w v h e. l w v h (ltZ w limit) refl (ltZ v limit) refl e; none = λ w v h e. n w v h (ltZ w limit) refl (ltZ v limit) refl e }
+atLeast-rising limit = record {
+  left = λ w v h e. l w v h (ltZ w limit) refl (ltZ v limit) refl e;
+  none = λ w v h e. n w v h (ltZ w limit) refl (ltZ v limit) refl e;
+}
   where
-    l : (w v : ℤ) → w ≤ℤ v → (b : Bool) → ltZ w limit ≡ b → (c : Bool) → ltZ v limit ≡ c → cond b Contradiction LeftOut ≡ LeftOut → cond c Contradiction LeftOut ≡ LeftOut
+    l : (w v : ℤ) → w ≤ℤ v → (b : Bool) → ltZ w limit ≡ b → (c : Bool) → ltZ v limit ≡ c → cond b Contradiction LeftOut ≡ LeftOut
+        → cond c Contradiction LeftOut ≡ LeftOut
     l w v h true e c q g = clash (cc)
     l w v h false e true q g = absurd (omega whole)
     l w v h false e false q g = refl
 
-    n : (w v : ℤ) → v ≤ℤ w → (b : Bool) → ltZ w limit ≡ b → (c : Bool) → ltZ v limit ≡ c → cond b Contradiction LeftOut ≡ Contradiction → cond c Contradiction LeftOut ≡ Contradiction
+    n : (w v : ℤ) → v ≤ℤ w → (b : Bool) → ltZ w limit ≡ b → (c : Bool) → ltZ v limit ≡ c → cond b Contradiction LeftOut ≡ Contradiction
+        → cond c Contradiction LeftOut ≡ Contradiction
     n w v h true e true q g = refl
     n w v h true e false q g = absurd (omega whole)
     n w v h false e c q g = clash (cc)
@@ -133,7 +138,8 @@ fromOrigin-rising low = record { left = λ w v h e. absurd (l (ltZ w low) e); no
     l true g = clash (cc)
     l false g = clash (cc)
 
-    n : (w v : ℤ) → v ≤ℤ w → (b : Bool) → ltZ w low ≡ b → (c : Bool) → ltZ v low ≡ c → cond b Contradiction Kept ≡ Contradiction → cond c Contradiction Kept ≡ Contradiction
+    n : (w v : ℤ) → v ≤ℤ w → (b : Bool) → ltZ w low ≡ b → (c : Bool) → ltZ v low ≡ c → cond b Contradiction Kept ≡ Contradiction
+        → cond c Contradiction Kept ≡ Contradiction
     n w v h true e true q g = refl
     n w v h true e false q g = absurd (omega whole)
     n w v h false e c q g = clash (cc)
@@ -170,11 +176,15 @@ rising p Origin Origin = atLeast-rising (pos 0)
 rising p Origin (Start k) = fromOrigin-rising _
 rising p Origin (Finish k) = fromOrigin-rising _
 rising p (Start j) Origin = fromOrigin-rising _
-rising p (Start j) (Start k) = either-rising (eqb j k) _ _ (atLeast-rising (pos 0)) (apart-rising (earliest p (Start k) -ℤ latest p (Start j)) (latest p (Start k) -ℤ earliest p (Start j)))
-rising p (Start j) (Finish k) = either-rising (eqb j k) _ _ (atLeast-rising (jobAt p k .max)) (apart-rising (earliest p (Finish k) -ℤ latest p (Start j)) (latest p (Finish k) -ℤ earliest p (Start j)))
+rising p (Start j) (Start k) = either-rising (eqb j k) _ _ (atLeast-rising (pos 0))
+    (apart-rising (earliest p (Start k) -ℤ latest p (Start j)) (latest p (Start k) -ℤ earliest p (Start j)))
+rising p (Start j) (Finish k) = either-rising (eqb j k) _ _ (atLeast-rising (jobAt p k .max))
+    (apart-rising (earliest p (Finish k) -ℤ latest p (Start j)) (latest p (Finish k) -ℤ earliest p (Start j)))
 rising p (Finish j) Origin = fromOrigin-rising _
-rising p (Finish j) (Start k) = either-rising (eqb j k) _ _ (atLeast-rising (negℤ (jobAt p k .min))) (apart-rising (earliest p (Start k) -ℤ latest p (Finish j)) (latest p (Start k) -ℤ earliest p (Finish j)))
-rising p (Finish j) (Finish k) = either-rising (eqb j k) _ _ (atLeast-rising (pos 0)) (apart-rising (earliest p (Finish k) -ℤ latest p (Finish j)) (latest p (Finish k) -ℤ earliest p (Finish j)))
+rising p (Finish j) (Start k) = either-rising (eqb j k) _ _ (atLeast-rising (negℤ (jobAt p k .min)))
+    (apart-rising (earliest p (Start k) -ℤ latest p (Finish j)) (latest p (Start k) -ℤ earliest p (Finish j)))
+rising p (Finish j) (Finish k) = either-rising (eqb j k) _ _ (atLeast-rising (pos 0))
+    (apart-rising (earliest p (Finish k) -ℤ latest p (Finish j)) (latest p (Finish k) -ℤ earliest p (Finish j)))
 
 pub judged-left-out : (p : Plan) (a b : Event) (w v : ℤ) → w ≤ℤ v → judged p a b w ≡ LeftOut → judged p a b v ≡ LeftOut
 judged-left-out p a b = rising p a b .left

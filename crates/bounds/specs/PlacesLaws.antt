@@ -41,7 +41,8 @@ module _ (p : Plan) (k : ℕ) (t : Rows) where
   unfolding withoutPlace thenSet
   withoutPlace-some u e = ap (λ s. thenSet s (withoutStart p k)) e
 
-then-fit : (p : Plan) (k : ℕ) (s : Set) (u : Rows) → ((v : Rows) → s ≡ bounds v → Fit p (finishNode k) v) → thenSet s (withoutStart p k) ≡ bounds u → Fit p (startNode k) u
+then-fit : (p : Plan) (k : ℕ) (s : Set) (u : Rows) → ((v : Rows) → s ≡ bounds v → Fit p (finishNode k) v) → thenSet s (withoutStart p k) ≡ bounds u
+    → Fit p (startNode k) u
 unfolding thenSet
 then-fit p k contradiction u f e = absurd (let z : _≡_ {A = ℕ} 0 1 = cc in omega arith)
 then-fit p k (bounds v) u f e = withoutStart-fit p k v u (subst (λ n. Fit p n v) (finish-next k) (f v refl)) e

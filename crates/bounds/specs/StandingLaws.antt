@@ -14,7 +14,17 @@ use Rattle.bounds.specs.Elimination.{withoutStart, withoutFinish, withou
 use Rattle.bounds.specs.Flat.{rowsOf, setIn}
 use Rattle.bounds.specs.Fit.{Fit, StandingOf}
 use Rattle.bounds.specs.FitLaws.{withoutFinish-fit}
-use Rattle.bounds.specs.PlacesLaws.{setIn-found, setIn-left, finish-next, place-next, withoutPlace-none, withoutPlace-some, withoutPlace-fit, eliminated-none, eliminated-some}
+use Rattle.bounds.specs.PlacesLaws.{
+  setIn-found,
+  setIn-left,
+  finish-next,
+  place-next,
+  withoutPlace-none,
+  withoutPlace-some,
+  withoutPlace-fit,
+  eliminated-none,
+  eliminated-some,
+}
 
 -- ---- one place
 
@@ -35,7 +45,8 @@ module _ (p : Plan) (early late : List ℤ) (k : ℕ) (ws : List ℤ) where
         withoutPlace-some p k (rowsOf (nodes (k + 1)) ws) (rowsOf (suc (startNode k)) us)
         (sym finish-is ∙ setIn-left (finishNode k) found us f ∙ ap (λ n. bounds (rowsOf n us)) (finish-next k))
 
-    pub start-standing : StandingOf p early late (suc (finishNode k)) ws → found ≡ false → length us ≡ length ws → StandingOf p early late (suc (startNode k)) us
+    pub start-standing : StandingOf p early late (suc (finishNode k)) ws → found ≡ false → length us ≡ length ws
+        → StandingOf p early late (suc (startNode k)) us
     start-standing g f size =
         let room = g .room in
         record {

@@ -19,7 +19,18 @@ use Rattle.bounds.specs.Events.{startNode, mostNodes}
 use Rattle.bounds.specs.Tables.{Cell, least, plus, join, at, contradiction, bounds, judgement, isContradiction, judgedSet}
 use Rattle.bounds.specs.Elimination.{startCell, withoutStart}
 use Rattle.bounds.specs.BuildLaws.{at-build}
-use Rattle.bounds.specs.TablesLaws.{least-off, join-off, join-plus, JudgedCell, KeptCell, judged-again, Contradicted, judgedSet-none, judgedSet-kept, judgedSet-ext}
+use Rattle.bounds.specs.TablesLaws.{
+  least-off,
+  join-off,
+  join-plus,
+  JudgedCell,
+  KeptCell,
+  judged-again,
+  Contradicted,
+  judgedSet-none,
+  judgedSet-kept,
+  judgedSet-ext,
+}
 use Rattle.bounds.specs.Spans.{Times}
 use Rattle.bounds.specs.SpansLaws.{judgedAt-is}
 use Rattle.bounds.specs.Flat.{noBound, place, weightAt, cellOf, cellAt, rowsOf, Weighed, Flat, flat, joinedAt, joinedCells, joinedRow, joinedRows, cells}
@@ -91,7 +102,8 @@ module _ (p : Plan) (early late : List ℤ) (s : ℕ) (ws : List ℤ)
       (subst (λ c. KeptCell p y z c) (sym here) (kept y z (omega arith) (omega arith)))
       (weightAt us s z)
       w
-      (λ e. weighed-low (weightAt us s z) w (subst Weighed (sym there) (weighed s z (omega arith) (omega arith))) (weighed y s (omega arith) (omega arith)) on e)) in
+      (λ e. weighed-low (weightAt us s z) w (subst Weighed (sym there) (weighed s z (omega arith) (omega arith))) (weighed y s (omega arith) (omega arith)) on
+      e)) in
       let same : (i : ℕ) → (i ≡ place y z → ⊥) → getD (joinedAt early late s y w z us .weights) i (pos 0) ≡ getD us i (pos 0)
       = λ i n. putAt-same early late y z (weightAt us s z) w us i (pos 0) n in
       record {

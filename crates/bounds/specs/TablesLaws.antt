@@ -12,7 +12,28 @@ use Rattle.bounds.specs.declared.Judgement.{Judgement}
 use Rattle.bounds.specs.declared.Judgement.the-variants.{Contradiction, LeftOut, Kept}
 use Rattle.bounds.specs.Events.{eventOf}
 use Rattle.bounds.specs.Judgements.{judged}
-use Rattle.bounds.specs.Tables.{Cell, off, upto, least, plus, join, Rows, at, listed, build, anyBelow, judgement, isContradiction, keptCell, contradiction, bounds, contradicts, keptRows, judgedRows, judgedSet}
+use Rattle.bounds.specs.Tables.{
+  Cell,
+  off,
+  upto,
+  least,
+  plus,
+  join,
+  Rows,
+  at,
+  listed,
+  build,
+  anyBelow,
+  judgement,
+  isContradiction,
+  keptCell,
+  contradiction,
+  bounds,
+  contradicts,
+  keptRows,
+  judgedRows,
+  judgedSet,
+}
 use Rattle.bounds.specs.BuildLaws.{at-build, anyBelow-none}
 
 -- ---- cells

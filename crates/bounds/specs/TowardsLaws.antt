@@ -18,7 +18,24 @@ use Rattle.bounds.specs.declared.Judgement.the-variants.{Contradiction, 
 use Rattle.bounds.specs.Events.{eventOf, mostNodes}
 use Rattle.bounds.specs.Judgements.{judged}
 use Rattle.bounds.specs.JudgementsLaws.{judged-left-out, judged-none}
-use Rattle.bounds.specs.Tables.{Cell, off, upto, least, plus, at, build, judgement, isContradiction, keptCell, Set, contradiction, bounds, contradicts, keptRows, judgedSet}
+use Rattle.bounds.specs.Tables.{
+  Cell,
+  off,
+  upto,
+  least,
+  plus,
+  at,
+  build,
+  judgement,
+  isContradiction,
+  keptCell,
+  Set,
+  contradiction,
+  bounds,
+  contradicts,
+  keptRows,
+  judgedSet,
+}
 use Rattle.bounds.specs.BuildLaws.{at-build}
 use Rattle.bounds.specs.TablesLaws.{least-off, anyBelow-ext, build-ext, JudgedCell, KeptCell, judged-again, judged-kept, judgedSet-none, judgedSet-kept}
 use Rattle.bounds.specs.Spans.{Times}
@@ -105,7 +122,8 @@ beside-left-out p y z w (upto v) h = by (leZ w v) refl
     by false q = same-left p y z refl
 
 -- a contradiction, beside another bound
-beside-none : (p : Plan) (y z : ℕ) (w : ℤ) (e : Cell) → judged p (eventOf y) (eventOf z) w ≡ Contradiction → isContradiction (judgement p y z (least (upto w) e)) ≡ true
+beside-none : (p : Plan) (y z : ℕ) (w : ℤ) (e : Cell) → judged p (eventOf y) (eventOf z) w ≡ Contradiction
+    → isContradiction (judgement p y z (least (upto w) e)) ≡ true
 unfolding least judgement
 beside-none p y z w off h = ap isContradiction h
 beside-none p y z w (upto v) h = by (leZ w v) refl
@@ -121,7 +139,8 @@ left-does-by p y z w e Contradiction h s = absurd (let z : _≡_ {A = ℕ} 0 1 =
 left-does-by p y z w e LeftOut h s = beside-left-out p y z w e h
 left-does-by p y z w e Kept h s = same-left p y z refl
 
-left-does-cell : (p : Plan) (y z : ℕ) (c e : Cell) → isContradiction (judgement p y z c) ≡ false → SameLeft p y z (least c e) (least (keptCell (judgement p y z c) c) e)
+left-does-cell : (p : Plan) (y z : ℕ) (c e : Cell) → isContradiction (judgement p y z c) ≡ false
+    → SameLeft p y z (least c e) (least (keptCell (judgement p y z c) c) e)
 unfolding judgement
 left-does-cell p y z off e s = same-left p y z refl
 left-does-cell p y z (upto w) e s = left-does-by p y z w e (judged p (eventOf y) (eventOf z) w) refl s
@@ -193,7 +212,8 @@ module _ (p : Plan) (k : ℕ) (early late : List ℤ) (times : Times p k early l
               leads = t .leads
                   ∙ judgedSet-same p k _ _
                   (λ u x m n.
-                  at-place (λ u x. SameLeft p u x (least (cellAt ws u x) (more u x)) (least (cellAt (r .weights) u x) (rest u x))) u x y z (omega arith) (omega arith)
+                  at-place (λ u x. SameLeft p u x (least (cellAt ws u x) (more u x)) (least (cellAt (r .weights) u x) (rest u x))) u x y z (omega arith)
+                  (omega arith)
                   (λ q. same-left p u x (ap₂ least (sym (same u x q)) (there u x m n q)))
                   (let e = left-does p y z (rest y z) (o .keeps f) in
                   let g = same-left p y z whole-cell in

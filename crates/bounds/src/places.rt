@@ -19,7 +19,8 @@ pub fn drop_start<'a>(
     k: usize,
 ) -> bool
     requires { ⌜ Standing (now early) (now late) (suc (startNode k)) (now weights) ⌝ }
-    ensures { λ r. ⌜ ((p : Plan) → StandingOf p (now (early .entry)) (now (late .entry)) (suc (startNode k)) (now (weights .entry)) → setIn (startNode k) r (now (weights .exit)) ≡ withoutStart p k (rowsOf (suc (startNode k)) (now (weights .entry)))) ⌝ }
+    ensures { λ r. ⌜ ((p : Plan) → StandingOf p (now (early .entry)) (now (late .entry)) (suc (startNode k)) (now (weights .entry))
+        → setIn (startNode k) r (now (weights .exit)) ≡ withoutStart p k (rowsOf (suc (startNode k)) (now (weights .entry)))) ⌝ }
     ensures { λ r. ⌜ length (now (weights .exit)) ≡ length (now (weights .entry)) ⌝ }
 {
     let s = 1 + 2 * k;
@@ -35,7 +36,8 @@ pub fn drop_finish<'a>(
     k: usize,
 ) -> bool
     requires { ⌜ Standing (now early) (now late) (suc (finishNode k)) (now weights) ⌝ }
-    ensures { λ r. ⌜ ((p : Plan) → StandingOf p (now (early .entry)) (now (late .entry)) (suc (finishNode k)) (now (weights .entry)) → setIn (finishNode k) r (now (weights .exit)) ≡ withoutFinish p k (rowsOf (suc (finishNode k)) (now (weights .entry)))) ⌝ }
+    ensures { λ r. ⌜ ((p : Plan) → StandingOf p (now (early .entry)) (now (late .entry)) (suc (finishNode k)) (now (weights .entry))
+        → setIn (finishNode k) r (now (weights .exit)) ≡ withoutFinish p k (rowsOf (suc (finishNode k)) (now (weights .entry)))) ⌝ }
     ensures { λ r. ⌜ length (now (weights .exit)) ≡ length (now (weights .entry)) ⌝ }
 {
     let s = 1 + 2 * k;
@@ -57,7 +59,8 @@ fn drop_place<'a>(
     k: usize,
 ) -> bool
     requires { ⌜ Standing (now early) (now late) (nodes (k + 1)) (now weights) ⌝ }
-    ensures { λ r. ⌜ ((p : Plan) → StandingOf p (now (early .entry)) (now (late .entry)) (nodes (k + 1)) (now (weights .entry)) → setIn (nodes k) r (now (weights .exit)) ≡ withoutPlace p k (rowsOf (nodes (k + 1)) (now (weights .entry)))) ⌝ }
+    ensures { λ r. ⌜ ((p : Plan) → StandingOf p (now (early .entry)) (now (late .entry)) (nodes (k + 1)) (now (weights .entry))
+        → setIn (nodes k) r (now (weights .exit)) ≡ withoutPlace p k (rowsOf (nodes (k + 1)) (now (weights .entry)))) ⌝ }
     ensures { λ r. ⌜ length (now (weights .exit)) ≡ length (now (weights .entry)) ⌝ }
 {
     if drop_finish(weights, early, late, k) {
@@ -75,7 +78,8 @@ pub fn drop_places<'a>(
     count: usize,
 ) -> bool
     requires { ⌜ Standing (now early) (now late) (nodes (low + count)) (now weights) ⌝ }
-    ensures { λ r. ⌜ ((p : Plan) → StandingOf p (now (early .entry)) (now (late .entry)) (nodes (low + count)) (now (weights .entry)) → setIn (nodes low) r (now (weights .exit)) ≡ eliminated p low count (rowsOf (nodes (low + count)) (now (weights .entry)))) ⌝ }
+    ensures { λ r. ⌜ ((p : Plan) → StandingOf p (now (early .entry)) (now (late .entry)) (nodes (low + count)) (now (weights .entry))
+        → setIn (nodes low) r (now (weights .exit)) ≡ eliminated p low count (rowsOf (nodes (low + count)) (now (weights .entry)))) ⌝ }
     ensures { λ r. ⌜ length (now (weights .exit)) ≡ length (now (weights .entry)) ⌝ }
 {
     let mut left = count;

@@ -3,7 +3,8 @@
 -- every number of the calendar fits its type (`calendarText-short`).
 -- One turn of a writer: the next term of a side (`termLines-next`, `termLines-stop`; by what is left, `left-term`, `left-terms`), and the next job (`left-job`,
 -- `left-jobs`).
--- What writers did: an event's name from its parts (`stored-event`), and how far a term moves the place (`stored-term-near`); of lines, `PlanWrittenLaws` of `values` tells.
+-- What writers did: an event's name from its parts (`stored-event`), and how far a term moves the place (`stored-term-near`); of lines, `PlanWrittenLaws` of
+-- `values` tells.
 
 use Prim.Native.Nat.{ℕ, zero, suc, _+_, _*_, _-_, _/_, _^_, _≤_, _<_}
 use mathlib.Core.Path.{_≡_, refl, sym, ap, _∙_, subst}
@@ -33,7 +34,20 @@ use Rattle.calendars.specs.declared.Terms.{Terms}
 use Rattle.calendars.specs.declared.Calendar.{Calendar}
 use Rattle.calendars.specs.Calendars.{eventsAhead, mostEvents, noTerms}
 use Rattle.text.specs.LeftLaws.{Left, left-past, left-end}
-use Rattle.calendars.specs.CalendarText.{eventLetter, eventKind, eventJob, eventBytes, termLine, termLines, jobHead, jobText, jobTexts, calendarText, mostJobBytes, mostCalendarBytes}
+use Rattle.calendars.specs.CalendarText.{
+  eventLetter,
+  eventKind,
+  eventJob,
+  eventBytes,
+  termLine,
+  termLines,
+  jobHead,
+  jobText,
+  jobTexts,
+  calendarText,
+  mostJobBytes,
+  mostCalendarBytes,
+}
 
 -- ---- how long it is
 
@@ -79,7 +93,11 @@ termLines-short jobs key set cs row l f e (suc n) h = of (hasEvent e set) (termL
 
     of : (b : Bool) → length (termLines jobs key set cs row (suc e) n) ≤ 52 * n
         → length (cond b line [] ++ termLines jobs key set cs row (suc e) n) ≤ 52 * suc n
-    of true r = omega (arith, length-append line (termLines jobs key set cs row (suc e) n), termLine-short jobs key e (getD cs (row + e) (pos 0)) l (omega arith) (wide (f (row + e))))
+    of true r = omega (
+      arith,
+      length-append line (termLines jobs key set cs row (suc e) n),
+      termLine-short jobs key e (getD cs (row + e) (pos 0)) l (omega arith) (wide (f (row + e))),
+    )
     of false r = omega arith
 
 jobHead-short : (i : ℕ) (t : Terms) → i < mostJobs → SFits w64 (t .low .0) → SFits w64 (t .high .0) → length (jobHead i t) ≤ 87

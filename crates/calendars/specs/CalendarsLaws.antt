@@ -1,9 +1,10 @@
 -- The laws of the calendar as a value, while the walk over the next window's jobs makes it, last job first.
 -- Sizes: the c of a job have room in its row (`leastCs-short`, `mostCs-short`), and rows have their lengths (`allTerms-length`, `allCs-length`).
 -- A job recorded before those after it: its terms set at its place (`allTerms-more`), its c stored from its row's beginning on (`allCs-more`).
--- The table before a start comes after those of the jobs before it (`beforeStarts-more`). A calendar that says nothing is all zeros (`noCalendar-is`, `noCalendar-made`).
--- `Walked` is the walk with so many jobs left. It holds at the beginning (`Walked-start`); one job leads from it to the next (`Walked-some`, `Walked-more`), and what the
--- code's two eliminations rest on holds (`Walked-finish`, `Walked-last`); with no job left the calendar is `calendarOf` (`Walked-end`).
+-- The table before a start comes after those of the jobs before it (`beforeStarts-more`). A calendar that says nothing is all zeros (`noCalendar-is`,
+-- `noCalendar-made`).
+-- `Walked` is the walk with so many jobs left. It holds at the beginning (`Walked-start`); one job leads from it to the next (`Walked-some`, `Walked-more`),
+-- and what the code's two eliminations rest on holds (`Walked-finish`, `Walked-last`); with no job left the calendar is `calendarOf` (`Walked-end`).
 use Prim.Native.Nat.{ℕ, suc, _+_, _*_, _-_, _≤_, _<_}
 use mathlib.Core.Path.{_≡_, refl, sym, ap, ap₂, subst, _∙_}
 use mathlib.Core.Bool.{Bool, true, false, cond}
@@ -162,12 +163,24 @@ no-terms p i = refl
 
 pub noCalendar-is : (p : Plan)
     → _≡_ {A = Calendar}
-    (record { terms = replicate mostJobs noTerms; «at_least» = replicate (mostJobs * mostEvents) (pos 0); «at_most» = replicate (mostJobs * mostEvents) (pos 0) })
+    (record {
+      terms = replicate mostJobs noTerms;
+      «at_least» = replicate (mostJobs * mostEvents) (pos 0);
+      «at_most» = replicate (mostJobs * mostEvents) (pos 0);
+    })
     (noCalendar p)
 unfolding calendarOf
 noCalendar-is p =
-    ap (λ (x : List Terms). record { terms = filled mostJobs noTerms x; «at_least» = filled (mostJobs * mostEvents) (pos 0) []; «at_most» = filled (mostJobs * mostEvents) (pos 0) [] }) (no-terms p 0)
-    ∙ ap₂ (λ (x y : List ℤ). record { terms = filled mostJobs noTerms (allTerms p 0 []); «at_least» = filled (mostJobs * mostEvents) (pos 0) x; «at_most» = filled (mostJobs * mostEvents) (pos 0) y })
+    ap (λ (x : List Terms). record {
+      terms = filled mostJobs noTerms x;
+      «at_least» = filled (mostJobs * mostEvents) (pos 0) [];
+      «at_most» = filled (mostJobs * mostEvents) (pos 0) [];
+    }) (no-terms p 0)
+    ∙ ap₂ (λ (x y : List ℤ). record {
+      terms = filled mostJobs noTerms (allTerms p 0 []);
+      «at_least» = filled (mostJobs * mostEvents) (pos 0) x;
+      «at_most» = filled (mostJobs * mostEvents) (pos 0) y;
+    })
     (no-cs (leastCs p) 0)
     (no-cs (mostCs p) 0)
 
@@ -192,7 +205,8 @@ noCalendar-made none h p =
 
 module _ (p : Plan) (a : Accepted p) where
   zeros-split : (cs : ℕ → Rows → List ℤ)
-      → replicate (mostJobs * mostEvents) (pos 0) ≡ replicate (rowAt (p .jobs)) (pos 0) ++ (allCs cs (p .jobs) [] ++ replicate (rowAt (mostJobs - p .jobs)) (pos 0))
+      → replicate (mostJobs * mostEvents) (pos 0) ≡ replicate (rowAt (p .jobs)) (pos 0)
+      ++ (allCs cs (p .jobs) [] ++ replicate (rowAt (mostJobs - p .jobs)) (pos 0))
   zeros-split cs =
       let most = a .jobs-most in
       let all : mostJobs * mostEvents ≡ rowAt (p .jobs) + rowAt (mostJobs - p .jobs) = omega arith in
@@ -217,7 +231,8 @@ module _ (p : Plan) (a : Accepted p) where
         fit = fit;
         sound = sound;
         terms-are =
-            ap (λ (c : Calendar). c .terms) is ∙ ap (λ (k : ℕ). replicate k noTerms) all ∙ sym (replicate-append-replicate (p .jobs) (mostJobs - p .jobs) noTerms)
+            ap (λ (c : Calendar). c .terms) is ∙ ap (λ (k : ℕ). replicate k noTerms) all
+            ∙ sym (replicate-append-replicate (p .jobs) (mostJobs - p .jobs) noTerms)
             ∙ ap (λ (r : List Terms). replicate (p .jobs) noTerms ++ (r ++ replicate (mostJobs - p .jobs) noTerms)) (no-terms p (p .jobs));
         least-are = ap (λ (c : Calendar). c .«at_least») is ∙ zeros-split (leastCs p);
         most-are = ap (λ (c : Calendar). c .«at_most») is ∙ zeros-split (mostCs p);
@@ -289,9 +304,11 @@ module _ (p : Plan) (a : Accepted p) where
         next-sound : isContradictory (eliminated p (p .jobs) left v) ≡ false
         unfolding thenSet
         next-sound =
-            ap isContradictory (sym (ap (λ (s : Set). thenSet s (eliminated p (p .jobs) left)) (sym place-is ∙ setIn-left (startNode k) again vs start-sound))) ∙ turn
+            ap isContradictory (sym (ap (λ (s : Set). thenSet s (eliminated p (p .jobs) left)) (sym place-is ∙ setIn-left (startNode k) again vs start-sound)))
+            ∙ turn
 
-        pub Walked-more : (x : Terms) (l m : List ℤ) → x ≡ termsOf p left u → l ≡ sets least (rowAt left) (leastCs p left u) → m ≡ sets most (rowAt left) (mostCs p left u)
+        pub Walked-more : (x : Terms) (l m : List ℤ) → x ≡ termsOf p left u → l ≡ sets least (rowAt left) (leastCs p left u)
+            → m ≡ sets most (rowAt left) (mostCs p left u)
             → Walked p t left vs (set terms left x) l m
         Walked-more x l m x-is l-is m-is =
             let places = w .places in
@@ -307,10 +324,12 @@ module _ (p : Plan) (a : Accepted p) where
               terms-are = allTerms-more p left u (w .recorded) (replicate (mostJobs - p .jobs) noTerms) terms x (w .terms-are) x-is;
               least-are =
                   l-is
-                  ∙ allCs-more (leastCs p) left u (w .recorded) (replicate (rowAt (mostJobs - p .jobs)) (pos 0)) least (leastCs-short p a left u job) (w .least-are);
+                  ∙ allCs-more (leastCs p) left u (w .recorded) (replicate (rowAt (mostJobs - p .jobs)) (pos 0)) least (leastCs-short p a left u job)
+                  (w .least-are);
               most-are =
                   m-is
-                  ∙ allCs-more (mostCs p) left u (w .recorded) (replicate (rowAt (mostJobs - p .jobs)) (pos 0)) most (mostCs-short p a left u job) (w .most-are);
+                  ∙ allCs-more (mostCs p) left u (w .recorded) (replicate (rowAt (mostJobs - p .jobs)) (pos 0)) most (mostCs-short p a left u job)
+                  (w .most-are);
             }
 
   -- no job left

@@ -1,9 +1,8 @@
 -- The laws of what is recorded for a start.
 -- Lists: one more store (`sets-more`).
--- Cells: the c of the mark is 0 (`cOn-mark`), and of a bound it is the weight on its side (`cOn-below`, `cOn-above`); the weight on a side is read in the start's
--- row or in its column (`weightOn-below`, `weightOn-above`).
--- One turn of the walk over the events: `eventsOn-more` and `csOn-more`.
--- In a fit table the weights lie in range (`weightOn-fits`), the c are `leastCs` and `mostCs` (`csOn-least`, `csOn-most`), and the terms are `termsOf` (`termsOf-is`).
+-- Cells: the c of the mark is 0 (`cOn-mark`), and of a bound it is the weight on its side (`cOn-below`, `cOn-above`); the weight on a side is read in the
+-- start's row or in its column (`weightOn-below`, `weightOn-above`). One turn of the walk over the events: `eventsOn-more` and `csOn-more`. In a fit table the
+-- weights lie in range (`weightOn-fits`), the c are `leastCs` and `mostCs` (`csOn-least`, `csOn-most`), and the terms are `termsOf` (`termsOf-is`).
 use Prim.Native.Nat.{ℕ, zero, suc, _+_, _*_, _<_}
 use mathlib.Core.Path.{_≡_, refl, sym, ap, ap₂, subst, _∙_}
 use mathlib.Core.Bool.{Bool, true, false, not}

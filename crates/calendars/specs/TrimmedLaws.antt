@@ -15,7 +15,17 @@ use Rattle.plan.specs.PlanWritten.{trimmed}
 use Rattle.plan.specs.Accepted.{Accepted}
 use Rattle.bounds.specs.Tables.{Rows, Set, contradiction, bounds}
 use Rattle.rounds.specs.Rounds.{Outcome, settled, noStrategy, unsettled, outcome}
-use Rattle.rounds.specs.TrimmedLaws.{withPlaces, SamePlaces, thenSet-same, withoutFinish-agrees, withoutStart-agrees, C0-agrees, joined-agrees, trimmed-agrees, outcome-trimmed}
+use Rattle.rounds.specs.TrimmedLaws.{
+  withPlaces,
+  SamePlaces,
+  thenSet-same,
+  withoutFinish-agrees,
+  withoutStart-agrees,
+  C0-agrees,
+  joined-agrees,
+  trimmed-agrees,
+  outcome-trimmed,
+}
 use Rattle.calendars.specs.declared.Terms.{Terms}
 use Rattle.calendars.specs.Calendars.{thenTables, beforeStarts, termsOf, leastCs, mostCs, mostEvents, allTerms, allCs, calendarOf, calendar}
 use Rattle.calendars.specs.CalendarText.{calendarText, outcomeText}
@@ -69,7 +79,8 @@ module _ (p : Plan) (job : List Job) (bound : List Bound) (same : SamePlaces p j
   calendar-agrees t =
       calendarOf-agrees _
       ∙ ap (calendarOf p)
-      (thenTables-same (thenSet-same (C0-agrees p job bound same) (λ c0. joined-agrees p job bound same c0 t)) (λ u. beforeStarts-agrees (p .jobs) u (omega arith)))
+      (thenTables-same (thenSet-same (C0-agrees p job bound same) (λ c0. joined-agrees p job bound same c0 t))
+      (λ u. beforeStarts-agrees (p .jobs) u (omega arith)))
 
   outcomeText-agrees : (o : Outcome) → outcomeText q o ≡ outcomeText p o
   unfolding outcomeText

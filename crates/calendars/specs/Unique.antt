@@ -1,4 +1,5 @@
--- No two answers meet the promise of a public operation: each promise is an equation, and `only` of the crate `text` says the rest. What a writer of the calendar leaves and answers is one slice and one place (`stored-unique` of `text`).
+-- No two answers meet the promise of a public operation: each promise is an equation, and `only` of the crate `text` says the rest. What a writer of the
+-- calendar leaves and answers is one slice and one place (`stored-unique` of `text`).
 use Prim.Native.Nat.{ℕ, _+_}
 use mathlib.Core.Path.{_≡_, ap, ap₂}
 use mathlib.Core.Bool.{Bool}

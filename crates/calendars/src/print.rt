@@ -11,7 +11,20 @@ ghost use Rattle.text.specs.Lent.{Stored};
 ghost use Rattle.plan.specs.Limits.{mostJobs};
 ghost use Rattle.events.specs.Bits.{bitsOf};
 ghost use Rattle.calendars.specs.Calendars.{mostEvents};
-ghost use Rattle.calendars.specs.CalendarText.{eventLetter, eventKind, eventJob, eventBytes, termLine, termLines, jobHead, jobText, jobTexts, calendarText, mostJobBytes, mostCalendarBytes};
+ghost use Rattle.calendars.specs.CalendarText.{
+  eventLetter,
+  eventKind,
+  eventJob,
+  eventBytes,
+  termLine,
+  termLines,
+  jobHead,
+  jobText,
+  jobTexts,
+  calendarText,
+  mostJobBytes,
+  mostCalendarBytes,
+};
 
 // The window letter of event e: p for the previous window, whose events come first, t for this one.
 fn event_letter(jobs: usize, e: usize) -> u8

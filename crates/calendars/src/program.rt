@@ -11,8 +11,8 @@ ghost use Rattle.text.specs.Lent.{written};
 ghost use Rattle.lines.specs.Written.{writtenAs};
 ghost use Rattle.calendars.specs.CalendarText.{calendarOutput, mostCalendarBytes};
 
-// The answer to a plan's text: the calendar of a settled plan, or the line of the plan's refusal; 12 and not one byte changed, where it has no room. 32,768 bytes
-// are room for every text.
+// The answer to a plan's text: the calendar of a settled plan, or the line of the plan's refusal; 12 and not one byte changed, where it has no room. 32,768
+// bytes are room for every text.
 pub fn answer(text: &[u8], out: &mut [u8]) -> Written
     ensures { λ r. ⌜ r ≡ writtenAs (calendarOutput (now (text .entry))) (now (out .entry)) ⌝ }
     ensures { λ _. ⌜ now (out .exit) ≡ written (calendarOutput (now (text .entry))) (now (out .entry)) ⌝ }

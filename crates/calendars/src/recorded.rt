@@ -55,7 +55,8 @@ fn put_side(
     count: usize,
 ) -> Events
     requires { ⌜ (count < mostEvents) × (row + count ≤ mostJobs * mostEvents) × ((e : ℕ) → e < count → Weighed (weightOn side (now weights) (suc count) e)) ⌝ }
-    ensures { λ r. ⌜ (bitsOf r ≡ eventsOn side (now (weights .entry)) count) × (now (cs .exit) ≡ sets (now (cs .entry)) row (csOn side (now (weights .entry)) count)) ⌝ }
+    ensures { λ r. ⌜ (bitsOf r ≡ eventsOn side (now (weights .entry)) count)
+        × (now (cs .exit) ≡ sets (now (cs .entry)) row (csOn side (now (weights .entry)) count)) ⌝ }
 {
     let s = count + 1;
     let mut set = Events::empty();

@@ -47,7 +47,8 @@ pub fn calendar_of<'a>(
     early: &'a [i32; Table::SIDE],
     late: &'a [i32; Table::SIDE],
 ) -> Calendar
-    requires { ⌜ (StandingOf p (now early) (now late) (nodes (p .jobs + p .jobs)) (now joined)) × (isContradictory (eliminated p (p .jobs) (p .jobs) (rowsOf (nodes (p .jobs + p .jobs)) (now joined))) ≡ false) ⌝ }
+    requires { ⌜ (StandingOf p (now early) (now late) (nodes (p .jobs + p .jobs)) (now joined))
+        × (isContradictory (eliminated p (p .jobs) (p .jobs) (rowsOf (nodes (p .jobs + p .jobs)) (now joined))) ≡ false) ⌝ }
     ensures { λ r. ⌜ r ≡ calendarOf p (beforeStarts p (p .jobs) (rowsOf (nodes (p .jobs + p .jobs)) (now (joined .entry)))) ⌝ }
 {
     let jobs = p.jobs;

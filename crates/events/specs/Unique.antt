@@ -1,5 +1,5 @@
--- No two answers meet the promise of a public operation: each promise is an equation, and `only` of the crate `text` says the rest. A set of events is its number
--- (`events-unique`).
+-- No two answers meet the promise of a public operation: each promise is an equation, and `only` of the crate `text` says the rest. A set of events is its
+-- number (`events-unique`).
 use Prim.Native.Nat.{ℕ}
 use mathlib.Core.Path.{_≡_, ap}
 use mathlib.Core.Bool.{Bool}

@@ -54,7 +54,8 @@ unfolding leastOf
 leastOf-most b [] h = absurd h
 leastOf-most b (c ∷ cs) (inl e) =
     subst (λ c. AtMost (leastOf (c ∷ cs) (nodeOf (b .y)) (nodeOf (b .z))) (b .w)) e
-    (rw (eq-eqb (nodeOf (b .y)) (nodeOf (b .y)) refl, eq-eqb (nodeOf (b .z)) (nodeOf (b .z)) refl) (least-most (leastOf cs (nodeOf (b .y)) (nodeOf (b .z))) (self-most (b .w))))
+    (rw (eq-eqb (nodeOf (b .y)) (nodeOf (b .y)) refl, eq-eqb (nodeOf (b .z)) (nodeOf (b .z)) refl)
+    (least-most (leastOf cs (nodeOf (b .y)) (nodeOf (b .z))) (self-most (b .w))))
 leastOf-most b (c ∷ cs) (inr h) = by (eqb (nodeOf (c .y)) (nodeOf (b .y)) && eqb (nodeOf (c .z)) (nodeOf (b .z))) (leastOf-most b cs h)
   where
     by : (q : Bool) → AtMost (leastOf cs (nodeOf (b .y)) (nodeOf (b .z))) (b .w)
@@ -80,7 +81,10 @@ unfolding ranges
 ranges-both p zero k h = absurd (omega arith)
 ranges-both p (suc n) k h =
     ⊎-elim
-    (λ l. let r = ranges-both p n k l in record { start = later p (Start k) _ _ _ _ (ranges p n) (r .start); finish = later p (Finish k) _ _ _ _ (ranges p n) (r .finish) })
+    (λ l. let r = ranges-both p n k l in record {
+      start = later p (Start k) _ _ _ _ (ranges p n) (r .start);
+      finish = later p (Finish k) _ _ _ _ (ranges p n) (r .finish);
+    })
     (λ e.
     subst (λ k. BothRanged p k (ranges p (suc n))) (sym e)
     (record { start = record { up = inl refl; down = inr (inl refl) }; finish = record { up = inr (inr (inl refl)); down = inr (inr (inr (inl refl))) } }))
@@ -101,16 +105,20 @@ module _ (p : Plan) where
   own-above =
       byNode (λ y. 0 < y → y < nodes (p .jobs) → AtMost (leastOf (ownBounds p) 0 y) (latest p (eventOf y)))
       (λ h l. absurd (omega arith))
-      (λ k h l. subst (λ e. AtMost (leastOf (ownBounds p) 0 (startNode k)) (latest p e)) (sym (eventOf-start k)) (leastOf-most (upTo p (Start k)) (ownBounds p) (own-both k (omega arith) .start .up)))
-      (λ k h l. subst (λ e. AtMost (leastOf (ownBounds p) 0 (finishNode k)) (latest p e)) (sym (eventOf-finish k)) (leastOf-most (upTo p (Finish k)) (ownBounds p) (own-both k (omega arith) .finish .up)))
+      (λ k h l. subst (λ e. AtMost (leastOf (ownBounds p) 0 (startNode k)) (latest p e)) (sym (eventOf-start k))
+      (leastOf-most (upTo p (Start k)) (ownBounds p) (own-both k (omega arith) .start .up)))
+      (λ k h l. subst (λ e. AtMost (leastOf (ownBounds p) 0 (finishNode k)) (latest p e)) (sym (eventOf-finish k))
+      (leastOf-most (upTo p (Finish k)) (ownBounds p) (own-both k (omega arith) .finish .up)))
 
   own-below : (y : ℕ) → 0 < y → y < nodes (p .jobs) → AtMost (leastOf (ownBounds p) y 0) (negℤ (earliest p (eventOf y)))
   unfolding nodeOf
   own-below =
       byNode (λ y. 0 < y → y < nodes (p .jobs) → AtMost (leastOf (ownBounds p) y 0) (negℤ (earliest p (eventOf y))))
       (λ h l. absurd (omega arith))
-      (λ k h l. subst (λ e. AtMost (leastOf (ownBounds p) (startNode k) 0) (negℤ (earliest p e))) (sym (eventOf-start k)) (leastOf-most (downTo p (Start k)) (ownBounds p) (own-both k (omega arith) .start .down)))
-      (λ k h l. subst (λ e. AtMost (leastOf (ownBounds p) (finishNode k) 0) (negℤ (earliest p e))) (sym (eventOf-finish k)) (leastOf-most (downTo p (Finish k)) (ownBounds p) (own-both k (omega arith) .finish .down)))
+      (λ k h l. subst (λ e. AtMost (leastOf (ownBounds p) (startNode k) 0) (negℤ (earliest p e))) (sym (eventOf-start k))
+      (leastOf-most (downTo p (Start k)) (ownBounds p) (own-both k (omega arith) .start .down)))
+      (λ k h l. subst (λ e. AtMost (leastOf (ownBounds p) (finishNode k) 0) (negℤ (earliest p e))) (sym (eventOf-finish k))
+      (leastOf-most (downTo p (Finish k)) (ownBounds p) (own-both k (omega arith) .finish .down)))
 
   pub C0-fit : (c0 : Rows) → C0 p ≡ bounds c0 → Fit p (nodes (p .jobs)) c0
   unfolding C0
@@ -202,7 +210,8 @@ module _ (p : Plan) (c0 t : Rows) (own-fit : Fit p (nodes (p .jobs)) c0) (fit : 
       ∙ onNext-onto p t 0 y
       ∙ ap₂ (λ a b. plus (at t 0 y) (a -ℤ b)) (sym (movedBy-event (p .window) y (λ e. omega arith))) (sym (movedBy-origin (p .window) 0 refl)) in
       subst (λ c. AtMost c (latest p (eventOf (y + ownNodes p)))) (sym cell)
-      (plus-most (p .window -ℤ pos 0) (latest p (eventOf (y + ownNodes p))) (fit .above y h l) (latest-next p y h l ∙ up-sum (latest p (eventOf y)) (p .window)))
+      (plus-most (p .window -ℤ pos 0) (latest p (eventOf (y + ownNodes p))) (fit .above y h l)
+      (latest-next p y h l ∙ up-sum (latest p (eventOf y)) (p .window)))
 
   next-below : (y : ℕ) → 0 < y → y < nodes (p .jobs) → AtMost (onNext p t (y + ownNodes p) 0) (negℤ (earliest p (eventOf (y + ownNodes p))))
   next-below y h l =

@@ -29,7 +29,8 @@ use Rattle.rounds.specs.NamedLaws.{own-named, own-named-both, between-na
 -- ---- what is put elsewhere
 
 -- bounds between the first k nodes write no cell of another node
-putBounds-same : (early late : List ℤ) (k : ℕ) → k ≤ mostNodes → (bs : List Between) → AllNamed k bs → (y z : ℕ) → z < mostNodes → (k ≤ y) ⊎ (k ≤ z) → (ws : List ℤ)
+putBounds-same : (early late : List ℤ) (k : ℕ) → k ≤ mostNodes → (bs : List Between) → AllNamed k bs → (y z : ℕ) → z < mostNodes → (k ≤ y) ⊎ (k ≤ z)
+    → (ws : List ℤ)
     → getD (putBounds early late bs ws .weights) (place y z) (pos 0) ≡ getD ws (place y z) (pos 0)
 unfolding putBounds
 putBounds-same early late k small [] a y z l past ws = refl
@@ -62,7 +63,8 @@ module _ (p : Plan) (early late : List ℤ) (clocked : Clocked p early late) (ow
   own-towards =
       let o = putBounds-outcome p (nodes (p .jobs + p .jobs)) early late (clocked .times) (nodes-room (clocked .accepted)) (ownBounds p)
       (own-named-both p (clocked .accepted)) in
-      subst (Towards p (nodes (p .jobs + p .jobs)) (λ y z. off) (judgedSet p (nodes (p .jobs + p .jobs)) (leastOf (ownBounds p)))) (ap (λ r. r .weights) (sym put))
+      subst (Towards p (nodes (p .jobs + p .jobs)) (λ y z. off) (judgedSet p (nodes (p .jobs + p .jobs)) (leastOf (ownBounds p))))
+      (ap (λ r. r .weights) (sym put))
       (o .keeps (ap (λ r. r .found) (sym put)))
 
   -- C(0) is what the array holds

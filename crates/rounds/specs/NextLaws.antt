@@ -185,7 +185,8 @@ module _ (p : Plan) (early late : List ℤ) (times : Times p (nodes (p .jobs + p
       (movedBy-in (p .window) y (omega wholes) (omega wholes)) in
       let same : place (onto (p .jobs) y - ownNodes p) (onto (p .jobs) z - ownNodes p) ≡ place y z = ap₂ place (onto-back p y) (onto-back p z) in
       let cell = plus (cellOf (weightAt ts y z)) a in
-      putAt-towards p (nodes (p .jobs + p .jobs)) early late times room set us (restFrom (place y (z + 1))) (restFrom (place y z)) g (onto (p .jobs) y) (onto (p .jobs) z)
+      putAt-towards p (nodes (p .jobs + p .jobs)) early late times room set us (restFrom (place y (z + 1))) (restFrom (place y z)) g (onto (p .jobs) y)
+      (onto (p .jobs) z)
       (onto-below (p .jobs) y (nodes (p .jobs + p .jobs)) (omega arith))
       (onto-below (p .jobs) z (nodes (p .jobs + p .jobs)) (omega arith))
       (weightAt ts y z)

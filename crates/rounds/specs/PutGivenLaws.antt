@@ -56,7 +56,8 @@ unfolding givenBounds
 given-nil p true = refl
 given-nil p false = refl
 
-given-more : (p : Plan) (between : Bool) (d : Bound) (ds : List Bound) → givenBounds p between (d ∷ ds) ≡ givenBounds p between (d ∷ []) ++ givenBounds p between ds
+given-more : (p : Plan) (between : Bool) (d : Bound) (ds : List Bound) → givenBounds p between (d ∷ ds) ≡ givenBounds p between (d ∷ [])
+    ++ givenBounds p between ds
 unfolding givenBounds
 given-more p true d ds = by (hasNext d)
   where
@@ -71,7 +72,8 @@ given-more p false d ds = by (hasNext d)
 
 module _ (p : Plan) (accepted : Accepted p) (between : Bool) (i : ℕ) where
   pub given-first : i < p .bounds
-      → givenBounds p between (drop i (boundsOf p)) ≡ givenBounds p between (getD (p .bound) i noBound ∷ []) ++ givenBounds p between (drop (i + 1) (boundsOf p))
+      → givenBounds p between (drop i (boundsOf p)) ≡ givenBounds p between (getD (p .bound) i noBound ∷ [])
+      ++ givenBounds p between (drop (i + 1) (boundsOf p))
   given-first h =
       let most = accepted .bounds-most in
       rw (add-one, drop-cons (boundsOf p) i noBound (simp length-take (omega (arith, accepted .bound-places))), getD-take (p .bounds) (p .bound) i noBound h)

@@ -65,7 +65,8 @@ module _ {own all : ℕ → List Between} (b : PlaceByPlace own all) (early late
   pub places-end : left ≡ 0 → putBounds early late (all left) ws ≡ flat false ws
   places-end z = ap (λ bs. putBounds early late bs ws) (ap all z ∙ b .none) ∙ putBounds-none early late ws
 
-pub order-is : (early late : List ℤ) (k : ℕ) (ws : List ℤ) → putAt early late (3 + 2 * k) (2 + 2 * k) (pos 0) (pos 0) ws ≡ putBounds early late (inOrder k ∷ []) ws
+pub order-is : (early late : List ℤ) (k : ℕ) (ws : List ℤ) → putAt early late (3 + 2 * k) (2 + 2 * k) (pos 0) (pos 0) ws
+    ≡ putBounds early late (inOrder k ∷ []) ws
 unfolding nodeOf
 order-is early late k ws =
     let next : 3 + 2 * k ≡ 1 + 2 * suc k = omega arith in

@@ -20,7 +20,25 @@ use Rattle.bounds.specs.FitLaws.{fit-weighed}
 use Rattle.bounds.specs.PlacesLaws.{setIn-found, setIn-left}
 use Rattle.rounds.specs.declared.Verdict.the-variants.{Settled, NoStrategy, Unsettled}
 use Rattle.rounds.specs.Given.{ownBounds, betweenBounds}
-use Rattle.rounds.specs.Rounds.{C0, onNext, joined, round, sameRows, isContradictory, failsAlone, Outcome, settled, noStrategy, unsettled, decided, roundsFrom, outcomeFrom, outcome, verdictOf, verdict}
+use Rattle.rounds.specs.Rounds.{
+  C0,
+  onNext,
+  joined,
+  round,
+  sameRows,
+  isContradictory,
+  failsAlone,
+  Outcome,
+  settled,
+  noStrategy,
+  unsettled,
+  decided,
+  roundsFrom,
+  outcomeFrom,
+  outcome,
+  verdictOf,
+  verdict,
+}
 use Rattle.rounds.specs.SameLaws.{sameRows-unique}
 use Rattle.rounds.specs.Next.{Nexts, onto, movedBy, nextAt, nextRow, nextRows}
 use Rattle.rounds.specs.NextLaws.{nextRows-outcome}
@@ -135,7 +153,8 @@ pub record Carrying (p : Plan) (early late own base : List ℤ) (m left : ℕ) (
 nextRows-length : (early late : List ℤ) (jobs : ℕ) (window : ℤ) (ts ws : List ℤ) → length (nextRows early late jobs window ts ws .weights) ≡ length ws
 nextRows-length early late jobs window ts ws =
     eachNode-length (nextRow early late jobs window ts)
-    (λ y us. eachNode-length (nextAt early late jobs window ts y) (λ z vs. putAt-length early late (onto jobs y) (onto jobs z) (weightAt ts y z) (movedBy window z -ℤ movedBy window y) vs) 0 (nodes jobs) us)
+    (λ y us. eachNode-length (nextAt early late jobs window ts y) (λ z vs. putAt-length early late (onto jobs y) (onto jobs z) (weightAt ts y z)
+    (movedBy window z -ℤ movedBy window y) vs) 0 (nodes jobs) us)
     0
     (nodes jobs)
     ws
@@ -208,44 +227,46 @@ module _ {p : Plan} {early late own base : List ℤ} {m left : ℕ} {ts : List �
           }
 
       -- and the next window's events are eliminated
-      module _ (none : Bool) (vs : List ℤ) (e : setIn (nodes (p .jobs)) none vs ≡ eliminated p (p .jobs) (p .jobs) (rowsOf (nodes (p .jobs + p .jobs)) us)) where
-        pub remains-none : none ≡ true → outcome p ≡ noStrategy (cond (failsAlone p (rowsOf (nodes (p .jobs)) ts)) m (m + 1))
-        remains-none c = turn-none (round-some p (rowsOf k own) (rowsOf k ts) (rowsOf both us) joined-is ∙ sym e ∙ setIn-found k none vs c)
+      module _ (none : Bool) (vs : List ℤ) (e : setIn (nodes (p .jobs)) none vs ≡ eliminated p (p .jobs) (p .jobs) (rowsOf (nodes (p .jobs + p .jobs)) us))
+        where
+          pub remains-none : none ≡ true → outcome p ≡ noStrategy (cond (failsAlone p (rowsOf (nodes (p .jobs)) ts)) m (m + 1))
+          remains-none c = turn-none (round-some p (rowsOf k own) (rowsOf k ts) (rowsOf both us) joined-is ∙ sym e ∙ setIn-found k none vs c)
 
-        module _ (c : none ≡ false) where
-          abbrev remains : Rows
-          remains = rowsOf k vs
+          module _ (c : none ≡ false) where
+            abbrev remains : Rows
+            remains = rowsOf k vs
 
-          left-is : eliminated p (p .jobs) (p .jobs) (rowsOf both us) ≡ bounds remains
-          left-is = sym e ∙ setIn-left k none vs c
+            left-is : eliminated p (p .jobs) (p .jobs) (rowsOf both us) ≡ bounds remains
+            left-is = sym e ∙ setIn-left k none vs c
 
-          round-is : round p (rowsOf k own) (rowsOf k ts) ≡ bounds remains
-          round-is = round-some p (rowsOf k own) (rowsOf k ts) (rowsOf both us) joined-is ∙ left-is
+            round-is : round p (rowsOf k own) (rowsOf k ts) ≡ bounds remains
+            round-is = round-some p (rowsOf k own) (rowsOf k ts) (rowsOf both us) joined-is ∙ left-is
 
-          pub remains-fit : Fit p (nodes (p .jobs)) (rowsOf (nodes (p .jobs)) vs)
-          remains-fit = eliminated-fit p (p .jobs) (p .jobs) (rowsOf both us) remains joined-fits left-is
+            pub remains-fit : Fit p (nodes (p .jobs)) (rowsOf (nodes (p .jobs)) vs)
+            remains-fit = eliminated-fit p (p .jobs) (p .jobs) (rowsOf both us) remains joined-fits left-is
 
-          pub round-later : sameRows (rowsOf (nodes (p .jobs)) ts) (rowsOf (nodes (p .jobs)) vs) ≡ false
-              → outcome p ≡ roundsFrom p (rowsOf (nodes (p .jobs)) own) (m + 1) (left - 1) (rowsOf (nodes (p .jobs)) vs)
-          round-later h =
-              turn ∙ decided-later p m (rowsOf k ts) (round p (rowsOf k own) (rowsOf k ts)) (roundsFrom p (rowsOf k own) (m + 1) (left - 1)) remains round-is h
+            pub round-later : sameRows (rowsOf (nodes (p .jobs)) ts) (rowsOf (nodes (p .jobs)) vs) ≡ false
+                → outcome p ≡ roundsFrom p (rowsOf (nodes (p .jobs)) own) (m + 1) (left - 1) (rowsOf (nodes (p .jobs)) vs)
+            round-later h =
+                turn ∙ decided-later p m (rowsOf k ts) (round p (rowsOf k own) (rowsOf k ts)) (roundsFrom p (rowsOf k own) (m + 1) (left - 1))
+                remains round-is h
 
-          module _ (h : sameRows (rowsOf (nodes (p .jobs)) ts) (rowsOf (nodes (p .jobs)) vs) ≡ true) where
-            pub round-settled : outcome p ≡ settled m (rowsOf (nodes (p .jobs)) vs)
-            round-settled =
-                turn
-                ∙ decided-settled p m (rowsOf k ts) (round p (rowsOf k own) (rowsOf k ts)) (roundsFrom p (rowsOf k own) (m + 1) (left - 1)) remains round-is h
+            module _ (h : sameRows (rowsOf (nodes (p .jobs)) ts) (rowsOf (nodes (p .jobs)) vs) ≡ true) where
+              pub round-settled : outcome p ≡ settled m (rowsOf (nodes (p .jobs)) vs)
+              round-settled =
+                  turn
+                  ∙ decided-settled p m (rowsOf k ts) (round p (rowsOf k own) (rowsOf k ts)) (roundsFrom p (rowsOf k own) (m + 1) (left - 1)) remains round-is h
 
-            -- the settled set is the one that was carried into the round
-            settled-joins : (n : ℕ) (v : Rows) → outcome p ≡ settled n v → thenSet (C0 p) (λ c0. joined p c0 v) ≡ bounds (rowsOf both us)
-            unfolding thenSet
-            settled-joins n v q =
-                ap (λ s. thenSet s (λ c0. joined p c0 v)) (own-rows p early late (g .clocked) own (g .based .own-put))
-                ∙ ap (joined p (rowsOf k own)) (sym (sameRows-unique (rowsOf k ts) remains h ∙ settled-back m n remains v (sym round-settled ∙ q)))
-                ∙ joined-is
+              -- the settled set is the one that was carried into the round
+              settled-joins : (n : ℕ) (v : Rows) → outcome p ≡ settled n v → thenSet (C0 p) (λ c0. joined p c0 v) ≡ bounds (rowsOf both us)
+              unfolding thenSet
+              settled-joins n v q =
+                  ap (λ s. thenSet s (λ c0. joined p c0 v)) (own-rows p early late (g .clocked) own (g .based .own-put))
+                  ∙ ap (joined p (rowsOf k own)) (sym (sameRows-unique (rowsOf k ts) remains h ∙ settled-back m n remains v (sym round-settled ∙ q)))
+                  ∙ joined-is
 
-            pub round-settled-on : SettledOn p (rowsOf (nodes (p .jobs + p .jobs)) us)
-            round-settled-on = record { joins = settled-joins; fits = λ n v q. joined-fits; sound = λ n v q. ap isContradictory left-is }
+              pub round-settled-on : SettledOn p (rowsOf (nodes (p .jobs + p .jobs)) us)
+              round-settled-on = record { joins = settled-joins; fits = λ n v q. joined-fits; sound = λ n v q. ap isContradictory left-is }
 
 -- ---- one window alone
 

@@ -94,7 +94,12 @@ module _ (p : Plan) (job : List Job) (bound : List Bound) (same : SamePlaces p j
   judged-agrees (Finish j) Origin w g h = rw (earliest-agrees Origin h, latest-agrees (Finish j) g)
   judged-agrees (Finish j) (Start k) w g h =
       rw (earliest-agrees (Finish j) g, latest-agrees (Finish j) g, earliest-agrees (Start k) h, latest-agrees (Start k) h, jobAt-agrees k h)
-  judged-agrees (Finish j) (Finish k) w g h = rw (earliest-agrees (Finish j) g, latest-agrees (Finish j) g, earliest-agrees (Finish k) h, latest-agrees (Finish k) h)
+  judged-agrees (Finish j) (Finish k) w g h = rw (
+    earliest-agrees (Finish j) g,
+    latest-agrees (Finish j) g,
+    earliest-agrees (Finish k) h,
+    latest-agrees (Finish k) h,
+  )
 
   near : (y : ℕ) → y < nodes (p .jobs + p .jobs) → Near (eventOf y)
   unfolding eventOf
@@ -235,7 +240,8 @@ module _ (p : Plan) (a : Accepted p) where
   pub trimmed-agrees : SamePlaces p (filled mostJobs noJob (jobsOf p)) (filled mostBounds noBound (boundsOf p))
   trimmed-agrees =
       record {
-        job-at = λ i h. filled-at mostJobs noJob (jobsOf p) (omega (arith, jobs-length, a .jobs-most)) i (omega (arith, jobs-length)) ∙ getD-take (p .jobs) (p .job) i h;
+        job-at = λ i h. filled-at mostJobs noJob (jobsOf p) (omega (arith, jobs-length, a .jobs-most)) i (omega (arith, jobs-length))
+            ∙ getD-take (p .jobs) (p .job) i h;
         bounds-of = filled-all mostBounds noBound (boundsOf p) (omega (arith, bounds-length, a .bounds-most)) (p .bounds) bounds-length;
       }
     where

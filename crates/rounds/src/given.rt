@@ -57,7 +57,8 @@ fn put_bound<'a>(
     d: Bound,
 ) -> bool
     requires { ⌜ (AllTimed (now early) (now late)) × (jobs ≤ mostJobs) × (BoundAccepted jobs d) ⌝ }
-    ensures { λ r. ⌜ ((p : Plan) → jobs ≡ p .jobs → flat r (now (weights .exit)) ≡ putBounds (now (early .entry)) (now (late .entry)) (meant p d ∷ []) (now (weights .entry))) ⌝ }
+    ensures { λ r. ⌜ ((p : Plan) → jobs ≡ p .jobs → flat r (now (weights .exit))
+        ≡ putBounds (now (early .entry)) (now (late .entry)) (meant p d ∷ []) (now (weights .entry))) ⌝ }
 {
     let a = d.a;
     let b = d.b;
@@ -90,7 +91,8 @@ fn put_due<'a>(
     between: bool,
 ) -> bool
     requires { ⌜ (AllTimed (now early) (now late)) × (jobs ≤ mostJobs) × (BoundAccepted jobs d) ⌝ }
-    ensures { λ r. ⌜ ((p : Plan) → jobs ≡ p .jobs → flat r (now (weights .exit)) ≡ putBounds (now (early .entry)) (now (late .entry)) (givenBounds p between (d ∷ [])) (now (weights .entry))) ⌝ }
+    ensures { λ r. ⌜ ((p : Plan) → jobs ≡ p .jobs → flat r (now (weights .exit))
+        ≡ putBounds (now (early .entry)) (now (late .entry)) (givenBounds p between (d ∷ [])) (now (weights .entry))) ⌝ }
 {
     let a = d.a;
     let b = d.b;
@@ -111,7 +113,8 @@ pub fn put_given<'a>(
     between: bool,
 ) -> bool
     requires { ⌜ Clocked p (now early) (now late) ⌝ }
-    ensures { λ r. ⌜ flat r (now (weights .exit)) ≡ putBounds (now (early .entry)) (now (late .entry)) (givenBounds p between (boundsOf p)) (now (weights .entry)) ⌝ }
+    ensures { λ r. ⌜ flat r (now (weights .exit)) ≡ putBounds (now (early .entry)) (now (late .entry)) (givenBounds p between (boundsOf p))
+        (now (weights .entry)) ⌝ }
 {
     let jobs = p.jobs;
     let count = p.bounds;

@@ -41,7 +41,8 @@ fn put_next_cell<'a>(
     z: usize,
 ) -> bool
     requires { ⌜ (Nexts (now early) (now late) jobs window (now carried)) × (y < 1 + 2 * jobs) × (z < 1 + 2 * jobs) ⌝ }
-    ensures { λ r. ⌜ flat r (now (weights .exit)) ≡ nextAt (now (early .entry)) (now (late .entry)) jobs window (now (carried .entry)) y z (now (weights .entry)) ⌝ }
+    ensures { λ r. ⌜ flat r (now (weights .exit)) ≡ nextAt (now (early .entry)) (now (late .entry)) jobs window (now (carried .entry)) y z
+        (now (weights .entry)) ⌝ }
 {
     let v = carried[y * Table::SIDE + z];
     let from = node_onto(jobs, y);
@@ -63,7 +64,8 @@ fn put_next_row<'a>(
     y: usize,
 ) -> bool
     requires { ⌜ (Nexts (now early) (now late) jobs window (now carried)) × (y < 1 + 2 * jobs) ⌝ }
-    ensures { λ r. ⌜ flat r (now (weights .exit)) ≡ nextRow (now (early .entry)) (now (late .entry)) jobs window (now (carried .entry)) y (now (weights .entry)) ⌝ }
+    ensures { λ r. ⌜ flat r (now (weights .exit)) ≡ nextRow (now (early .entry)) (now (late .entry)) jobs window (now (carried .entry)) y (now (weights .entry))
+        ⌝ }
 {
     let count = 1 + 2 * jobs;
     let mut z = 0;
@@ -86,7 +88,8 @@ pub fn put_next<'a>(
     carried: &'a [i32; Table::SIZE],
 ) -> bool
     requires { ⌜ Nexts (now early) (now late) jobs window (now carried) ⌝ }
-    ensures { λ r. ⌜ flat r (now (weights .exit)) ≡ nextRows (now (early .entry)) (now (late .entry)) jobs window (now (carried .entry)) (now (weights .entry)) ⌝ }
+    ensures { λ r. ⌜ flat r (now (weights .exit)) ≡ nextRows (now (early .entry)) (now (late .entry)) jobs window (now (carried .entry)) (now (weights .entry))
+        ⌝ }
 {
     let count = 1 + 2 * jobs;
     let mut y = 0;

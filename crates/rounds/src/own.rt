@@ -20,7 +20,8 @@ fn put_range<'a>(
     y: usize,
 ) -> bool
     requires { ⌜ (AllTimed (now early) (now late)) × (y < mostNodes) ⌝ }
-    ensures { λ r. ⌜ flat r (now (weights .exit)) ≡ putBounds (now (early .entry)) (now (late .entry)) (rangeOf (now (early .entry)) (now (late .entry)) (eventOf y)) (now (weights .entry)) ⌝ }
+    ensures { λ r. ⌜ flat r (now (weights .exit)) ≡ putBounds (now (early .entry)) (now (late .entry))
+        (rangeOf (now (early .entry)) (now (late .entry)) (eventOf y)) (now (weights .entry)) ⌝ }
 {
     let latest = late[y];
     if put(weights, early, late, 0, y, latest, 0) {
@@ -39,7 +40,8 @@ fn put_place<'a>(
     k: usize,
 ) -> bool
     requires { ⌜ (AllTimed (now early) (now late)) × (2 + 2 * k < mostNodes) ⌝ }
-    ensures { λ r. ⌜ flat r (now (weights .exit)) ≡ putBounds (now (early .entry)) (now (late .entry)) (rangeOfPlace (now (early .entry)) (now (late .entry)) k) (now (weights .entry)) ⌝ }
+    ensures { λ r. ⌜ flat r (now (weights .exit)) ≡ putBounds (now (early .entry)) (now (late .entry)) (rangeOfPlace (now (early .entry)) (now (late .entry)) k)
+        (now (weights .entry)) ⌝ }
 {
     if put_range(weights, early, late, 1 + 2 * k) {
         return true;
@@ -55,7 +57,8 @@ fn put_ranges<'a>(
     count: usize,
 ) -> bool
     requires { ⌜ (AllTimed (now early) (now late)) × (2 * count < mostNodes) ⌝ }
-    ensures { λ r. ⌜ flat r (now (weights .exit)) ≡ putBounds (now (early .entry)) (now (late .entry)) (rangesOf (now (early .entry)) (now (late .entry)) count) (now (weights .entry)) ⌝ }
+    ensures { λ r. ⌜ flat r (now (weights .exit)) ≡ putBounds (now (early .entry)) (now (late .entry)) (rangesOf (now (early .entry)) (now (late .entry)) count)
+        (now (weights .entry)) ⌝ }
 {
     let mut left = count;
     while 0 < left {

@@ -1,5 +1,6 @@
 -- The laws of a plan as a value. Of one that is judged good the verdict, the calendar and the text are the plan's (`value-verdict`,
--- `value-calendar`, `value-text`); one that is refused has its refusal, no calendar and the refusal's line (`refused-verdict`, `refused-calendar`, `refused-text`).
+-- `value-calendar`, `value-text`); one that is refused has its refusal, no calendar and the refusal's line (`refused-verdict`, `refused-calendar`,
+-- `refused-text`).
 
 use mathlib.Core.Path.{_≡_, sym, ap, _∙_}
 use mathlib.Core.Option.{none, some}

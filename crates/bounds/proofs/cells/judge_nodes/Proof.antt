@@ -67,7 +67,8 @@ returns c =
     let early = timeAt (a .early .now) in
     let late = timeAt (a .late .now) in
     let answer : c .judge .result
-    ≡ judgedBy (between (early (a .z)) (late (a .y))) (between (late (a .z)) (early (a .y))) (between (late (a .z)) (late (a .y))) (between (early (a .z)) (early (a .y)))
+    ≡ judgedBy (between (early (a .z)) (late (a .y))) (between (late (a .z)) (early (a .y))) (between (late (a .z)) (late (a .y)))
+    (between (early (a .z)) (early (a .y)))
     (c .before .before .of .result)
     (c .before .of2 .result)
     (toZ w32 (ofZ w32 (a .w)))

@@ -14,7 +14,9 @@ use Rattle.bounds.proofs.cells.put.Statement.{statement}
 use Rattle.bounds.proofs.cells.put.Tie as tie
 
 returns : tie.Need-returns
-returns c = let s = c .before in putAt-none (s .args .early .now) (s .args .late .now) (s .args .y) (s .args .z) (s .args .v) (s .args .a) (s .args .weights .now) (is-mark (s .fits .v) (c .if1 .taken))
+returns c =
+    let s = c .before in putAt-none (s .args .early .now) (s .args .late .now) (s .args .y) (s .args .z) (s .args .v) (s .args .a) (s .args .weights .now)
+    (is-mark (s .fits .v) (c .if1 .taken))
 
 add-w : tie.Need-add-w
 add-w c = let s = c .before in sum-fits (s .fits .v) (s .fits .a) (s .pre .2 (no-mark (s .fits .v) (c .if1 .left)))
@@ -70,7 +72,9 @@ returns-3 c =
     let here = told-fits w32 (weightAt (s .args .weights .now) (s .args .y) (s .args .z)) (c .before .before .before .before .present .given) in
     let test = sum-test (s .fits .v) (s .fits .a) (s .pre .2 on) here (c .before .before .before .if2 .left) in
     let back = sum-back (s .fits .v) (s .fits .a) (s .pre .2 on) in
-    putAt-judged (s .args .early .now) (s .args .late .now) (s .args .y) (s .args .z) (s .args .v) (s .args .a) (s .args .weights .now) Contradiction on test (ap (judgedAt (s .args .early .now) (s .args .late .now) (s .args .y) (s .args .z)) (sym back) ∙ sym (c .before .before .judge-nodes .ensures) ∙ c .enum-told .given .1)
+    putAt-judged (s .args .early .now) (s .args .late .now) (s .args .y) (s .args .z) (s .args .v) (s .args .a) (s .args .weights .now) Contradiction on test
+    (ap (judgedAt (s .args .early .now) (s .args .late .now) (s .args .y) (s .args .z)) (sym back) ∙ sym (c .before .before .judge-nodes .ensures)
+    ∙ c .enum-told .given .1)
 
 returns-4 : tie.Need-returns-4
 returns-4 c =
@@ -79,7 +83,9 @@ returns-4 c =
     let here = told-fits w32 (weightAt (s .args .weights .now) (s .args .y) (s .args .z)) (c .before .before .before .before .present .given) in
     let test = sum-test (s .fits .v) (s .fits .a) (s .pre .2 on) here (c .before .before .before .if2 .left) in
     let back = sum-back (s .fits .v) (s .fits .a) (s .pre .2 on) in
-    putAt-judged (s .args .early .now) (s .args .late .now) (s .args .y) (s .args .z) (s .args .v) (s .args .a) (s .args .weights .now) LeftOut on test (ap (judgedAt (s .args .early .now) (s .args .late .now) (s .args .y) (s .args .z)) (sym back) ∙ sym (c .before .before .judge-nodes .ensures) ∙ c .enum-told2 .given .1)
+    putAt-judged (s .args .early .now) (s .args .late .now) (s .args .y) (s .args .z) (s .args .v) (s .args .a) (s .args .weights .now) LeftOut on test
+    (ap (judgedAt (s .args .early .now) (s .args .late .now) (s .args .y) (s .args .z)) (sym back) ∙ sym (c .before .before .judge-nodes .ensures)
+    ∙ c .enum-told2 .given .1)
 
 returns-5 : tie.Need-returns-5
 returns-5 c =
@@ -88,7 +94,10 @@ returns-5 c =
     let here = told-fits w32 (weightAt (s .args .weights .now) (s .args .y) (s .args .z)) (c .before .before .before .before .present .given) in
     let test = sum-test (s .fits .v) (s .fits .a) (s .pre .2 on) here (c .before .before .before .if2 .left) in
     let back = sum-back (s .fits .v) (s .fits .a) (s .pre .2 on) in
-    ap (λ w. flat false (set (s .args .weights .now) (place (s .args .y) (s .args .z)) w)) back ∙ putAt-judged (s .args .early .now) (s .args .late .now) (s .args .y) (s .args .z) (s .args .v) (s .args .a) (s .args .weights .now) Kept on test (ap (judgedAt (s .args .early .now) (s .args .late .now) (s .args .y) (s .args .z)) (sym back) ∙ sym (c .before .before .judge-nodes .ensures) ∙ c .enum-told3 .given .1)
+    ap (λ w. flat false (set (s .args .weights .now) (place (s .args .y) (s .args .z)) w)) back
+    ∙ putAt-judged (s .args .early .now) (s .args .late .now) (s .args .y) (s .args .z) (s .args .v) (s .args .a) (s .args .weights .now) Kept on test
+    (ap (judgedAt (s .args .early .now) (s .args .late .now) (s .args .y) (s .args .z)) (sym back) ∙ sym (c .before .before .judge-nodes .ensures)
+    ∙ c .enum-told3 .given .1)
 
 pub put-spec : {M : Type 1} → statement M
 put-spec =

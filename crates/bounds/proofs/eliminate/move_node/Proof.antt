@@ -54,7 +54,8 @@ back-same c =
     let s = c .before .before .before in
     let a = s .args in
     ap (λ r. getD (r .weights) (place (a .f) (a .y)) (pos 0)) (first-is c)
-    ∙ putAt-same (a .early .now) (a .late .now) (a .y) (a .s) (weightAt (a .weights .now) (a .y) (a .f)) (a .less) (a .weights .now) (place (a .f) (a .y)) (pos 0)
+    ∙ putAt-same (a .early .now) (a .late .now) (a .y) (a .s) (weightAt (a .weights .now) (a .y) (a .f)) (a .less) (a .weights .now) (place (a .f) (a .y))
+    (pos 0)
     (λ e. omega (arith, s .pre .before, s .pre .order, s .pre .node))
 
 returns : tie.Need-returns

@@ -52,7 +52,8 @@ returns c =
     let r = c .before .move-node in
     sym
     (l .inv .1
-    ∙ eachNode-stop (movedAt (a .early .now) (a .late .now) (a .s) (a .f) (toZ w32 (ofZ w32 (a .less))) (toZ w32 (ofZ w32 (a .more)))) (a .f) (l .y) (l .weights)
+    ∙ eachNode-stop (movedAt (a .early .now) (a .late .now) (a .s) (a .f) (toZ w32 (ofZ w32 (a .less))) (toZ w32 (ofZ w32 (a .more)))) (a .f) (l .y)
+    (l .weights)
     (r .result)
     (r .last .0)
     (omega arith)
@@ -96,7 +97,8 @@ returns-2 c =
     let l = c .before .loop in
     sym
     (l .inv .1
-    ∙ eachNode-end (movedAt (a .early .now) (a .late .now) (a .s) (a .f) (toZ w32 (ofZ w32 (a .less))) (toZ w32 (ofZ w32 (a .more)))) (a .f) (l .y) (l .weights) (omega arith))
+    ∙ eachNode-end (movedAt (a .early .now) (a .late .now) (a .s) (a .f) (toZ w32 (ofZ w32 (a .less))) (toZ w32 (ofZ w32 (a .more)))) (a .f) (l .y) (l .weights)
+    (omega arith))
     ∙ ap₂ (λ less more. movedRows (a .early .now) (a .late .now) (a .s) (a .f) less more (a .weights .now)) (toZ-ofZ (s .fits .less)) (toZ-ofZ (s .fits .more))
 
 pub move-nodes-spec : {M : Type 1} → statement M

@@ -91,73 +91,85 @@ returns-2 : tie.Need-returns-2
 unfolding judgedBy
 returns-2 c =
     let s = c .before .before .before .before .before in
-    rw (c .before .before .before .enum-told .given .1, c .before .enum-told3 .given .1) (simp (toZ-ofZ (s .fits .w), toZ-ofZ (s .fits .low)) at (c .from-origin .ensures))
+    rw (c .before .before .before .enum-told .given .1, c .before .enum-told3 .given .1)
+    (simp (toZ-ofZ (s .fits .w), toZ-ofZ (s .fits .low)) at (c .from-origin .ensures))
 
 returns-3 : tie.Need-returns-3
 unfolding judgedBy
 returns-3 c =
     let s = c .before .before .before .before .before in
-    rw (c .before .before .before .enum-told .given .1, c .before .enum-told4 .given .1) (simp (toZ-ofZ (s .fits .w), toZ-ofZ (s .fits .low)) at (c .from-origin2 .ensures))
+    rw (c .before .before .before .enum-told .given .1, c .before .enum-told4 .given .1)
+    (simp (toZ-ofZ (s .fits .w), toZ-ofZ (s .fits .low)) at (c .from-origin2 .ensures))
 
 returns-4 : tie.Need-returns-4
 unfolding judgedBy
 returns-4 c =
     let s = c .before .before .before .before .before .before in
-    rw (c .before .before .before .before .y .given .1, c .before .enum-told5 .given .1) (simp (toZ-ofZ (s .fits .w), toZ-ofZ (s .fits .low)) at (c .from-origin3 .ensures))
+    rw (c .before .before .before .before .y .given .1, c .before .enum-told5 .given .1)
+    (simp (toZ-ofZ (s .fits .w), toZ-ofZ (s .fits .low)) at (c .from-origin3 .ensures))
 
 returns-5 : tie.Need-returns-5
 unfolding judgedBy
 returns-5 c =
     let s = c .before .before .before .before .before .before .before .before in
-    rw (c .before .before .before .before .before .before .y .given .1, c .before .before .before .z .given .1, eq-eqb _ _ (c .before .if1 .taken)) (simp (toZ-ofZ (s .fits .w)) at (c .at-least2 .ensures))
+    rw (c .before .before .before .before .before .before .y .given .1, c .before .before .before .z .given .1, eq-eqb _ _ (c .before .if1 .taken))
+    (simp (toZ-ofZ (s .fits .w)) at (c .at-least2 .ensures))
 
 returns-6 : tie.Need-returns-6
 unfolding judgedBy
 returns-6 c =
     let s = c .before .before .before .before .before .before .before .before in
-    rw (c .before .before .before .before .before .before .y .given .1, c .before .before .before .z .given .1, ne-eqb _ _ (c .before .if1 .left)) (simp (toZ-ofZ (s .fits .w), toZ-ofZ (s .fits .low), toZ-ofZ (s .fits .high)) at (c .apart .ensures))
+    rw (c .before .before .before .before .before .before .y .given .1, c .before .before .before .z .given .1, ne-eqb _ _ (c .before .if1 .left))
+    (simp (toZ-ofZ (s .fits .w), toZ-ofZ (s .fits .low), toZ-ofZ (s .fits .high)) at (c .apart .ensures))
 
 returns-7 : tie.Need-returns-7
 unfolding judgedBy
 returns-7 c =
     let s = c .before .before .before .before .before .before .before .before in
-    rw (c .before .before .before .before .before .before .y .given .1, c .before .before .before .z2 .given .1, eq-eqb _ _ (c .before .if2 .taken)) (simp (toZ-ofZ (s .fits .w), toZ-ofZ (s .fits .late)) at (c .at-least3 .ensures))
+    rw (c .before .before .before .before .before .before .y .given .1, c .before .before .before .z2 .given .1, eq-eqb _ _ (c .before .if2 .taken))
+    (simp (toZ-ofZ (s .fits .w), toZ-ofZ (s .fits .late)) at (c .at-least3 .ensures))
 
 returns-8 : tie.Need-returns-8
 unfolding judgedBy
 returns-8 c =
     let s = c .before .before .before .before .before .before .before .before in
-    rw (c .before .before .before .before .before .before .y .given .1, c .before .before .before .z2 .given .1, ne-eqb _ _ (c .before .if2 .left)) (simp (toZ-ofZ (s .fits .w), toZ-ofZ (s .fits .low), toZ-ofZ (s .fits .high)) at (c .apart2 .ensures))
+    rw (c .before .before .before .before .before .before .y .given .1, c .before .before .before .z2 .given .1, ne-eqb _ _ (c .before .if2 .left))
+    (simp (toZ-ofZ (s .fits .w), toZ-ofZ (s .fits .low), toZ-ofZ (s .fits .high)) at (c .apart2 .ensures))
 
 returns-9 : tie.Need-returns-9
 unfolding judgedBy
 returns-9 c =
     let s = c .before .before .before .before .before .before in
-    rw (c .before .before .before .before .y2 .given .1, c .before .enum-told6 .given .1) (simp (toZ-ofZ (s .fits .w), toZ-ofZ (s .fits .low)) at (c .from-origin4 .ensures))
+    rw (c .before .before .before .before .y2 .given .1, c .before .enum-told6 .given .1)
+    (simp (toZ-ofZ (s .fits .w), toZ-ofZ (s .fits .low)) at (c .from-origin4 .ensures))
 
 returns-10 : tie.Need-returns-10
 unfolding judgedBy
 returns-10 c =
     let s = c .before .before .before .before .before .before .before .before in
-    rw (c .before .before .before .before .before .before .y2 .given .1, c .before .before .before .z3 .given .1, eq-eqb _ _ (c .before .if3 .taken)) (simp (toZ-ofZ (s .fits .w), toZ-ofZ (s .fits .early)) at (c .at-least4 .ensures))
+    rw (c .before .before .before .before .before .before .y2 .given .1, c .before .before .before .z3 .given .1, eq-eqb _ _ (c .before .if3 .taken))
+    (simp (toZ-ofZ (s .fits .w), toZ-ofZ (s .fits .early)) at (c .at-least4 .ensures))
 
 returns-11 : tie.Need-returns-11
 unfolding judgedBy
 returns-11 c =
     let s = c .before .before .before .before .before .before .before .before in
-    rw (c .before .before .before .before .before .before .y2 .given .1, c .before .before .before .z3 .given .1, ne-eqb _ _ (c .before .if3 .left)) (simp (toZ-ofZ (s .fits .w), toZ-ofZ (s .fits .low), toZ-ofZ (s .fits .high)) at (c .apart3 .ensures))
+    rw (c .before .before .before .before .before .before .y2 .given .1, c .before .before .before .z3 .given .1, ne-eqb _ _ (c .before .if3 .left))
+    (simp (toZ-ofZ (s .fits .w), toZ-ofZ (s .fits .low), toZ-ofZ (s .fits .high)) at (c .apart3 .ensures))
 
 returns-12 : tie.Need-returns-12
 unfolding judgedBy
 returns-12 c =
     let s = c .before .before .before .before .before .before .before .before in
-    rw (c .before .before .before .before .before .before .y2 .given .1, c .before .before .before .z4 .given .1, eq-eqb _ _ (c .before .if4 .taken)) (simp (toZ-ofZ (s .fits .w)) at (c .at-least5 .ensures))
+    rw (c .before .before .before .before .before .before .y2 .given .1, c .before .before .before .z4 .given .1, eq-eqb _ _ (c .before .if4 .taken))
+    (simp (toZ-ofZ (s .fits .w)) at (c .at-least5 .ensures))
 
 returns-13 : tie.Need-returns-13
 unfolding judgedBy
 returns-13 c =
     let s = c .before .before .before .before .before .before .before .before in
-    rw (c .before .before .before .before .before .before .y2 .given .1, c .before .before .before .z4 .given .1, ne-eqb _ _ (c .before .if4 .left)) (simp (toZ-ofZ (s .fits .w), toZ-ofZ (s .fits .low), toZ-ofZ (s .fits .high)) at (c .apart4 .ensures))
+    rw (c .before .before .before .before .before .before .y2 .given .1, c .before .before .before .z4 .given .1, ne-eqb _ _ (c .before .if4 .left))
+    (simp (toZ-ofZ (s .fits .w), toZ-ofZ (s .fits .low), toZ-ofZ (s .fits .high)) at (c .apart4 .ensures))
 
 pub judge-spec : {M : Type 1} → statement M
 judge-spec =

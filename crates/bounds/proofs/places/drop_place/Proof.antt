@@ -31,7 +31,8 @@ drop-start-requires c κs =
     let g = finish-standing p (a .early .now) (a .late .now) (a .k) (a .weights .now) (s .pre .stands) in
     record {
       plan = p;
-      stands = start-standing p (a .early .now) (a .late .now) (a .k) (a .weights .now) (f .result) (f .last .0) (f .ensures .0 p g) g (c .before .if1 .left) (f .ensures .1);
+      stands = start-standing p (a .early .now) (a .late .now) (a .k) (a .weights .now) (f .result) (f .last .0) (f .ensures .0 p g) g (c .before .if1 .left)
+          (f .ensures .1);
     }
 
 returns-2 : tie.Need-returns-2

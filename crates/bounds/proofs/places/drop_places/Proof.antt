@@ -45,7 +45,11 @@ drop-place-requires c κs =
     let a = s .args in
     let l = c .before .before .loop in
     let p = s .pre .plan in
-    record { plan = p; stands = last-standing p (a .early .now) (a .late .now) (a .low) (l .left) (l .weights) (c .before .loop-test .taken) (l .inv .2 p (s .pre .stands) .1) }
+    record {
+      plan = p;
+      stands = last-standing p (a .early .now) (a .late .now) (a .low) (l .left) (l .weights) (c .before .loop-test .taken)
+          (l .inv .2 p (s .pre .stands) .1);
+    }
 
 returns : tie.Need-returns Inv-loop μ-loop
 returns c =

@@ -11,7 +11,9 @@ returns : tie.Need-returns
 returns c = shift-this (c .before .before .args .p) (c .before .before .args .k) (c .if1 .taken)
 
 returns-2 : tie.Need-returns-2
-returns-2 c = let a = c .before .before .before .args in toZ-ofZ (told-fits w32 (a .p .window) (c .struct-told .given .0 .1)) ∙ shift-next (a .p) (a .k) (c .before .if1 .left)
+returns-2 c =
+    let a = c .before .before .before .args in toZ-ofZ (told-fits w32 (a .p .window) (c .struct-told .given .0 .1))
+    ∙ shift-next (a .p) (a .k) (c .before .if1 .left)
 
 pub shift-at-spec : {M : Type 1} → statement M
 shift-at-spec = tie.close (tie.spec returns returns-2)

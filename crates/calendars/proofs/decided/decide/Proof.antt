@@ -3,6 +3,7 @@
 use mathlib.Core.Path.{_∙_}
 use native.Mathlib.Omega.{arith}
 use borrow.Author.Needs.{needs}
+use Rattle.plan.specs.declared.Plan.{Plan}
 use Rattle.calendars.specs.DecisionsLaws.{SettledIn, verdict-settled, made-settled, made-refused, made-unsettled}
 use Rattle.calendars.proofs.decided.decide.Statement.{statement}
 use Rattle.calendars.proofs.decided.decide.Tie as tie
@@ -19,13 +20,25 @@ settle-requires c κs = (c .before .before .before .before .before .before .time
 enum-told : tie.Need-enum-told
 enum-told c = search needs
 
+-- after `settle`: the times, and the plan
+abbrev timed : tie.After-settle → tie.After-times-of
+timed s = s .before .before .before .before .before .before .before
+
+abbrev planOf : tie.After-settle → Plan
+planOf s = timed s .before .args .p
+
 calendar-of-requires : tie.Need-calendar-of-requires
 calendar-of-requires c κs =
     let s = c .before .before .before .before .before .before in
-    let p = c .before .before .before .before .before .before .before .before .before .before .before .before .before .before .args .p in
+    let p = planOf s in
     let o = verdict-settled p (s .settle .result) (s .settle .ensures .0) _ (c .before .before .before .before .enum-told .given .1) in
     let joins = s .settle .ensures .1 .0 in (
-      record { clocked = c .before .before .before .before .before .before .before .before .before .before .before .before .before .times-of .ensures; room = omega arith; size = s .settle .ensures .1 .1; fit = joins .fits _ (o .set) (o .is) },
+      record {
+        clocked = timed s .times-of .ensures;
+        room = omega arith;
+        size = s .settle .ensures .1 .1;
+        fit = joins .fits _ (o .set) (o .is);
+      },
       joins .sound _ (o .set) (o .is),
     )
 
@@ -44,20 +57,20 @@ empty-calendar-requires-2 c κs = search needs
 returns : tie.Need-returns
 returns c =
     let s = c .before .before .before .before .before .before .before in
-    let p = c .before .before .before .before .before .before .before .before .before .before .before .before .before .before .before .args .p in
+    let p = planOf s in
     let o = verdict-settled p (s .settle .result) (s .settle .ensures .0) _ (c .before .before .before .before .before .enum-told .given .1) in
     (s .settle .ensures .0, c .calendar-of .ensures ∙ made-settled p _ (o .set) _ (o .is) (s .settle .ensures .1 .0 .joins _ (o .set) (o .is)))
 
 returns-2 : tie.Need-returns-2
 returns-2 c =
     let s = c .before .before .before in
-    let p = c .before .before .before .before .before .before .before .before .before .before .before .args .p in
+    let p = planOf s in
     (s .settle .ensures .0, c .empty-calendar .ensures p ∙ made-refused p _ (s .settle .ensures .0) _ (c .before .enum-told2 .given .1))
 
 returns-3 : tie.Need-returns-3
 returns-3 c =
     let s = c .before .before .before in
-    let p = c .before .before .before .before .before .before .before .before .before .before .before .args .p in
+    let p = planOf s in
     (s .settle .ensures .0, c .empty-calendar2 .ensures p ∙ made-unsettled p _ (s .settle .ensures .0) _ (c .before .enum-told3 .given .1))
 
 pub decide-spec : {M : Type 1} → statement M

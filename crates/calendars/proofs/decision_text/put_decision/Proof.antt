@@ -28,8 +28,10 @@ returns : tie.Need-returns
 returns c =
     let a = c .before .before .before .before .before .before .before .before .before .args in
     let t = c .before .before .before .before .before .before .before .tell-verdict in
-    let w = c .before .before .put-calendar .ensures in
-    (stored-as (text-settled (a .jobs) (a .v) (a .c) (t .result) (t .ensures) _ (c .before .before .before .before .before .told .given .1)) (w .0), omega (arith, w .1))
+    let w = c .before .before .put-calendar .ensures in (
+      stored-as (text-settled (a .jobs) (a .v) (a .c) (t .result) (t .ensures) _ (c .before .before .before .before .before .told .given .1)) (w .0),
+      omega (arith, w .1),
+    )
 
 same-length-2 : tie.Need-same-length-2
 same-length-2 c = search needs
@@ -38,8 +40,10 @@ returns-2 : tie.Need-returns-2
 returns-2 c =
     let a = c .before .before .before .before .before .before .before .before .before .args in
     let t = c .before .before .before .before .before .before .before .tell-verdict in
-    let w = c .before .before .put-refused .ensures in
-    (stored-as (text-refused (a .jobs) (a .v) (a .c) (t .result) (t .ensures) _ (c .before .before .before .before .before .told2 .given .1)) (w .0), omega (arith, w .1))
+    let w = c .before .before .put-refused .ensures in (
+      stored-as (text-refused (a .jobs) (a .v) (a .c) (t .result) (t .ensures) _ (c .before .before .before .before .before .told2 .given .1)) (w .0),
+      omega (arith, w .1),
+    )
 
 pub put-decision-spec : {M : Type 1} → statement M
 put-decision-spec =

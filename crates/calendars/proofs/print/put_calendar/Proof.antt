@@ -20,10 +20,19 @@ put-jobs-requires c κs = search needs
 same-length : tie.Need-same-length
 same-length c = search needs
 
+-- after the first line, and after the jobs: what stands before
+abbrev entry : tie.After-put-count-line → tie.Start
+entry c = c .before .before .before .before
+
+abbrev settled : tie.After-put-jobs → tie.After-put-count-line
+settled c = c .before .before .before .before
+
 returns : tie.Need-returns
 unfolding bytes calendarText
 returns c =
-    (stored-keyed (bytes "settled=") (pos (c .before .before .before .before .before .before .before .before .before .before .args .m)) (c .before .before .before .before .before .before .put-count-line .ensures .0) (c .before .before .put-jobs .ensures .0), omega arith)
+    let jobs = c .before .before in
+    let line = settled jobs in
+    (stored-keyed (bytes "settled=") (pos (entry line .args .m)) (line .put-count-line .ensures .0) (jobs .put-jobs .ensures .0), omega arith)
 
 pub put-calendar-spec : {M : Type 1} → statement M
 put-calendar-spec = tie.close (tie.spec slice-aggregate-put-count-line put-count-line-requires put-jobs-requires same-length returns)

@@ -26,17 +26,25 @@ put-count-requires c κs = search needs
 same-length : tie.Need-same-length
 same-length c = search needs
 
+-- after the letter, the kind and the job: what stands before
+abbrev parts : tie.After-put-byte → tie.After-event-job
+parts c = c .before .before
+
+abbrev letter : tie.After-put-byte2 → tie.After-put-byte
+letter c = c .before .before .before .before
+
+abbrev kind : tie.After-put-count → tie.After-put-byte2
+kind c = c .before .before .before .before
+
 returns : tie.Need-returns
 returns c =
-    let l = c .before .before .before .before .before .before .before .before .before .before in
-    let a = l .before .before .before .before .before .before .args in
-    stored-event
-    (a .jobs)
-    (a .e)
-    (l .before .before .before .before .event-letter .ensures)
-    (l .before .before .before .event-kind .ensures)
-    (l .before .before .event-job .ensures)
-    (stored-append (stored-append (l .put-byte .ensures) (c .before .before .before .before .before .before .put-byte2 .ensures)) (c .before .before .put-count .ensures))
+    let third = c .before .before in
+    let second = kind third in
+    let first = letter second in
+    let p = parts first in
+    let a = p .before .before .before .before .args in
+    stored-event (a .jobs) (a .e) (p .before .before .event-letter .ensures) (p .before .event-kind .ensures) (p .event-job .ensures)
+    (stored-append (stored-append (first .put-byte .ensures) (second .put-byte2 .ensures)) (third .put-count .ensures))
 
 pub put-event-spec : {M : Type 1} → statement M
 put-event-spec =

@@ -36,21 +36,28 @@ put-line-requires-2 c κs = search needs
 same-length : tie.Need-same-length
 same-length c = search needs
 
+-- after each line: what stands before
+abbrev entry : tie.After-put-count-line → tie.Start
+entry c = c .before .before .before .before .before .before
+
+abbrev numbered : tie.After-put-line → tie.After-put-count-line
+numbered c = c .before .before .before .before .before .before
+
+abbrev low : tie.After-put-line2 → tie.After-put-line
+low c = c .before .before .before .before .before .before
+
 returns : tie.Need-returns
 unfolding bytes
 returns c =
-    let a = c .before .before .before .before .before .before .before .before .before .before .before .before .before .before .before .before .before .before .before .before .args in
-    let f = told-fits w64 (a .terms .low .0) (c .before .before .before .before .before .before .before .before .before .struct-told .given .0 .1) in
-    let g = told-fits w64 (a .terms .high .0) (c .before .before .before .struct-told2 .given .0 .1) in (
-      stored-keyed
-          (bytes "job=")
-          (pos (a .i + 1))
-          (c .before .before .before .before .before .before .before .before .before .before .before .before .before .before .put-count-line .ensures .0)
-          (stored-keyed
-          (bytes "low=")
-          (a .terms .low .0)
-          (stored-told (λ (z : ℤ). keyed (bytes "low=") z []) f (c .before .before .before .before .before .before .before .before .put-line .ensures .0))
-          (stored-told (λ (z : ℤ). keyed (bytes "high=") z []) g (c .before .before .put-line2 .ensures .0))),
+    let high-line = c .before .before in
+    let low-line = low high-line in
+    let number-line = numbered low-line in
+    let a = entry number-line .args in
+    let f = told-fits w64 (a .terms .low .0) (low-line .before .struct-told .given .0 .1) in
+    let g = told-fits w64 (a .terms .high .0) (high-line .before .struct-told2 .given .0 .1) in (
+      stored-keyed (bytes "job=") (pos (a .i + 1)) (number-line .put-count-line .ensures .0)
+          (stored-keyed (bytes "low=") (a .terms .low .0) (stored-told (λ (z : ℤ). keyed (bytes "low=") z []) f (low-line .put-line .ensures .0))
+          (stored-told (λ (z : ℤ). keyed (bytes "high=") z []) g (high-line .put-line2 .ensures .0))),
       omega arith,
     )
 

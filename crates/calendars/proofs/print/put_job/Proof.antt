@@ -34,10 +34,19 @@ put-terms-requires-2 c κs = search needs
 same-length : tie.Need-same-length
 same-length c = search needs
 
+-- after the terms of each side: what stands before
+abbrev head : tie.After-put-terms → tie.After-put-head
+head c = c .before .before .before .before .before
+
+abbrev below : tie.After-put-terms2 → tie.After-put-terms
+below c = c .before .before .before .before .before
+
 returns : tie.Need-returns
 unfolding bytes jobText
 returns c = (
-  stored-append (c .before .before .before .before .before .before .before .before .before .before .before .before .put-head .ensures .0) (stored-append (c .before .before .before .before .before .before .before .put-terms .ensures .0) (c .before .before .put-terms2 .ensures .0)),
+  let most = c .before .before in
+      let least = below most in
+      stored-append (head least .put-head .ensures .0) (stored-append (least .put-terms .ensures .0) (most .put-terms2 .ensures .0)),
   omega arith,
 )
 

@@ -30,8 +30,14 @@ count-requires c κs = search needs
 loop-holds : tie.Need-loop-holds Inv-loop μ-loop
 loop-holds c =
     let a = c .before .before .before .args in
-    let all : a .count - 0 ≡ a .count = omega arith in
-    (omega arith, omega arith, refl, sym (c .count .ensures), rw all (left-whole (a .out .now) (a .at) (termLines (a .jobs) (a .key .now) (bitsOf (a .set)) (a .cs .now) (a .row) 0 (a .count))))
+    let all : a .count - 0 ≡ a .count = omega arith in (
+      omega arith,
+      omega arith,
+      refl,
+      sym (c .count .ensures),
+      rw all (left-whole (a .out .now) (a .at)
+          (termLines (a .jobs) (a .key .now) (bitsOf (a .set)) (a .cs .now) (a .row) 0 (a .count))),
+    )
 
 next-requires : tie.Need-next-requires Inv-loop μ-loop
 next-requires c κs = omega arith
@@ -43,7 +49,8 @@ returns : tie.Need-returns Inv-loop μ-loop
 returns c =
     let l = c .before .before .before .loop in
     let a = c .before .before .before .before .before .before .before .args in (
-      left-terms (a .jobs) (a .key .now) (bitsOf (a .set)) (a .cs .now) (a .row) (l .e) (c .before .next .result) (a .count) (c .before .next .ensures) (l .inv .4) (omega arith),
+      left-terms (a .jobs) (a .key .now) (bitsOf (a .set)) (a .cs .now) (a .row) (l .e) (c .before .next .result) (a .count) (c .before .next .ensures)
+          (l .inv .4) (omega arith),
       omega arith,
     )
 
@@ -90,11 +97,16 @@ loop-again c =
     let did = m .put-term in
     let f = told-fits w32 (getD (a .cs .now) (a .row + k) (pos 0)) (m .before .before .c .given) in (
       omega arith,
-      omega
-          (arith, stored-term-near (a .jobs) (a .key .now) k (omega (arith, start m .pre)) (omega (arith, start m .pre)) f (did .ensures), next-is m, nextEvent-from (bitsOf (a .set)) (l .e)),
+      omega (
+        arith,
+        stored-term-near (a .jobs) (a .key .now) k (omega (arith, start m .pre)) (omega (arith, start m .pre)) f (did .ensures),
+        next-is m,
+        nextEvent-from (bitsOf (a .set)) (l .e),
+      ),
       did .kept .0 ∙ l .inv .2,
       omega (arith, l .inv .3, countFrom-next (bitsOf (a .set)) (l .e) k (next-is m) (omega (arith, start m .pre))),
-      left-term (a .jobs) (a .key .now) (bitsOf (a .set)) (a .cs .now) (a .row) (l .e) k (a .count) (next-is m) (l .inv .4) (omega (arith, start m .pre)) (omega (arith, start m .pre)) f (did .ensures),
+      left-term (a .jobs) (a .key .now) (bitsOf (a .set)) (a .cs .now) (a .row) (l .e) k (a .count) (next-is m) (l .inv .4) (omega (arith, start m .pre))
+          (omega (arith, start m .pre)) f (did .ensures),
     )
 
 same-length-2 : tie.Need-same-length-2 Inv-loop μ-loop
@@ -105,7 +117,8 @@ returns-2 c =
     let l = c .before .loop in
     let a = c .before .before .before .before .before .args in
     let none : countFrom (bitsOf (a .set)) (l .e) (mostBits - l .e) ≡ 0 = omega (arith, l .inv .3) in (
-      left-terms (a .jobs) (a .key .now) (bitsOf (a .set)) (a .cs .now) (a .row) (l .e) _ (a .count) refl (l .inv .4) (omega (arith, countFrom-none (bitsOf (a .set)) (l .e) none)),
+      left-terms (a .jobs) (a .key .now) (bitsOf (a .set)) (a .cs .now) (a .row) (l .e) _ (a .count) refl (l .inv .4)
+          (omega (arith, countFrom-none (bitsOf (a .set)) (l .e) none)),
       omega arith,
     )
 

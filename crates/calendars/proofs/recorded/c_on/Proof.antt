@@ -32,7 +32,9 @@ returns-2 c =
     let b = c .before .before .before in
     let w = b .pre in
     let on = no-mark (b .fits .w) (c .before .before .if1 .left) in
-    (let back : toZ w32 (ofZ w32 (toZ w32 0 -ℤ toZ w32 (ofZ w32 (b .args .w)))) ≡ negℤ (b .args .w) = omega (wholes, w .least on, w .greatest on, sub-result c, split-neg (b .args .w)) in back) ∙ cOn-below (b .args .side) (b .args .w) (c .enum-told .given .1) on
+    (let back : toZ w32 (ofZ w32 (toZ w32 0 -ℤ toZ w32 (ofZ w32 (b .args .w))))
+    ≡ negℤ (b .args .w) = omega (wholes, w .least on, w .greatest on, sub-result c, split-neg (b .args .w)) in back)
+    ∙ cOn-below (b .args .side) (b .args .w) (c .enum-told .given .1) on
 
 returns-3 : tie.Need-returns-3
 returns-3 c =

@@ -12,7 +12,15 @@ cast-length : tie.Need-cast-length
 cast-length c = cast-wide tt (c .fits .window)
 
 sub-own : tie.Need-sub-own
-sub-own c = omega (wholes, cast-bound c, cast-length c, fits-least (c .fits .w), fits-below (c .fits .w), fits-least (c .fits .window), fits-below (c .fits .window))
+sub-own c = omega (
+  wholes,
+  cast-bound c,
+  cast-length c,
+  fits-least (c .fits .w),
+  fits-below (c .fits .w),
+  fits-least (c .fits .window),
+  fits-below (c .fits .window),
+)
 
 returns : tie.Need-returns
 returns c = omega (wholes, cast-bound c, cast-length c, sub-own c)

@@ -15,7 +15,16 @@ sub-on-run : tie.Need-sub-on-run
 sub-on-run c = omega (wholes, cast-bound c, fits-least (c .fits .w), fits-below (c .fits .w))
 
 sub-own : tie.Need-sub-own
-sub-own c = omega (wholes, cast-bound c, cast-length c, sub-on-run c, fits-least (c .fits .w), fits-below (c .fits .w), fits-least (c .fits .window), fits-below (c .fits .window))
+sub-own c = omega (
+  wholes,
+  cast-bound c,
+  cast-length c,
+  sub-on-run c,
+  fits-least (c .fits .w),
+  fits-below (c .fits .w),
+  fits-least (c .fits .window),
+  fits-below (c .fits .window),
+)
 
 returns : tie.Need-returns
 returns c = omega (wholes, cast-bound c, cast-length c, sub-on-run c, sub-own c, split-neg (c .args .w))

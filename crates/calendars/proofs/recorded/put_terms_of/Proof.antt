@@ -83,7 +83,8 @@ returns c =
     ∙ ap (λ (k : ℕ). getD (a .weights .now) k (pos 0)) row in
     let from-origin = toZ-ofZ (told-fits w32 (getD (a .weights .now) end (pos 0)) (c .before .before .from-origin .given))
     ∙ ap (λ (k : ℕ). getD (a .weights .now) k (pos 0)) column in (
-      termsOf-is (a .p) (s .pre .0) (a .i) (s .pre .1) (a .weights .now) (s .pre .2) (c .before .low-of .result) (c .high-of .result) (first .result) (second .result)
+      termsOf-is (a .p) (s .pre .0) (a .i) (s .pre .1) (a .weights .now) (s .pre .2) (c .before .low-of .result) (c .high-of .result) (first .result)
+          (second .result)
           (c .before .low-of .ensures ∙ ap₂ (λ (w v : ℤ). negℤ w -ℤ v) to-origin window)
           (c .high-of .ensures ∙ ap₂ (λ (w v : ℤ). w -ℤ v) from-origin window)
           (first .ensures .0)

@@ -44,10 +44,14 @@ element-copy-out-result-2 : tie.Need-element-copy-out-result-2
 element-copy-out-result-2 c = search needs
 
 returns : tie.Need-returns
-returns c = let a = c .before .before .before .args in toZ-ofZ (told-fits w32 (weightAt (a .weights .now) (a .s) (a .e + 1)) (c .result .given)) ∙ weightOn-below (a .side) (a .weights .now) (a .s) (a .e) (c .before .enum-told .given .1)
+returns c =
+    let a = c .before .before .before .args in toZ-ofZ (told-fits w32 (weightAt (a .weights .now) (a .s) (a .e + 1)) (c .result .given))
+    ∙ weightOn-below (a .side) (a .weights .now) (a .s) (a .e) (c .before .enum-told .given .1)
 
 returns-2 : tie.Need-returns-2
-returns-2 c = let a = c .before .before .before .args in toZ-ofZ (told-fits w32 (weightAt (a .weights .now) (a .e + 1) (a .s)) (c .result2 .given)) ∙ weightOn-above (a .side) (a .weights .now) (a .s) (a .e) (c .before .enum-told2 .given .1)
+returns-2 c =
+    let a = c .before .before .before .args in toZ-ofZ (told-fits w32 (weightAt (a .weights .now) (a .e + 1) (a .s)) (c .result2 .given))
+    ∙ weightOn-above (a .side) (a .weights .now) (a .s) (a .e) (c .before .enum-told2 .given .1)
 
 pub weight-on-spec : {M : Type 1} → statement M
 weight-on-spec =

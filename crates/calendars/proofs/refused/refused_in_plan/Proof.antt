@@ -1,4 +1,6 @@
 -- `refused_in_plan`: by what the reader answered and how the verdict is told, `told-lines`, `told-settled-alone`, `told-verdict`. Nothing comes after the plan.
+use Prim.Native.Nat.{ℕ}
+use mathlib.Core.List.{List}
 use mathlib.Core.Path.{refl, sym, ap, _∙_}
 use denote.Ref.{now}
 use Rattle.rounds.specs.Rounds.{verdictTold}
@@ -48,12 +50,20 @@ enum-told-3 c = search needs
 tell-refusal-requires-2 : tie.Need-tell-refusal-requires-2
 tell-refusal-requires-2 c κs = search needs
 
+-- after the verdict was told: the reading, and the text that was read
+abbrev read : tie.After-tell-verdict → tie.After-read-plan
+read c = c .before .before .before .before .before
+
+abbrev textOf : tie.After-read-plan → List ℕ
+textOf c = now (c .before .before .args .s)
+
 returns-2 : tie.Need-returns-2
 returns-2 c =
-    let r = c .before .before .before .before .before .before .before .before .before .before .read-plan in
-    let s = now (c .before .before .before .before .before .before .before .before .before .before .before .before .args .s) in
-    let q = c .before .before .before .before .before .before .before .before .enum-told .given .1 in
-    let v = sym (ap verdictTold (c .before .before .before .before .before .before .decide .ensures .0)) ∙ sym (c .before .before .before .before .before .tell-verdict .ensures) ∙ c .before .before .before .enum-told3 .given .1 in
+    let w = c .before .before .before .before .before in
+    let r = read w .read-plan in
+    let s = textOf (read w) in
+    let q = w .before .before .before .enum-told .given .1 in
+    let v = sym (ap verdictTold (w .before .decide .ensures .0)) ∙ sym (w .tell-verdict .ensures) ∙ c .before .before .before .enum-told3 .given .1 in
     let t = told-settled-alone s (r .result) (r .ensures) q _ v (r .result .answer) q in
     let e = c .tell-refusal2 .ensures in
     (e .0 ∙ t .part-is, (e .1 .0 ∙ t .number-is, e .1 .1 ∙ t .value-is))
@@ -63,10 +73,11 @@ tell-refusal-requires-3 c κs = search needs
 
 returns-3 : tie.Need-returns-3
 returns-3 c =
-    let r = c .before .before .before .before .before .before .before .before .before .before .before .read-plan in
-    let s = now (c .before .before .before .before .before .before .before .before .before .before .before .before .before .args .s) in
-    let q = c .before .before .before .before .before .before .before .before .before .enum-told .given .1 in
-    let v = sym (ap verdictTold (c .before .before .before .before .before .before .before .decide .ensures .0)) ∙ sym (c .before .before .before .before .before .before .tell-verdict .ensures) ∙ c .before .before .before .before .verdict .given .1 in
+    let w = c .before .before .before .before .before .before in
+    let r = read w .read-plan in
+    let s = textOf (read w) in
+    let q = w .before .before .before .enum-told .given .1 in
+    let v = sym (ap verdictTold (w .before .decide .ensures .0)) ∙ sym (w .tell-verdict .ensures) ∙ c .before .before .before .before .verdict .given .1 in
     let t = told-verdict (λ m. m) (λ x t. refl) s (planAlone s) (planAlone-tail s) (r .result) (r .ensures) _ _ refl q v _ refl in
     let e = c .tell-refusal3 .ensures in
     (e .0 ∙ t .part-is, (e .1 .0 ∙ t .number-is, e .1 .1 ∙ t .value-is))

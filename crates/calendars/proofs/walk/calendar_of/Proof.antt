@@ -36,24 +36,32 @@ add-k c =
     let most = c .before .before .before .before .before .before .before .pre .0 .clocked .accepted .jobs-most in
     omega arith
 
+-- with the weights lent: the entry, and the loop at its test
+abbrev entry : tie.After-weights2 Inv-loop μ-loop → tie.Start Inv-loop μ-loop
+entry c = c .before .before .before .before .before .before .before .before
+
+abbrev test : tie.After-weights2 Inv-loop μ-loop → tie.At-loop Inv-loop μ-loop
+test c = c .before .before
+
 -- the walk before a job, at the place that the job has
 some : (c : tie.After-weights2 Inv-loop μ-loop)
-    → let s = c .before .before .before .before .before .before .before .before in
-    let l = c .before .before .loop in
-    Walked (s .args .p) (rowsOf (nodes (s .args .p .jobs + s .args .p .jobs)) (s .args .joined .now)) (suc (l .left - 1)) (l .weights) (l .terms) (l .least) (l .most)
+    → let s = entry c in
+    let l = test c .loop in
+    Walked (s .args .p) (rowsOf (nodes (s .args .p .jobs + s .args .p .jobs)) (s .args .joined .now)) (suc (l .left - 1)) (l .weights) (l .terms) (l .least)
+    (l .most)
 some c =
-    let s = c .before .before .before .before .before .before .before .before in
-    let l = c .before .before .loop in
+    let s = entry c in
+    let l = test c .loop in
     Walked-some (s .args .p) (s .pre .0 .clocked .accepted) _ (l .left) (l .weights) (l .terms) (l .least) (l .most) (c .before .loop-test .taken) (l .inv .0)
 
 -- the table before the job's finish stands
 finish-stands : (c : tie.After-weights2 Inv-loop μ-loop)
-    → let a = c .before .before .before .before .before .before .before .before .args in
-    let l = c .before .before .loop in
+    → let a = entry c .args in
+    let l = test c .loop in
     StandingOf (a .p) (a .early .now) (a .late .now) (suc (finishNode (a .p .jobs + (l .left - 1)))) (l .weights)
 finish-stands c =
-    let s = c .before .before .before .before .before .before .before .before in
-    let l = c .before .before .loop in
+    let s = entry c in
+    let l = test c .loop in
     let places = some c .places in
     record {
       clocked = s .pre .0 .clocked;
@@ -63,56 +71,64 @@ finish-stands c =
     }
 
 drop-finish-requires : tie.Need-drop-finish-requires Inv-loop μ-loop
-drop-finish-requires c κs = record { plan = c .before .before .before .before .before .before .before .before .args .p; stands = finish-stands c }
+drop-finish-requires c κs = record { plan = entry c .args .p; stands = finish-stands c }
 
 -- and the table before its start
 start-stands : (c : tie.After-drop-finish Inv-loop μ-loop)
-    → let a = c .before .before .before .before .before .before .before .before .before .args in
-    StandingOf (a .p) (a .early .now) (a .late .now) (suc (startNode (a .p .jobs + (c .before .before .before .loop .left - 1)))) (c .drop-finish .last .0)
+    → let a = entry (c .before) .args in
+    StandingOf (a .p) (a .early .now) (a .late .now) (suc (startNode (a .p .jobs + (test (c .before) .loop .left - 1)))) (c .drop-finish .last .0)
 start-stands c =
-    let s = c .before .before .before .before .before .before .before .before .before in
-    let l = c .before .before .before .loop in
+    let s = entry (c .before) in
+    let l = test (c .before) .loop in
     let places = some (c .before) .places in
     record {
       clocked = s .pre .0 .clocked;
       room = omega arith;
       size = c .drop-finish .ensures .1 ∙ l .inv .1;
-      fit = Walked-last (s .args .p) (s .pre .0 .clocked .accepted) _ (l .left - 1) (l .weights) (l .terms) (l .least) (l .most) (some (c .before)) (c .drop-finish .result) (c .drop-finish .last .0)
+      fit = Walked-last (s .args .p) (s .pre .0 .clocked .accepted) _ (l .left - 1) (l .weights) (l .terms) (l .least) (l .most) (some (c .before))
+          (c .drop-finish .result) (c .drop-finish .last .0)
           (c .drop-finish .ensures .0 (s .args .p) (finish-stands (c .before)));
     }
 
 put-terms-of-requires : tie.Need-put-terms-of-requires Inv-loop μ-loop
 put-terms-of-requires c κs =
-    let places = some (c .before .before .before .before) .places in
-    (c .before .before .before .before .before .before .before .before .before .before .before .before .pre .0 .clocked .accepted, omega arith, start-stands (c .before .before .before) .fit)
+    let places = some (c .before .before .before .before) .places in (
+      entry (c .before .before .before .before) .pre .0 .clocked .accepted,
+      omega arith,
+      start-stands (c .before .before .before) .fit,
+    )
 
 mul-terms : tie.Need-mul-terms Inv-loop μ-loop
 mul-terms c =
-    let places = some (c .before .before .before .before .before) .places in
-    let most = c .before .before .before .before .before .before .before .before .before .before .before .before .before .pre .0 .clocked .accepted .jobs-most in
+    let w = c .before .before .before .before .before in
+    let places = some w .places in
+    let most = entry w .pre .0 .clocked .accepted .jobs-most in
     omega arith
 
 array-set-from-terms : tie.Need-array-set-from-terms Inv-loop μ-loop
 array-set-from-terms c =
-    let places = some (c .before .before .before .before .before) .places in
-    let most = c .before .before .before .before .before .before .before .before .before .before .before .before .before .pre .0 .clocked .accepted .jobs-most in
+    let w = c .before .before .before .before .before in
+    let places = some w .places in
+    let most = entry w .pre .0 .clocked .accepted .jobs-most in
     omega arith
 
 drop-start-requires : tie.Need-drop-start-requires Inv-loop μ-loop
-drop-start-requires c κs = record { plan = c .before .before .before .before .before .before .before .before .before .before .before .before .before .before .args .p; stands = start-stands (c .before .before .before .before .before) }
+drop-start-requires c κs = let f = c .before .before .before .before .before in record { plan = entry (f .before) .args .p; stands = start-stands f }
 
 loop-less : tie.Need-loop-less Inv-loop μ-loop
 loop-less c = omega arith
 
 loop-again : tie.Need-loop-again Inv-loop μ-loop
 loop-again c =
-    let s = c .before .before .before .before .before .before .before .before .before .before .before .before .before .before .before in
-    let l = c .before .before .before .before .before .before .before .before .before .loop in
     let f = c .before .before .before .before .before .before in
+    let w = f .before in
+    let s = entry w in
+    let l = test w .loop in
     let did = c .before .before .put-terms-of in
     let started = c .drop-start in (
-      Walked-more (s .args .p) (s .pre .0 .clocked .accepted) _ (l .left - 1) (l .weights) (l .terms) (l .least) (l .most) (some (c .before .before .before .before .before .before .before)) (f .drop-finish .result) (f .drop-finish .last .0)
-          (f .drop-finish .ensures .0 (s .args .p) (finish-stands (c .before .before .before .before .before .before .before)))
+      Walked-more (s .args .p) (s .pre .0 .clocked .accepted) _ (l .left - 1) (l .weights) (l .terms) (l .least) (l .most)
+          (some w) (f .drop-finish .result) (f .drop-finish .last .0)
+          (f .drop-finish .ensures .0 (s .args .p) (finish-stands w))
           (started .result)
           (started .last .0)
           (started .ensures .0 (s .args .p) (start-stands f))
@@ -131,7 +147,8 @@ returns c =
     let l = c .before .loop in
     let none : l .left ≡ 0 = omega arith in
     Walked-end (s .args .p) (s .pre .0 .clocked .accepted) _ (l .weights) (l .terms) (l .least) (l .most)
-    (subst (λ (n : ℕ). Walked (s .args .p) (rowsOf (nodes (s .args .p .jobs + s .args .p .jobs)) (s .args .joined .now)) n (l .weights) (l .terms) (l .least) (l .most)) none (l .inv .0))
+    (subst (λ (n : ℕ). Walked (s .args .p) (rowsOf (nodes (s .args .p .jobs + s .args .p .jobs)) (s .args .joined .now)) n (l .weights) (l .terms) (l .least)
+    (l .most)) none (l .inv .0))
 
 pub calendar-of-spec : {M : Type 1} → statement M
 calendar-of-spec =

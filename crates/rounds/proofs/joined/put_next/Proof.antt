@@ -65,7 +65,8 @@ loop-again c =
     let r = c .before .put-next-row in (
       omega arith,
       l .inv .1
-          ∙ eachNode-past (nextRow (a .early .now) (a .late .now) (a .jobs) (toZ w32 (ofZ w32 (a .window))) (a .carried .now)) (1 + 2 * a .jobs) (l .y) (l .weights)
+          ∙ eachNode-past (nextRow (a .early .now) (a .late .now) (a .jobs) (toZ w32 (ofZ w32 (a .window))) (a .carried .now)) (1 + 2 * a .jobs) (l .y)
+          (l .weights)
           (r .result)
           (r .last .0)
           (omega arith)
@@ -80,7 +81,8 @@ returns-2 c =
     let l = c .before .loop in
     sym
     (l .inv .1
-    ∙ eachNode-end (nextRow (a .early .now) (a .late .now) (a .jobs) (toZ w32 (ofZ w32 (a .window))) (a .carried .now)) (1 + 2 * a .jobs) (l .y) (l .weights) (omega arith))
+    ∙ eachNode-end (nextRow (a .early .now) (a .late .now) (a .jobs) (toZ w32 (ofZ w32 (a .window))) (a .carried .now)) (1 + 2 * a .jobs) (l .y) (l .weights)
+    (omega arith))
     ∙ ap (λ w. nextRows (a .early .now) (a .late .now) (a .jobs) w (a .carried .now) (a .weights .now)) (toZ-ofZ (s .fits .window))
 
 pub put-next-spec : {M : Type 1} → statement M

@@ -96,7 +96,8 @@ returns c =
     (toZ-ofZ (told-fits w32 (weightAt (a .carried .now) (a .y) (a .z)) (c .before .before .before .before .before .before .v .given)))
     (apart-is (c .before .before))
     ∙ ap₂
-    (λ u x. putAt (a .early .now) (a .late .now) u x (weightAt (a .carried .now) (a .y) (a .z)) (movedBy (a .window) (a .z) -ℤ movedBy (a .window) (a .y)) (a .weights .now))
+    (λ u x. putAt (a .early .now) (a .late .now) u x (weightAt (a .carried .now) (a .y) (a .z)) (movedBy (a .window) (a .z) -ℤ movedBy (a .window) (a .y))
+    (a .weights .now))
     (from .ensures)
     (to .ensures)
 

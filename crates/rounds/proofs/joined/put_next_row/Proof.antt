@@ -45,7 +45,8 @@ returns c =
     let r = c .before .put-next-cell in
     sym
     (l .inv .1
-    ∙ eachNode-stop (nextAt (a .early .now) (a .late .now) (a .jobs) (toZ w32 (ofZ w32 (a .window))) (a .carried .now) (a .y)) (1 + 2 * a .jobs) (l .z) (l .weights)
+    ∙ eachNode-stop (nextAt (a .early .now) (a .late .now) (a .jobs) (toZ w32 (ofZ w32 (a .window))) (a .carried .now) (a .y)) (1 + 2 * a .jobs) (l .z)
+    (l .weights)
     (r .result)
     (r .last .0)
     (omega arith)
@@ -66,7 +67,8 @@ loop-again c =
     let r = c .before .put-next-cell in (
       omega arith,
       l .inv .1
-          ∙ eachNode-past (nextAt (a .early .now) (a .late .now) (a .jobs) (toZ w32 (ofZ w32 (a .window))) (a .carried .now) (a .y)) (1 + 2 * a .jobs) (l .z) (l .weights)
+          ∙ eachNode-past (nextAt (a .early .now) (a .late .now) (a .jobs) (toZ w32 (ofZ w32 (a .window))) (a .carried .now) (a .y)) (1 + 2 * a .jobs) (l .z)
+          (l .weights)
           (r .result)
           (r .last .0)
           (omega arith)
@@ -81,7 +83,8 @@ returns-2 c =
     let l = c .before .loop in
     sym
     (l .inv .1
-    ∙ eachNode-end (nextAt (a .early .now) (a .late .now) (a .jobs) (toZ w32 (ofZ w32 (a .window))) (a .carried .now) (a .y)) (1 + 2 * a .jobs) (l .z) (l .weights) (omega arith))
+    ∙ eachNode-end (nextAt (a .early .now) (a .late .now) (a .jobs) (toZ w32 (ofZ w32 (a .window))) (a .carried .now) (a .y)) (1 + 2 * a .jobs) (l .z)
+    (l .weights) (omega arith))
     ∙ ap (λ w. nextRow (a .early .now) (a .late .now) (a .jobs) w (a .carried .now) (a .y) (a .weights .now)) (toZ-ofZ (s .fits .window))
 
 pub put-next-row-spec : {M : Type 1} → statement M

@@ -31,7 +31,8 @@ start-is c =
 returns : tie.Need-returns
 returns c =
     let a = c .before .before .before .args in
-    putBounds-stop (a .early .now) (a .late .now) (rangeOf (a .early .now) (a .late .now) (Start (a .k))) (rangeOf (a .early .now) (a .late .now) (Finish (a .k)))
+    putBounds-stop (a .early .now) (a .late .now) (rangeOf (a .early .now) (a .late .now) (Start (a .k)))
+    (rangeOf (a .early .now) (a .late .now) (Finish (a .k)))
     (a .weights .now)
     (c .before .put-range .result)
     (c .before .put-range .last .0)
@@ -53,7 +54,8 @@ returns-2 c =
     let r = c .before .before .before in
     c .put-range2 .ensures
     ∙ ap (λ e. putBounds (a .early .now) (a .late .now) (rangeOf (a .early .now) (a .late .now) e) (r .put-range .last .0)) (eventOf-finish (a .k))
-    ∙ putBounds-past (a .early .now) (a .late .now) (rangeOf (a .early .now) (a .late .now) (Start (a .k))) (rangeOf (a .early .now) (a .late .now) (Finish (a .k)))
+    ∙ putBounds-past (a .early .now) (a .late .now) (rangeOf (a .early .now) (a .late .now) (Start (a .k)))
+    (rangeOf (a .early .now) (a .late .now) (Finish (a .k)))
     (a .weights .now)
     (r .put-range .result)
     (r .put-range .last .0)

@@ -82,7 +82,8 @@ returns-2 c =
     c .put2 .ensures
     ∙ ap (λ v. putAt (a .early .now) (a .late .now) (a .y) 0 v (pos 0) (r .put .last .0)) (zero-less-back (timeAt (a .early .now) (a .y)) in-range)
     ∙ down-is (a .early .now) (a .late .now) (a .y) (r .put .last .0)
-    ∙ putBounds-past (a .early .now) (a .late .now) (upBound (a .late .now) (a .y) ∷ []) (downBound (a .early .now) (a .y) ∷ []) (a .weights .now) (r .put .result)
+    ∙ putBounds-past (a .early .now) (a .late .now) (upBound (a .late .now) (a .y) ∷ []) (downBound (a .early .now) (a .y) ∷ []) (a .weights .now)
+    (r .put .result)
     (r .put .last .0)
     (first-is r)
     (c .before .before .before .if1 .left)

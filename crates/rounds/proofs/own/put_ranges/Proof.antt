@@ -36,7 +36,8 @@ returns c =
     let r = c .before .put-place in
     sym
     (l .inv .1
-    ∙ places-stop (rangesOf-places (a .early .now) (a .late .now)) (a .early .now) (a .late .now) (l .left) (l .weights) (r .result) (r .last .0) (omega arith) (r .ensures)
+    ∙ places-stop (rangesOf-places (a .early .now) (a .late .now)) (a .early .now) (a .late .now) (l .left) (l .weights) (r .result) (r .last .0) (omega arith)
+    (r .ensures)
     (c .if1 .taken))
 
 loop-less : tie.Need-loop-less Inv-loop μ-loop
@@ -49,7 +50,8 @@ loop-again c =
     let r = c .before .put-place in (
       let most = l .inv .0 in omega arith,
       l .inv .1
-          ∙ places-past (rangesOf-places (a .early .now) (a .late .now)) (a .early .now) (a .late .now) (l .left) (l .weights) (r .result) (r .last .0) (omega arith) (r .ensures)
+          ∙ places-past (rangesOf-places (a .early .now) (a .late .now)) (a .early .now) (a .late .now) (l .left) (l .weights) (r .result) (r .last .0)
+          (omega arith) (r .ensures)
           (c .if1 .left),
     )
 

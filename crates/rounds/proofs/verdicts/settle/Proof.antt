@@ -20,14 +20,17 @@ module _ (c : tie.After-put-own) where
   abbrev start : tie.Start
   start = c .before .before
 
-  own-ensures : flat (c .put-own .result) (c .put-own .last .0) ≡ putBounds (start .args .early .now) (start .args .late .now) (ownBounds (start .args .p)) noBounds
+  own-ensures : flat (c .put-own .result) (c .put-own .last .0) ≡ putBounds (start .args .early .now) (start .args .late .now) (ownBounds (start .args .p))
+      noBounds
   own-ensures = c .put-own .ensures ∙ ap (putBounds (start .args .early .now) (start .args .late .now) (ownBounds (start .args .p))) (start .pre .1)
 
   own-length : length (c .put-own .last .0) ≡ cells
-  own-length = ap (λ r. length (r .weights)) own-ensures ∙ putBounds-length (start .args .early .now) (start .args .late .now) (ownBounds (start .args .p)) noBounds ∙ length-replicate cells noBound
+  own-length = ap (λ r. length (r .weights)) own-ensures ∙ putBounds-length (start .args .early .now) (start .args .late .now) (ownBounds (start .args .p))
+      noBounds ∙ length-replicate cells noBound
 
   -- where it finds no contradiction, the array holds C(0)
-  own-put : c .put-own .result ≡ false → flat false (c .put-own .last .0) ≡ putBounds (start .args .early .now) (start .args .late .now) (ownBounds (start .args .p)) noBounds
+  own-put : c .put-own .result ≡ false → flat false (c .put-own .last .0)
+      ≡ putBounds (start .args .early .now) (start .args .late .now) (ownBounds (start .args .p)) noBounds
   own-put f = ap (λ r. flat r (c .put-own .last .0)) (sym f) ∙ own-ensures
 
 returns : tie.Need-returns
@@ -35,7 +38,8 @@ returns c =
     let o = c .before in
     let s = start o in
     let a = s .args in
-    let none = first-none (a .p) (own-none (a .p) (a .early .now) (a .late .now) (s .pre .0) (o .put-own .result) (o .put-own .last .0) (own-ensures o) (c .if1 .taken)) in
+    let none = first-none (a .p) (own-none (a .p) (a .early .now) (a .late .now) (s .pre .0) (o .put-own .result) (o .put-own .last .0) (own-ensures o)
+    (c .if1 .taken)) in
     (verdict-none (a .p) 1 none, (none-on (a .p) 1 _ none, own-length o))
 
 put-between-requires : tie.Need-put-between-requires
@@ -46,14 +50,17 @@ between-length : (c : tie.After-put-between) → length (c .put-between .last .0
 between-length c =
     let o = c .before .before .before .before in
     let a = start o .args in
-    ap (λ r. length (r .weights)) (c .put-between .ensures) ∙ putBounds-length (a .early .now) (a .late .now) (betweenBounds (a .p)) (o .put-own .last .0) ∙ own-length o
+    ap (λ r. length (r .weights)) (c .put-between .ensures) ∙ putBounds-length (a .early .now) (a .late .now) (betweenBounds (a .p)) (o .put-own .last .0)
+    ∙ own-length o
 
 contradicted-requires : tie.Need-contradicted-requires
 contradicted-requires c κs =
     let o = c .before .before .before .before .before .before in
     let s = start o in
-    let a = s .args in
-    (own-standing (a .p) (a .early .now) (a .late .now) (s .pre .0) (o .put-own .last .0) (own-put o (c .before .before .before .before .before .if1 .left)), omega arith)
+    let a = s .args in (
+      own-standing (a .p) (a .early .now) (a .late .now) (s .pre .0) (o .put-own .last .0) (own-put o (c .before .before .before .before .before .if1 .left)),
+      omega arith,
+    )
 
 returns-2 : tie.Need-returns-2
 returns-2 c =
@@ -61,7 +68,8 @@ returns-2 c =
     let s = start o in
     let a = s .args in
     let r = c .before .before .before .put-between in
-    let none = between-none (a .p) (a .early .now) (a .late .now) (s .pre .0) (o .put-own .last .0) (own-put o (c .before .before .before .before .before .before .if1 .left)) (r .result) (r .last .0)
+    let none = between-none (a .p) (a .early .now) (a .late .now) (s .pre .0) (o .put-own .last .0)
+    (own-put o (c .before .before .before .before .before .before .if1 .left)) (r .result) (r .last .0)
     (r .ensures)
     (c .before .before .if2 .taken) in
     (c .contradicted .ensures ∙ verdict-none (a .p) _ none, (none-on (a .p) _ _ none, between-length (c .before .before .before)))
