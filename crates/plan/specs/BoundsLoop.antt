@@ -17,7 +17,7 @@ use Rattle.lines.specs.declared.Fault.the-variants as fault
 use Rattle.plan.specs.declared.Bound.{Bound}
 use Rattle.plan.specs.declared.BoundLine.the-variants as boundLine
 use Rattle.lines.specs.declared.Faulty.{Faulty}
-use Rattle.plan.specs.Limits.{mostBounds, leastC, greatestC}
+use Rattle.plan.specs.Limits.{mostBounds, leastC, greatestC, mostJobs}
 use Rattle.lines.specs.Reading.{read, next, line}
 use Rattle.plan.specs.PlanRead.{BoundParts, boundParts, isJob, isWrongPair, judgedBound, boundOf, linedBound, boundIn, boundsAfter, noBound, filled}
 use Rattle.plan.specs.Accepted.{BoundAccepted}
@@ -31,7 +31,7 @@ use Rattle.plan.specs.PlanLaws.{isJob-range, boundIn-read}
 
 -- ---- the pairs given, by their numbers
 
-module _ (jobs : ℕ) (few : jobs ≤ 9) (given : List Bound) (small : All (λ d. Small (d .a) (d .b)) given) where
+module _ (jobs : ℕ) (few : jobs ≤ mostJobs) (given : List Bound) (small : All (λ d. Small (d .a) (d .b)) given) where
   pub judgedBound-numbered : (d : Bound) → judgedBound jobs (isWrongNumbered (map pairOf given)) d ≡ judgedBound jobs (λ a b. isWrongPair a b given) d
   judgedBound-numbered d = by-jobs (isJob jobs (d .a .job)) (isJob jobs (d .b .job)) refl refl
     where
@@ -66,12 +66,12 @@ pub record BoundsPassed (s : List ℕ) (from number jobs bounds : ℕ) (bound : 
   pub place : at ≤ length s
   pub numbered : n ≡ number + i
   pub array : Filling mostBounds noBound bound i
-  pub codes : length given ≡ 64
+  pub codes : length given ≡ mostBounds
   pub coded : take i given ≡ map pairOf (take i bound)
   pub small : All (λ d. Small (d .a) (d .b)) (take i bound)
   pub told : boundsAfter jobs [] bounds (drop from s) number ≡ boundsAfter jobs (take i bound) (bounds - i) (drop at s) n
 
-pub BoundsPassed-start : (s : List ℕ) (from number jobs bounds : ℕ) → from ≤ length s → BoundsPassed s from number jobs bounds (replicate mostBounds noBound) (replicate 64 0) from number 0
+pub BoundsPassed-start : (s : List ℕ) (from number jobs bounds : ℕ) → from ≤ length s → BoundsPassed s from number jobs bounds (replicate mostBounds noBound) (replicate mostBounds 0) from number 0
 BoundsPassed-start s from number jobs bounds h =
     record {
       count = omega arith;
@@ -84,7 +84,7 @@ BoundsPassed-start s from number jobs bounds h =
       told = ap (λ (k : ℕ). boundsAfter jobs [] k (drop from s) number) (sym (sub-zero bounds));
     }
 
-module _ (s : List ℕ) (from number jobs bounds : ℕ) (bound : List Bound) (given : List ℕ) (at n i : ℕ) (few : jobs ≤ 9)
+module _ (s : List ℕ) (from number jobs bounds : ℕ) (bound : List Bound) (given : List ℕ) (at n i : ℕ) (few : jobs ≤ mostJobs)
     (p : BoundsPassed s from number jobs bounds bound given at n i) where
   one-more : i < bounds → bounds - i ≡ suc (bounds - (i + 1))
   one-more h = omega arith

@@ -9,6 +9,7 @@ use borrow.Author.Tests.{le-leb, lt-leb}
 use lib.IntN.{ℤ, pos, natAbs}
 use lib.ListN.{length, drop, length-drop, length-append}
 use lib.Seq.{drop-length}
+use Rattle.plan.specs.Limits.{mostBounds}
 use Rattle.text.specs.Bytes.{bytes}
 use Rattle.lines.specs.declared.Refusal.{Refusal}
 use Rattle.lines.specs.declared.Refusal.the-variants.{Form}
@@ -44,11 +45,11 @@ module _ (window : ℤ) (rounds last jobs : ℕ) (s : List ℕ) where
   planRest-jobs e = rw e
 
   module _ {js : List Job} {s₁ : List ℕ} {n₁ : ℕ} (e₁ : jobsAfter [] jobs s 5 ≡ read js s₁ n₁) where
-    pub planRest-count : {x : Refusal} {t : List ℕ} → numberLine (bytes "bounds=") (pos 0) (pos 64) s₁ n₁ ≡ refused x t → planRest window rounds last jobs s 5 ≡ refused x t
+    pub planRest-count : {x : Refusal} {t : List ℕ} → numberLine (bytes "bounds=") (pos 0) (pos mostBounds) s₁ n₁ ≡ refused x t → planRest window rounds last jobs s 5 ≡ refused x t
     unfolding next
     planRest-count e = rw (e₁, e)
 
-    module _ {z : ℤ} {s₂ : List ℕ} {n₂ : ℕ} (e₂ : numberLine (bytes "bounds=") (pos 0) (pos 64) s₁ n₁ ≡ read z s₂ n₂) where
+    module _ {z : ℤ} {s₂ : List ℕ} {n₂ : ℕ} (e₂ : numberLine (bytes "bounds=") (pos 0) (pos mostBounds) s₁ n₁ ≡ read z s₂ n₂) where
       pub planRest-bounds : {x : Refusal} {t : List ℕ} → boundsAfter jobs [] (natAbs z) s₂ n₂ ≡ refused x t → planRest window rounds last jobs s 5 ≡ refused x t
       unfolding next
       planRest-bounds e = rw (e₁, e₂, e)

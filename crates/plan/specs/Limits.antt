@@ -1,5 +1,5 @@
 -- The ranges of a plan's numbers, both ends included (document 01, 'Plan text', the table), and the sizes of its arrays.
-use Prim.Native.Nat.{ℕ}
+use Prim.Native.Nat.{ℕ, _+_, _*_}
 use lib.IntN.{ℤ, pos, negℤ}
 
 -- '`window=` | 1..86,400,000'
@@ -29,6 +29,10 @@ latestDeadline = pos 172800000
 -- '`bounds=` | 0..64'
 abbrev pub mostBounds : ℕ
 mostBounds = 64
+
+-- the lines of a plan: the first four, four for each job, the count of the bounds, and the bounds
+abbrev pub mostLines : ℕ
+mostLines = 4 + 4 * mostJobs + 1 + mostBounds
 
 -- 'c from -1,000,000,000 to 1,000,000,000'
 abbrev pub greatestC : ℤ

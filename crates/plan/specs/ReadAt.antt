@@ -83,4 +83,4 @@ firstFault f = record { window = pos 0; rounds = 0; last = 0; jobs = 0; went = w
 pub record FirstTold (s : List ℕ) (m : Reading Plan) (r : First) : Type 0 where
   pub told : m ≡ firstRest s r (r .went)
   pub place : atPlace (endAt (r .went)) ≤ length s
-  pub few : r .jobs ≤ 9
+  pub few : r .jobs ≤ mostJobs

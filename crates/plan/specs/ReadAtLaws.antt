@@ -10,7 +10,7 @@ use Rattle.plan.specs.declared.Went.{Went}
 use Rattle.plan.specs.declared.Went.the-variants as went
 use Rattle.lines.specs.ReadAt.{atFault}
 use Rattle.plan.specs.ReadAt.{wentAt, endAt}
-use Rattle.plan.specs.Limits.{longestWindow, mostJobs, longestRunning, latestDeadline}
+use Rattle.plan.specs.Limits.{longestWindow, mostJobs, longestRunning, latestDeadline, mostRounds, mostWindows}
 use Rattle.lines.specs.Reading.{read, refused, next, numberLine}
 use Rattle.plan.specs.PlanRead.{jobLines, planRest, planLines}
 
@@ -54,21 +54,21 @@ module _ (s : List ℕ) where
   planLines-first e = rw e
 
   module _ {window : ℤ} {s₁ : List ℕ} (e₁ : numberLine (bytes "window=") (pos 1) longestWindow s 1 ≡ read window s₁ 2) where
-    pub planLines-second : {x : Refusal} {t : List ℕ} → numberLine (bytes "rounds=") (pos 1) (pos 1000) s₁ 2 ≡ refused x t → planLines s 1 ≡ refused x t
+    pub planLines-second : {x : Refusal} {t : List ℕ} → numberLine (bytes "rounds=") (pos 1) (pos mostRounds) s₁ 2 ≡ refused x t → planLines s 1 ≡ refused x t
     unfolding planLines next
     planLines-second e = rw (e₁, e)
 
-    module _ {rounds : ℤ} {s₂ : List ℕ} (e₂ : numberLine (bytes "rounds=") (pos 1) (pos 1000) s₁ 2 ≡ read rounds s₂ 3) where
-      pub planLines-third : {x : Refusal} {t : List ℕ} → numberLine (bytes "last=") (pos 1) (pos 1000000000) s₂ 3 ≡ refused x t → planLines s 1 ≡ refused x t
+    module _ {rounds : ℤ} {s₂ : List ℕ} (e₂ : numberLine (bytes "rounds=") (pos 1) (pos mostRounds) s₁ 2 ≡ read rounds s₂ 3) where
+      pub planLines-third : {x : Refusal} {t : List ℕ} → numberLine (bytes "last=") (pos 1) (pos mostWindows) s₂ 3 ≡ refused x t → planLines s 1 ≡ refused x t
       unfolding planLines next
       planLines-third e = rw (e₁, e₂, e)
 
-      module _ {last : ℤ} {s₃ : List ℕ} (e₃ : numberLine (bytes "last=") (pos 1) (pos 1000000000) s₂ 3 ≡ read last s₃ 4) where
+      module _ {last : ℤ} {s₃ : List ℕ} (e₃ : numberLine (bytes "last=") (pos 1) (pos mostWindows) s₂ 3 ≡ read last s₃ 4) where
         pub planLines-fourth : (most : ℕ) {x : Refusal} {t : List ℕ} → numberLine (bytes "jobs=") (pos 1) (pos most) s₃ 4 ≡ refused x t → most ≡ mostJobs → planLines s 1 ≡ refused x t
         unfolding planLines next
-        planLines-fourth most {x} {t} e l = let d : numberLine (bytes "jobs=") (pos 1) (pos 9) s₃ 4 ≡ refused x t = rw l at e in rw (e₁, e₂, e₃, d)
+        planLines-fourth most {x} {t} e l = let d : numberLine (bytes "jobs=") (pos 1) (pos mostJobs) s₃ 4 ≡ refused x t = rw l at e in rw (e₁, e₂, e₃, d)
 
-        pub planLines-rest : {jobs : ℤ} {t : List ℕ} → numberLine (bytes "jobs=") (pos 1) (pos 9) s₃ 4 ≡ read jobs t 5
+        pub planLines-rest : {jobs : ℤ} {t : List ℕ} → numberLine (bytes "jobs=") (pos 1) (pos mostJobs) s₃ 4 ≡ read jobs t 5
             → planLines s 1 ≡ planRest window (natAbs rounds) (natAbs last) (natAbs jobs) t 5
         unfolding planLines next
         planLines-rest e = rw (e₁, e₂, e₃, e)

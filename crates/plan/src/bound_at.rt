@@ -9,6 +9,7 @@ use lines::fault_at;
 ghost use mathlib.Core.Path.{_≡_};
 ghost use Prim.Native.Nat.{_+_, _≤_};
 ghost use lib.ListN.{length, take, drop};
+ghost use Rattle.plan.specs.Limits.{mostBounds};
 ghost use Rattle.lines.specs.Reading.{line};
 ghost use Rattle.plan.specs.Pairs.{isWrongNumbered};
 ghost use Rattle.plan.specs.ReadAt.{boundLined, boundAt};
@@ -23,7 +24,7 @@ pub fn read_bound_at(
     given: &[u32; MOST_BOUNDS],
     n: usize,
 ) -> BoundRead
-    requires { ⌜ (at ≤ length (now s)) × ((n ≤ 64) × (n ≤ length (now given))) ⌝ }
+    requires { ⌜ (at ≤ length (now s)) × ((n ≤ mostBounds) × (n ≤ length (now given))) ⌝ }
     ensures { λ r. ⌜ line (boundLined jobs (isWrongNumbered (take n (now (given .entry))))) (drop at (now (s .entry))) number ≡ atTold (now (s .entry)) (number + 1) (boundAt r) ⌝ }
     ensures { λ r. ⌜ atPlace (boundAt r) ≤ length (now (s .entry)) ⌝ }
 {

@@ -20,7 +20,7 @@ ghost use lib.ListN.{length, take};
 ghost use Rattle.text.specs.Bytes.{bytes};
 ghost use Rattle.text.specs.Lines.{afterKey};
 ghost use Rattle.text.specs.Numbers.{within};
-ghost use Rattle.plan.specs.Limits.{leastC, greatestC};
+ghost use Rattle.plan.specs.Limits.{leastC, greatestC, mostBounds};
 ghost use Rattle.plan.specs.PlanRead.{isJob, boundParts, judgedBound, boundOf};
 ghost use Rattle.plan.specs.BoundNames.{nameTo, namesIn};
 ghost use Rattle.plan.specs.Pairs.{isWrongNumbered};
@@ -86,7 +86,7 @@ fn has_range(d: Bound, jobs: usize) -> bool
 
 // A bound that has its form, after n bounds whose pairs are given by their numbers: its numbers, and then its pair.
 pub fn judge_bound(d: Bound, jobs: usize, given: &[u32; MOST_BOUNDS], n: usize) -> BoundLine
-    requires { ⌜ (n ≤ 64) × (n ≤ length (now given)) ⌝ }
+    requires { ⌜ (n ≤ mostBounds) × (n ≤ length (now given)) ⌝ }
     ensures { λ r. ⌜ r ≡ judgedBound jobs (isWrongNumbered (take n (now (given .entry)))) d ⌝ }
 {
     if !has_range(d, jobs) {
@@ -102,7 +102,7 @@ pub fn judge_bound(d: Bound, jobs: usize, given: &[u32; MOST_BOUNDS], n: usize) 
 
 // A bound line without its LF, after n bounds whose pairs are given by their numbers.
 pub fn read_bound(line: &[u8], jobs: usize, given: &[u32; MOST_BOUNDS], n: usize) -> BoundLine
-    requires { ⌜ (n ≤ 64) × (n ≤ length (now given)) ⌝ }
+    requires { ⌜ (n ≤ mostBounds) × (n ≤ length (now given)) ⌝ }
     ensures { λ r. ⌜ r ≡ boundOf jobs (isWrongNumbered (take n (now (given .entry)))) (boundParts (afterKey (bytes "bound=") (now (line .entry)))) ⌝ }
 {
     let BoundNames::Value(a, b, at) = bound_names(line) else {

@@ -1,5 +1,6 @@
 // The first four lines of a plan.
 use crate::First;
+use crate::JOBS_AT_MOST;
 use crate::NumberLine;
 use crate::Went;
 use crate::number_line::number_fault;
@@ -63,7 +64,7 @@ pub fn read_first(s: &[u8]) -> First
     let NumberLine::Value(last, at4) = third else {
         return no_first(number_fault(third));
     };
-    let fourth = read_number_line(s, at4, 4, b"jobs=", 1, 9);
+    let fourth = read_number_line(s, at4, 4, b"jobs=", 1, JOBS_AT_MOST);
     let NumberLine::Value(jobs, at5) = fourth else {
         return no_first(number_fault(fourth));
     };

@@ -9,13 +9,14 @@ use lines::Refusal;
 ghost use mathlib.Core.Path.{_≡_};
 ghost use Prim.Native.Nat.{_+_, _≤_};
 ghost use lib.ListN.{length, drop};
+ghost use Rattle.plan.specs.Limits.{mostLines};
 ghost use Rattle.plan.specs.PlanRead.{jobLines};
 ghost use Rattle.plan.specs.ReadAt.{jobAt};
 ghost use Rattle.lines.specs.ReadAt.{atTold, atPlace, atFault};
 
 // The job whose lines begin at a place, and where the line after them begins.
 pub fn read_job(s: &[u8], at: usize, line: usize) -> JobLines
-    requires { ⌜ (at ≤ length (now s)) × (line ≤ 1000) ⌝ }
+    requires { ⌜ (at ≤ length (now s)) × (line ≤ mostLines) ⌝ }
     ensures { λ r. ⌜ jobLines (drop at (now (s .entry))) line ≡ atTold (now (s .entry)) (line + 1 + 1 + 1 + 1) (jobAt r) ⌝ }
     ensures { λ r. ⌜ atPlace (jobAt r) ≤ length (now (s .entry)) ⌝ }
 {

@@ -10,13 +10,14 @@ ghost use mathlib.Core.Path.{_≡_};
 ghost use mathlib.Core.List.{[]};
 ghost use Prim.Native.Nat.{_≤_};
 ghost use lib.ListN.{length, drop};
+ghost use Rattle.plan.specs.Limits.{mostJobs};
 ghost use Rattle.plan.specs.PlanRead.{jobsAfter};
 ghost use Rattle.plan.specs.ReadAt.{jobsTold, jobsFilled, endAt};
 ghost use Rattle.lines.specs.ReadAt.{atPlace};
 
 // So many jobs, whose lines begin at a place with line 5.
 pub fn read_jobs(s: &[u8], from: usize, jobs: usize) -> Jobs
-    requires { ⌜ (from ≤ length (now s)) × (jobs ≤ 9) ⌝ }
+    requires { ⌜ (from ≤ length (now s)) × (jobs ≤ mostJobs) ⌝ }
     ensures { λ r. ⌜ jobsAfter [] jobs (drop from (now (s .entry))) 5 ≡ jobsTold (now (s .entry)) jobs r ⌝ }
     ensures { λ r. ⌜ atPlace (endAt (r .went)) ≤ length (now (s .entry)) ⌝ }
     ensures { λ r. ⌜ jobsFilled jobs r ⌝ }

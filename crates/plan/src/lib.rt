@@ -11,6 +11,11 @@ pub const MOST_JOBS: usize = 9;
 
 pub const MOST_BOUNDS: usize = 64;
 
+// The same, as a number of a plan's line.
+const JOBS_AT_MOST: i32 = MOST_JOBS as i32;
+
+const BOUNDS_AT_MOST: i32 = MOST_BOUNDS as i32;
+
 // ---- the plan
 
 // The limits of one job, in whole milliseconds; release and deadline are on the window's own clock.

@@ -6,6 +6,7 @@ use crate::names::event_number;
 ghost use mathlib.Core.Path.{_≡_};
 ghost use Prim.Native.Nat.{_≤_};
 ghost use lib.ListN.{length, take};
+ghost use Rattle.plan.specs.Limits.{mostBounds};
 ghost use Rattle.plan.specs.Pairs.{pairNumber, isIn, isWrongNumbered};
 
 // A number that tells an ordered pair from every other.
@@ -17,7 +18,7 @@ pub fn pair_number(a: EventName, b: EventName) -> u32
 
 // Whether x is among the first n numbers. All of them are looked at, so that the machine can compare several at a time.
 fn is_in(x: u32, numbers: &[u32; MOST_BOUNDS], n: usize) -> bool
-    requires { ⌜ (n ≤ 64) × (n ≤ length (now numbers)) ⌝ }
+    requires { ⌜ (n ≤ mostBounds) × (n ≤ length (now numbers)) ⌝ }
     ensures { λ r. ⌜ r ≡ isIn x (take n (now (numbers .entry))) ⌝ }
 {
     let mut found = false;
@@ -33,7 +34,7 @@ fn is_in(x: u32, numbers: &[u32; MOST_BOUNDS], n: usize) -> bool
 
 // Whether A,B is a wrong pair after the first n pairs, which are given by their numbers.
 pub fn is_wrong_pair(a: EventName, b: EventName, given: &[u32; MOST_BOUNDS], n: usize) -> bool
-    requires { ⌜ (n ≤ 64) × (n ≤ length (now given)) ⌝ }
+    requires { ⌜ (n ≤ mostBounds) × (n ≤ length (now given)) ⌝ }
     ensures { λ r. ⌜ r ≡ isWrongNumbered (take n (now (given .entry))) a b ⌝ }
 {
     let first = a.letter;

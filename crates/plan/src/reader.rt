@@ -1,4 +1,5 @@
 // A plan's text, read.
+use crate::BOUNDS_AT_MOST;
 use crate::Bound;
 use crate::EventName;
 use crate::Job;
@@ -88,7 +89,7 @@ pub fn read_head(s: &[u8]) -> PlanRead
         return refused_plan(went_fault(jobs_went));
     };
     let number = 5 + 4 * jobs;
-    let line = read_number_line(s, at2, number, b"bounds=", 0, 64);
+    let line = read_number_line(s, at2, number, b"bounds=", 0, BOUNDS_AT_MOST);
     let NumberLine::Value(z, at3) = line else {
         return refused_plan(number_fault(line));
     };

@@ -26,6 +26,10 @@ answerLine (Started j i t) = bytes "started=" ++ turnText j i (t .0)
 answerLine (Final j i t) = bytes "final=" ++ turnText j i (t .0)
 answerLine (Refused x) = refusedLine x
 
+-- no answer line has more bytes
+abbrev pub longestAnswer : ℕ
+longestAnswer = 56
+
 -- the job of `started=j,i,T` and `final=j,i,T`; 0 where none is named
 abbrev pub answerJob : Answer → ℕ
 answerJob (Offered o) = 0

@@ -1,12 +1,13 @@
 -- A session from its plan on. What the reader of a plan answers is the session's output: its one line, where the plan is refused (`head-refused`), and else what
 -- its verdict says, from the place and the line where the plan ended (`head-accepted`).
-use Prim.Native.Nat.{ℕ, _≤_}
+use Prim.Native.Nat.{ℕ, _+_, _≤_}
 use mathlib.Core.Path.{_≡_, sym, ap}
 use mathlib.Core.List.{List}
 use native.Mathlib.Omega.{arith}
 use lib.ListN.{length, drop}
 use Rattle.lines.specs.declared.PlanAnswer.the-variants as planAnswer
 use Rattle.lines.specs.declared.Refusal.{Refusal}
+use Rattle.lines.specs.Reading.{longestText}
 use Rattle.lines.specs.Refusals.{refusedLine}
 use Rattle.plan.specs.declared.PlanRead.{PlanRead}
 use Rattle.plan.specs.PlanRead.{planHead}
@@ -23,8 +24,8 @@ pub record HeadRead (s : List ℕ) (h : PlanRead) : Type 0 where
   pub output : judgedSession (h .plan) (outcome (h .plan)) (drop (h .at) s) (h .line) ≡ dispatchOutput s
   pub accepted : Accepted (h .plan)
   pub placed : h .at ≤ length s
-  pub short : length s ≤ 65536
-  pub numbered : h .line ≤ 65537
+  pub short : length s ≤ longestText
+  pub numbered : h .line ≤ longestText + 1
 
 module _ (s : List ℕ) (h : PlanRead) (d : h ≡ planRead s (planHead s)) where
   pub head-accepted : h .answer ≡ planAnswer.Accepted → HeadRead s h

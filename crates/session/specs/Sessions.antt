@@ -20,7 +20,7 @@ use Rattle.runs.specs.declared.Answered.{Answered}
 use Rattle.runs.specs.declared.Run.{Run}
 use Rattle.runs.specs.Steps.{newRun, stepped}
 use Rattle.session.specs.StepRead.{stepLine}
-use Rattle.session.specs.AnswerText.{answerLine, endsSession}
+use Rattle.session.specs.AnswerText.{answerLine, longestAnswer, endsSession}
 
 -- ---- steps
 
@@ -63,10 +63,10 @@ sessionOf (refused x part) = refusedLine x
 abbrev pub dispatchOutput : List ℕ → List ℕ
 dispatchOutput s = sessionOf (planHead s)
 
--- ---- how long it is: a step has at least 8 bytes, and its answer at most 56
+-- ---- how long it is: a step has at least 8 bytes
 
 abbrev pub mostSessionBytes : ℕ
-mostSessionBytes = 7 * longestText + 56
+mostSessionBytes = 7 * longestText + longestAnswer
 
 -- the answer to a session text and a lent slice
 abbrev pub sessionAnswer : List ℕ → List ℕ → Written

@@ -1,4 +1,5 @@
 // The answer of a session whose plan was judged, written into a lent slice or refused by 12.
+use crate::LONGEST_ANSWER;
 use crate::steps::put_answers;
 use calendars::Calendar;
 use lines::Refusal;
@@ -13,11 +14,13 @@ ghost use mathlib.Core.Path.{_≡_};
 ghost use Prim.Native.Nat.{_+_, _*_, _-_, _≤_};
 ghost use lib.ListN.{length, drop};
 ghost use Rattle.text.specs.Lent.{Stored, written};
+ghost use Rattle.lines.specs.Reading.{longestText};
 ghost use Rattle.lines.specs.Refusals.{refusedLine};
 ghost use Rattle.rounds.specs.Rounds.{outcome};
 ghost use Rattle.lines.specs.declared.PlanAnswer.the-variants as planAnswer;
 ghost use Rattle.plan.specs.PlanRead.{planHead};
 ghost use Rattle.plan.specs.PlanAnswers.{planRead};
+ghost use Rattle.session.specs.AnswerText.{longestAnswer};
 ghost use Rattle.session.specs.Sessions.{judgedSession, dispatchOutput, sessionAnswer, mostSessionBytes};
 ghost use Rattle.lines.specs.Written.{writtenAs};
 ghost use Rattle.session.specs.Judged.{Judged};
@@ -33,11 +36,11 @@ fn put_session(
     out: &mut [u8],
 ) -> usize
     requires { ⌜ from ≤ length (now text) ⌝ }
-    requires { ⌜ length (now text) ≤ 65536 ⌝ }
-    requires { ⌜ line ≤ 65537 ⌝ }
+    requires { ⌜ length (now text) ≤ longestText ⌝ }
+    requires { ⌜ line ≤ longestText + 1 ⌝ }
     requires { ⌜ Judged p v c ⌝ }
     ensures { λ r. ⌜ Stored (now (out .entry)) 0 (judgedSession p (outcome p) (drop from (now (text .entry))) line) (now (out .exit)) r ⌝ }
-    ensures { λ r. ⌜ r + 7 * from ≤ 7 * length (now (text .entry)) + 56 ⌝ }
+    ensures { λ r. ⌜ r + 7 * from ≤ 7 * length (now (text .entry)) + longestAnswer ⌝ }
 {
     let told = tell_verdict(v);
     match told {
@@ -57,15 +60,15 @@ fn write_session(
     out: &mut [u8],
 ) -> Written
     requires { ⌜ from ≤ length (now text) ⌝ }
-    requires { ⌜ length (now text) ≤ 65536 ⌝ }
-    requires { ⌜ line ≤ 65537 ⌝ }
+    requires { ⌜ length (now text) ≤ longestText ⌝ }
+    requires { ⌜ line ≤ longestText + 1 ⌝ }
     requires { ⌜ Judged p v c ⌝ }
     ensures { λ r. ⌜ r ≡ writtenAs (judgedSession p (outcome p) (drop from (now (text .entry))) line) (now (out .entry)) ⌝ }
     ensures { λ _. ⌜ now (out .exit) ≡ written (judgedSession p (outcome p) (drop from (now (text .entry))) line) (now (out .entry)) ⌝ }
     ensures { λ _. ⌜ length (judgedSession p (outcome p) (drop from (now (text .entry))) line) ≤ mostSessionBytes ⌝ }
 {
     let steps = text.len() - from;
-    let most = 7 * steps + 56;
+    let most = 7 * steps + LONGEST_ANSWER;
     if most <= out.len() {
         let length = put_session(text, from, line, p, v, c, out);
         return Written::Length(length);

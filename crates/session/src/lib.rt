@@ -5,8 +5,11 @@ use lines::PlanAnswer;
 use lines::Refusal;
 use runs::Step;
 
-// No answer has more bytes: a step has at least 8, and its answer at most 56.
-pub const MOST_BYTES: usize = 7 * lines::LONGEST_TEXT + 56;
+// No step's answer has more bytes.
+const LONGEST_ANSWER: usize = 56;
+
+// No answer has more bytes: a step has at least 8.
+pub const MOST_BYTES: usize = 7 * lines::LONGEST_TEXT + LONGEST_ANSWER;
 
 // A step line as it was read: the step, or what the line lacks.
 pub enum StepLine {

@@ -8,7 +8,8 @@ ghost use Prim.Native.Nat.{_+_, _^_, _≤_};
 ghost use Rattle.text.specs.Bytes.{bytes};
 ghost use Rattle.text.specs.Numbers.{digits, decimal};
 ghost use Rattle.text.specs.Lent.{Stored};
-ghost use Rattle.session.specs.AnswerText.{turnText, offerLine, answerLine, answerJob, endsSession};
+ghost use Rattle.plan.specs.Limits.{mostJobs};
+ghost use Rattle.session.specs.AnswerText.{turnText, offerLine, answerLine, answerJob, longestAnswer, endsSession};
 
 // A time, and the byte behind it.
 fn put_ended_time(out: &mut [u8], at: usize, t: RunTime, end: u8) -> usize
@@ -23,7 +24,7 @@ fn put_ended_time(out: &mut [u8], at: usize, t: RunTime, end: u8) -> usize
 // Window, job and time, up to the line's end.
 fn put_turn(out: &mut [u8], at: usize, j: u64, i: usize, t: RunTime) -> usize
     requires { ⌜ at ≤ 2 ^ 60 ⌝ }
-    requires { ⌜ i ≤ 9 ⌝ }
+    requires { ⌜ i ≤ mostJobs ⌝ }
     ensures { λ r. ⌜ Stored (now (out .entry)) at (turnText j i (t .0)) (now (out .exit)) r ⌝ }
     ensures { λ r. ⌜ r ≤ at + 44 ⌝ }
 {
@@ -36,7 +37,7 @@ fn put_turn(out: &mut [u8], at: usize, j: u64, i: usize, t: RunTime) -> usize
 fn put_offered(out: &mut [u8], at: usize, o: Offer) -> usize
     requires { ⌜ at ≤ 2 ^ 60 ⌝ }
     ensures { λ r. ⌜ Stored (now (out .entry)) at (offerLine o) (now (out .exit)) r ⌝ }
-    ensures { λ r. ⌜ r ≤ at + 56 ⌝ }
+    ensures { λ r. ⌜ r ≤ at + longestAnswer ⌝ }
 {
     let from = o.from;
     let to = o.to;
@@ -48,9 +49,9 @@ fn put_offered(out: &mut [u8], at: usize, o: Offer) -> usize
 // The line of a start.
 fn put_started(out: &mut [u8], at: usize, j: u64, i: usize, t: RunTime) -> usize
     requires { ⌜ at ≤ 2 ^ 59 ⌝ }
-    requires { ⌜ i ≤ 9 ⌝ }
+    requires { ⌜ i ≤ mostJobs ⌝ }
     ensures { λ r. ⌜ Stored (now (out .entry)) at (bytes "started=" ++ turnText j i (t .0)) (now (out .exit)) r ⌝ }
-    ensures { λ r. ⌜ r ≤ at + 56 ⌝ }
+    ensures { λ r. ⌜ r ≤ at + longestAnswer ⌝ }
 {
     let turn = text::put_bytes(out, at, b"started=");
     put_turn(out, turn, j, i, t)
@@ -59,9 +60,9 @@ fn put_started(out: &mut [u8], at: usize, j: u64, i: usize, t: RunTime) -> usize
 // The line of a finish.
 fn put_final(out: &mut [u8], at: usize, j: u64, i: usize, t: RunTime) -> usize
     requires { ⌜ at ≤ 2 ^ 59 ⌝ }
-    requires { ⌜ i ≤ 9 ⌝ }
+    requires { ⌜ i ≤ mostJobs ⌝ }
     ensures { λ r. ⌜ Stored (now (out .entry)) at (bytes "final=" ++ turnText j i (t .0)) (now (out .exit)) r ⌝ }
-    ensures { λ r. ⌜ r ≤ at + 56 ⌝ }
+    ensures { λ r. ⌜ r ≤ at + longestAnswer ⌝ }
 {
     let turn = text::put_bytes(out, at, b"final=");
     put_turn(out, turn, j, i, t)
@@ -70,9 +71,9 @@ fn put_final(out: &mut [u8], at: usize, j: u64, i: usize, t: RunTime) -> usize
 // The line of an answer: at most seven bytes for each of the eight that a step has at least.
 pub fn put_answer(out: &mut [u8], at: usize, a: Answer) -> usize
     requires { ⌜ at ≤ 2 ^ 59 ⌝ }
-    requires { ⌜ answerJob a ≤ 9 ⌝ }
+    requires { ⌜ answerJob a ≤ mostJobs ⌝ }
     ensures { λ r. ⌜ Stored (now (out .entry)) at (answerLine a) (now (out .exit)) r ⌝ }
-    ensures { λ r. ⌜ r ≤ at + 56 ⌝ }
+    ensures { λ r. ⌜ r ≤ at + longestAnswer ⌝ }
 {
     match a {
         Answer::Offered(o) => put_offered(out, at, o),

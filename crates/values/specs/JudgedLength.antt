@@ -16,7 +16,7 @@ use Rattle.plan.specs.declared.Bound.{Bound}
 use Rattle.plan.specs.declared.Plan.{Plan}
 use Rattle.lines.specs.Reading.{longestText}
 use Rattle.plan.specs.EventNames.{nameBytes}
-use Rattle.lines.specs.Keyed.{keyed}
+use Rattle.lines.specs.Keyed.{longestKey, keyed}
 use Rattle.plan.specs.PlanWritten.{jobsText, boundsText, jobsOf, boundsOf, planText}
 use Rattle.lines.specs.KeyedLaws.{keyed-short, count-short}
 use Rattle.plan.specs.ListLaws.{All}
@@ -45,7 +45,7 @@ pub record PlanFits (p : Plan) : Type 0 where
   pub bound-fits : All BoundFits (boundsOf p)
 
 keyed-length : (key : List ℕ) → Key key → (z : ℤ) → length (decimal z) ≤ 20 → (s : List ℕ) → length (keyed key z s) ≤ 30 + length s
-keyed-length key q z h s = keyed-short key 9 z s (q .short) h
+keyed-length key q z h s = keyed-short key longestKey z s (q .short) h
 
 jobsText-length : (js : List Job) (s : List ℕ) → All JobFits js → length (jobsText js s) ≤ 120 * length js + length s
 unfolding jobsText

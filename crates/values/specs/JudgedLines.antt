@@ -40,7 +40,7 @@ use Rattle.plan.specs.Limits.{longestWindow, mostRounds, mostWindows, mostJobs,
 use Rattle.plan.specs.EventNames.{letterByte, kindByte, nameBytes, eventName}
 use Rattle.plan.specs.EventNameLaws.{eventName-back, eventName-long}
 use Rattle.plan.specs.PlanRead.{jobLines, jobsAfter, partsOf, boundParts, isJob, isWrongPair, judgedBound, boundOf, linedBound, boundIn, boundsAfter, planOf, planRest, planLines, nothingAfter}
-use Rattle.lines.specs.Keyed.{keyed}
+use Rattle.lines.specs.Keyed.{longestKey, keyed}
 use Rattle.plan.specs.PlanWritten.{jobsText, boundBytes, boundsText, jobsOf, boundsOf, trimmed, planText, refusalOf, judgedPlan}
 use Rattle.plan.specs.HeadLaws.{planHead-short}
 use Rattle.plan.specs.PlanLaws.{boundBytes-append}
@@ -107,7 +107,7 @@ Ending {A} {C} stop k = (r : Refusal) (s : List ℕ) → k (refused r s) ≡ sto
 -- no key has an LF, and none is long
 pub record Key (key : List ℕ) : Type 0 where
   pub bare : lenTo LF key ≡ length key
-  pub short : length key ≤ 9
+  pub short : length key ≤ longestKey
 
 pub record Keys : Type 0 where
   pub window : Key (bytes "window=")

@@ -111,7 +111,7 @@ module _ (jobs : ℕ) (isWrong : EventName → EventName → Bool) (n : ℕ) (d 
   boundJudged-formed h = rw h
 
 -- the pairs given, by their numbers
-boundJudged-numbered : (jobs : ℕ) → jobs ≤ 9 → (given : List Bound) → All (λ d. Small (d .a) (d .b)) given → (codes : List ℕ) → codes ≡ map pairOf given → (n : ℕ) (d : Bound)
+boundJudged-numbered : (jobs : ℕ) → jobs ≤ mostJobs → (given : List Bound) → All (λ d. Small (d .a) (d .b)) given → (codes : List ℕ) → codes ≡ map pairOf given → (n : ℕ) (d : Bound)
     → boundJudged jobs (isWrongNumbered codes) n d ≡ boundJudged jobs (λ a b. isWrongPair a b given) n d
 unfolding boundJudged
 boundJudged-numbered jobs few given small codes e n d = rw (e, judgedBound-numbered jobs few given small d)
@@ -121,12 +121,12 @@ boundJudged-numbered jobs few given small codes e n d = rw (e, judgedBound-numbe
 pub record BoundsHeld (p : Plan) (given : List ℕ) (n i : ℕ) : Type 0 where
   pub count : i ≤ p .bounds
   pub number : n ≡ 6 + 4 * p .jobs + i
-  pub codes : length given ≡ 64
+  pub codes : length given ≡ mostBounds
   pub coded : take i given ≡ map pairOf (take i (p .bound))
   pub small : All (λ d. Small (d .a) (d .b)) (take i (p .bound))
   pub left : boundsJudged (p .jobs) [] (6 + 4 * p .jobs) (boundsOf p) ≡ boundsJudged (p .jobs) (take i (p .bound)) n (drop i (boundsOf p))
 
-pub BoundsHeld-start : (p : Plan) → BoundsHeld p (replicate 64 0) (6 + 4 * p .jobs) 0
+pub BoundsHeld-start : (p : Plan) → BoundsHeld p (replicate mostBounds 0) (6 + 4 * p .jobs) 0
 BoundsHeld-start p = record { count = omega arith; number = omega arith; codes = refl; coded = refl; small = tt; left = refl }
 
 module _ (p : Plan) (q : Placed p) (few : p .jobs ≤ mostJobs) (few-bounds : p .bounds ≤ mostBounds) (given : List ℕ) (n i : ℕ) (h : BoundsHeld p given n i) where

@@ -13,6 +13,7 @@ ghost use mathlib.Core.Bool.{_&&_};
 ghost use mathlib.Core.List.{[]};
 ghost use Prim.Native.Nat.{_+_, _*_, _≤_};
 ghost use lib.ListN.{length, take};
+ghost use Rattle.plan.specs.Limits.{mostBounds, mostJobs};
 ghost use Rattle.values.specs.JudgedLines.{Placed};
 ghost use Rattle.plan.specs.Pairs.{isWrongNumbered};
 ghost use Rattle.values.specs.PlanJudged.{isOneDigit, lineJudged, boundJudged, boundsJudged};
@@ -48,7 +49,7 @@ fn judge_line(
     n: usize,
     line: usize,
 ) -> PlanAnswer
-    requires { ⌜ (n ≤ 64) × (n ≤ length (now given)) ⌝ }
+    requires { ⌜ (n ≤ mostBounds) × (n ≤ length (now given)) ⌝ }
     ensures { λ r. ⌜ r ≡ boundJudged jobs (isWrongNumbered (take n (now (given .entry)))) line d ⌝ }
 {
     if !has_form(d) {
@@ -60,7 +61,7 @@ fn judge_line(
 
 // The bounds of a plan, whose lines would follow the count of the bounds: the first that is refused. The pairs given are kept as numbers.
 pub fn judge_bounds(p: Plan) -> PlanAnswer
-    requires { ⌜ Placed p × ((p .jobs ≤ 9) × (p .bounds ≤ 64)) ⌝ }
+    requires { ⌜ Placed p × ((p .jobs ≤ mostJobs) × (p .bounds ≤ mostBounds)) ⌝ }
     ensures { λ r. ⌜ r ≡ boundsJudged (p .jobs) [] (6 + 4 * p .jobs) (boundsOf p) ⌝ }
 {
     let jobs = p.jobs;

@@ -6,6 +6,7 @@ use plan::Plan;
 ghost use mathlib.Core.Path.{_≡_};
 ghost use Prim.Native.Nat.{_≤_};
 ghost use lib.IntN.{pos};
+ghost use Rattle.plan.specs.Limits.{mostJobs, mostLines};
 ghost use Rattle.values.specs.JudgedLines.{Placed};
 ghost use Rattle.values.specs.PlanJudged.{numberJudged, jobJudged, jobsJudged};
 ghost use Rattle.plan.specs.PlanWritten.{jobsOf};
@@ -38,7 +39,7 @@ pub fn judge_count(z: u64, lo: u64, hi: u64, line: usize) -> PlanAnswer
 
 // A job whose first line would have a number: the first of its four lines that is out of range.
 fn judge_job(j: Job, line: usize) -> PlanAnswer
-    requires { ⌜ line ≤ 1000 ⌝ }
+    requires { ⌜ line ≤ mostLines ⌝ }
     ensures { λ r. ⌜ r ≡ jobJudged line j ⌝ }
 {
     let min = j.min;
@@ -65,7 +66,7 @@ fn judge_job(j: Job, line: usize) -> PlanAnswer
 
 // The jobs of a plan, whose lines would begin with line 5: the first that is refused.
 pub fn judge_jobs(p: Plan) -> PlanAnswer
-    requires { ⌜ Placed p × (p .jobs ≤ 9) ⌝ }
+    requires { ⌜ Placed p × (p .jobs ≤ mostJobs) ⌝ }
     ensures { λ r. ⌜ r ≡ jobsJudged 5 (jobsOf p) ⌝ }
 {
     let jobs = p.jobs;

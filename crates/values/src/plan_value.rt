@@ -1,4 +1,6 @@
 // A plan handed over as a value, judged as its text would be.
+use crate::BOUNDS_AT_MOST;
+use crate::JOBS_AT_MOST;
 use crate::bound_values::judge_bounds;
 use crate::job_values::judge_count;
 use crate::job_values::judge_jobs;
@@ -28,7 +30,7 @@ pub fn judge_plan(p: Plan) -> PlanAnswer
     let PlanAnswer::Accepted = last else {
         return last;
     };
-    let jobs = judge_count(p.jobs as u64, 1, 9, 4);
+    let jobs = judge_count(p.jobs as u64, 1, JOBS_AT_MOST, 4);
     let PlanAnswer::Accepted = jobs else {
         return jobs;
     };
@@ -37,7 +39,7 @@ pub fn judge_plan(p: Plan) -> PlanAnswer
         return all_jobs;
     };
     let line = 5 + 4 * p.jobs;
-    let bounds = judge_count(p.bounds as u64, 0, 64, line);
+    let bounds = judge_count(p.bounds as u64, 0, BOUNDS_AT_MOST, line);
     let PlanAnswer::Accepted = bounds else {
         return bounds;
     };

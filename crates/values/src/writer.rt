@@ -14,7 +14,8 @@ use plan::Plan;
 ghost use mathlib.Core.Path.{_≡_};
 ghost use mathlib.Core.List.{[], _∷_, _++_};
 ghost use lib.ListN.{length, take};
-ghost use Prim.Native.Nat.{_+_, _^_, _≤_};
+ghost use Prim.Native.Nat.{_+_, _*_, _^_, _≤_};
+ghost use Rattle.plan.specs.Limits.{mostJobs, mostBounds};
 ghost use Rattle.text.specs.Lent.{Stored, written};
 ghost use Rattle.plan.specs.EventNames.{letterByte, kindByte, nameBytes};
 ghost use Rattle.plan.specs.PlanWritten.{jobsText, boundsText, planText};
@@ -41,7 +42,7 @@ fn put_job(out: &mut [u8], at: usize, j: Job) -> usize
 fn put_jobs(out: &mut [u8], at: usize, jobs: usize, job: [Job; MOST_JOBS]) -> usize
     requires { ⌜ at ≤ 2 ^ 58 ⌝ }
     ensures { λ r. ⌜ Stored (now (out .entry)) at (jobsText (take jobs job) []) (now (out .exit)) r ⌝ }
-    ensures { λ r. ⌜ r ≤ at + 1080 ⌝ }
+    ensures { λ r. ⌜ r ≤ at + 120 * mostJobs ⌝ }
 {
     let mut end = at;
     let mut i: usize = 0;
@@ -109,7 +110,7 @@ fn put_bound(out: &mut [u8], at: usize, d: Bound) -> usize
 fn put_bounds(out: &mut [u8], at: usize, bounds: usize, bound: [Bound; MOST_BOUNDS]) -> usize
     requires { ⌜ at ≤ 2 ^ 58 ⌝ }
     ensures { λ r. ⌜ Stored (now (out .entry)) at (boundsText (take bounds bound)) (now (out .exit)) r ⌝ }
-    ensures { λ r. ⌜ r ≤ at + 4672 ⌝ }
+    ensures { λ r. ⌜ r ≤ at + 73 * mostBounds ⌝ }
 {
     let mut end = at;
     let mut i: usize = 0;

@@ -8,6 +8,7 @@ use lib.ListN.{length}
 use lib.Signed.{_≤ℤ_}
 use mir.Facts.{toZ-ofZ}
 use mir.Syntax.{w32}
+use Rattle.plan.specs.Limits.{mostRounds, mostWindows, mostJobs}
 use Rattle.whole.specs.Rules.{whole}
 use Rattle.text.specs.Bytes.{bytes}
 use Rattle.plan.specs.PlanRead.{planLines}
@@ -146,23 +147,23 @@ unfolding bytes
 count-requires c κs =
     let s = now (c .before .before .before .before .before .before .before .before .before .before .before .before .before .before .before .before .before .before .before .before .before .args .s) in
     rw (toZ-ofZ {w = w32} {z = c .before .before .before .before .before .before .before .before .before .before .before .second .given .0 .0} (record { sfits = c .before .before .before .before .before .before .before .before .before .before .known-told2 .given .0 .1 }))
-    (omega (whole, numberLine-read (bytes "rounds=") (pos 1) (pos 1000) _ 2 (atTold-goes s 3 (numberAt (c .before .before .before .before .before .before .before .before .before .before .before .before .before .read-number-line2 .result)) (c .before .before .before .before .before .before .before .before .before .before .before .before .before .read-number-line2 .ensures .0) (ap numberAt (c .before .before .before .before .before .before .before .before .before .before .before .second .given .1))) .0 .least))
+    (omega (whole, numberLine-read (bytes "rounds=") (pos 1) (pos mostRounds) _ 2 (atTold-goes s 3 (numberAt (c .before .before .before .before .before .before .before .before .before .before .before .before .before .read-number-line2 .result)) (c .before .before .before .before .before .before .before .before .before .before .before .before .before .read-number-line2 .ensures .0) (ap numberAt (c .before .before .before .before .before .before .before .before .before .before .before .second .given .1))) .0 .least))
 
 count-requires-2 : tie.Need-count-requires-2
 unfolding bytes
 count-requires-2 c κs =
     let s = now (c .before .before .before .before .before .before .before .before .before .before .before .before .before .before .before .before .before .before .before .before .before .before .args .s) in
     rw (toZ-ofZ {w = w32} {z = c .before .before .before .before .before .before .before .third .given .0 .0} (record { sfits = c .before .before .before .before .before .before .known-told3 .given .0 .1 }))
-    (omega (whole, numberLine-read (bytes "last=") (pos 1) (pos 1000000000) _ 3 (atTold-goes s 4 (numberAt (c .before .before .before .before .before .before .before .before .before .read-number-line3 .result)) (c .before .before .before .before .before .before .before .before .before .read-number-line3 .ensures .0) (ap numberAt (c .before .before .before .before .before .before .before .third .given .1))) .0 .least))
+    (omega (whole, numberLine-read (bytes "last=") (pos 1) (pos mostWindows) _ 3 (atTold-goes s 4 (numberAt (c .before .before .before .before .before .before .before .before .before .read-number-line3 .result)) (c .before .before .before .before .before .before .before .before .before .read-number-line3 .ensures .0) (ap numberAt (c .before .before .before .before .before .before .before .third .given .1))) .0 .least))
 
 count-requires-3 : tie.Need-count-requires-3
 unfolding bytes
 count-requires-3 c κs =
     let s = now (c .before .before .before .before .before .before .before .before .before .before .before .before .before .before .before .before .before .before .before .before .before .before .before .args .s) in
     rw (toZ-ofZ {w = w32} {z = c .before .before .before .fourth .given .0 .0} (record { sfits = c .before .before .known-told4 .given .0 .1 }))
-    (omega (whole, numberLine-read (bytes "jobs=") (pos 1) (pos 9) _ 4 (atTold-goes s 5 (numberAt (c .before .before .before .before .before .read-number-line4 .result)) (c .before .before .before .before .before .read-number-line4 .ensures .0) (ap numberAt (c .before .before .before .fourth .given .1))) .0 .least))
+    (omega (whole, numberLine-read (bytes "jobs=") (pos 1) (pos mostJobs) _ 4 (atTold-goes s 5 (numberAt (c .before .before .before .before .before .read-number-line4 .result)) (c .before .before .before .before .before .read-number-line4 .ensures .0) (ap numberAt (c .before .before .before .fourth .given .1))) .0 .least))
 
-at-most : (z : ℤ) → pos 1 ≤ℤ z → z ≤ℤ pos 9 → natAbs z ≤ 9
+at-most : (z : ℤ) → pos 1 ≤ℤ z → z ≤ℤ pos mostJobs → natAbs z ≤ mostJobs
 at-most (pos n) p q = omega whole
 at-most (negsuc n) p q = absurd (omega whole)
 
@@ -177,7 +178,7 @@ returns-5 c =
     let n2 : c .before .before .count .result ≡ natAbs (c .before .before .before .before .before .before .before .before .before .before .before .before .before .before .second .given .0 .0) = c .before .before .count .ensures ∙ ap natAbs (toZ-ofZ {w = w32} {z = c .before .before .before .before .before .before .before .before .before .before .before .before .before .before .second .given .0 .0} (record { sfits = c .before .before .before .before .before .before .before .before .before .before .before .before .before .known-told2 .given .0 .1 })) in
     let n3 : c .before .count2 .result ≡ natAbs (c .before .before .before .before .before .before .before .before .before .third .given .0 .0) = c .before .count2 .ensures ∙ ap natAbs (toZ-ofZ {w = w32} {z = c .before .before .before .before .before .before .before .before .before .third .given .0 .0} (record { sfits = c .before .before .before .before .before .before .before .before .known-told3 .given .0 .1 })) in
     let n4 : c .count3 .result ≡ natAbs (c .before .before .before .before .fourth .given .0 .0) = c .count3 .ensures ∙ ap natAbs (toZ-ofZ {w = w32} {z = c .before .before .before .before .fourth .given .0 .0} (record { sfits = c .before .before .before .known-told4 .given .0 .1 })) in
-    let q = numberLine-read (bytes "jobs=") (pos 1) (pos 9) _ 4 e4 .0 in
+    let q = numberLine-read (bytes "jobs=") (pos 1) (pos mostJobs) _ 4 e4 .0 in
     let r = c .before .before .before .before .before .before .read-number-line4 in
     record {
       told = rw (toZ-ofZ {w = w32} {z = c .before .before .before .before .before .before .before .before .before .before .before .before .before .before .before .before .before .before .before .first .given .0 .0} (record { sfits = c .before .before .before .before .before .before .before .before .before .before .before .before .before .before .before .before .before .before .known-told .given .0 .1 }), n2, n3, n4) (planLines-rest s e1 e2 e3 e4);

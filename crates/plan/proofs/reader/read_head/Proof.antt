@@ -179,7 +179,7 @@ abbrev at₃ : tie.After-known-told3 → ℕ
 at₃ c = c .before .line .given .0 .1 .0
 
 told₃ : (c : tie.After-known-told3)
-    → numberLine (bytes "bounds=") (pos 0) (pos 64) (drop (at₂ (q₃ c)) (s₁ (p₂ (q₃ c)))) (5 + 4 * first₁ (p₂ (q₃ c)) .jobs) ≡ read (z₃ c) (drop (at₃ c) (s₁ (p₂ (q₃ c)))) (5 + 4 * first₁ (p₂ (q₃ c)) .jobs + 1)
+    → numberLine (bytes "bounds=") (pos 0) (pos mostBounds) (drop (at₂ (q₃ c)) (s₁ (p₂ (q₃ c)))) (5 + 4 * first₁ (p₂ (q₃ c)) .jobs) ≡ read (z₃ c) (drop (at₃ c) (s₁ (p₂ (q₃ c)))) (5 + 4 * first₁ (p₂ (q₃ c)) .jobs + 1)
 unfolding bytes
 told₃ c = let r = c .before .before .before .read-number-line in atTold-goes (s₁ (p₂ (q₃ c))) _ (numberAt (r .result)) (r .ensures .0) (ap numberAt (c .before .line .given .1))
 
@@ -189,15 +189,15 @@ z-back c = toZ-ofZ {w = w32} {z = z₃ c} (record { sfits = c .known-told3 .give
 place₃ : (c : tie.After-known-told3) → at₃ c ≤ length (s₁ (p₂ (q₃ c)))
 place₃ c = let r = c .before .before .before .read-number-line in atPlace-goes (numberAt (r .result)) (length (s₁ (p₂ (q₃ c)))) (r .ensures .1) (ap numberAt (c .before .line .given .1))
 
-few₃ : (c : tie.After-known-told3) → natAbs (z₃ c) ≤ 64
-few₃ c = let q = numberLine-read (bytes "bounds=") (pos 0) (pos 64) _ _ (told₃ c) .0 in at-most (z₃ c) (q .least) (q .most)
+few₃ : (c : tie.After-known-told3) → natAbs (z₃ c) ≤ mostBounds
+few₃ c = let q = numberLine-read (bytes "bounds=") (pos 0) (pos mostBounds) _ _ (told₃ c) .0 in at-most (z₃ c) (q .least) (q .most)
   where
-    at-most : (z : ℤ) → pos 0 ≤ℤ z → z ≤ℤ pos 64 → natAbs z ≤ 64
+    at-most : (z : ℤ) → pos 0 ≤ℤ z → z ≤ℤ pos mostBounds → natAbs z ≤ mostBounds
     at-most (pos n) l m = omega whole
     at-most (negsuc n) l m = absurd (omega whole)
 
 count-requires : tie.Need-count-requires
-count-requires c κs = rw (z-back c) (numberLine-read (bytes "bounds=") (pos 0) (pos 64) _ _ (told₃ c) .0 .least)
+count-requires c κs = rw (z-back c) (numberLine-read (bytes "bounds=") (pos 0) (pos mostBounds) _ _ (told₃ c) .0 .least)
 
 add-next : tie.Need-add-next
 add-next c = search needs
@@ -206,7 +206,7 @@ read-bounds-requires : tie.Need-read-bounds-requires
 read-bounds-requires c κs =
     let d = c .before in
     let e = p₂ (q₃ d) .before .before .before .read-first .ensures .few in
-    (place₃ d, (omega (arith, e), (e, subst (λ n. n ≤ 64) (sym (c .count .ensures ∙ ap natAbs (z-back d))) (few₃ d))))
+    (place₃ d, (omega (arith, e), (e, subst (λ n. n ≤ mostBounds) (sym (c .count .ensures ∙ ap natAbs (z-back d))) (few₃ d))))
 
 enum-known-bounds-went : tie.Need-enum-known-bounds-went
 enum-known-bounds-went c = search needs
@@ -241,7 +241,7 @@ add-after c =
     omega (
       arith,
       p₂ (q₃ d) .before .before .before .read-first .ensures .few,
-      subst (λ n. n ≤ 64) (sym (c .before .before .before .before .before .before .before .count .ensures ∙ ap natAbs (z-back d))) (few₃ d),
+      subst (λ n. n ≤ mostBounds) (sym (c .before .before .before .before .before .before .before .count .ensures ∙ ap natAbs (z-back d))) (few₃ d),
     )
 
 -- answers with equal parts

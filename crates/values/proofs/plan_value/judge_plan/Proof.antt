@@ -161,7 +161,7 @@ left₄ c =
     let p = p₄ c in
     lines-pass (numberJudged (pos 1) (pos mostJobs) (pos (p .jobs)) 4) (andThen (jobsJudged 5 (jobsOf p)) (fromCount p)) (left₃ (d .before)) (d .judge-count3 .result) (d .judge-count3 .ensures) (c .enum-told7 .given .1)
 
-few₄ : (c : tie.After-enum-told7) → p₄ c .jobs ≤ 9
+few₄ : (c : tie.After-enum-told7) → p₄ c .jobs ≤ mostJobs
 few₄ c =
     let d = c .before .before in
     omega (whole, numberJudged-range (pos 1) (pos mostJobs) (pos (p₄ c .jobs)) 4 (sym (d .judge-count3 .ensures) ∙ c .enum-told7 .given .1) .1)
@@ -230,7 +230,7 @@ left₆ c =
     let p = p₆ c in
     lines-pass (numberJudged (pos 0) (pos mostBounds) (pos (p .bounds)) (5 + 4 * p .jobs)) (boundsJudged (p .jobs) [] (6 + 4 * p .jobs) (boundsOf p)) (left₅ (d .before .before)) (d .judge-count4 .result) (d .judge-count4 .ensures) (c .enum-told11 .given .1)
 
-few₆ : (c : tie.After-enum-told11) → p₆ c .bounds ≤ 64
+few₆ : (c : tie.After-enum-told11) → p₆ c .bounds ≤ mostBounds
 few₆ c =
     let d = c .before .before in
     omega (whole, numberJudged-range (pos 0) (pos mostBounds) (pos (p₆ c .bounds)) (5 + 4 * p₆ c .jobs) (sym (d .judge-count4 .ensures) ∙ c .enum-told11 .given .1) .1)

@@ -4,6 +4,7 @@ use mathlib.Core.Path.{_≡_, refl, _∙_}
 use mathlib.Core.List.{List, []}
 use native.Mathlib.Omega.{arith}
 use lib.ListN.{length, take}
+use Rattle.plan.specs.Limits.{mostBounds}
 use Rattle.text.specs.LeftLaws.{Left, leftFrom, left-places, left-next, left-stop, left-out}
 use Rattle.plan.specs.declared.Bound.{Bound}
 use Rattle.plan.specs.PlanRead.{noBound}
@@ -17,7 +18,7 @@ text ds = boundsText ds
 
 abbrev Inv-loop : tie.InvT-loop
 Inv-loop out₀ at bounds bound end₀ i₀ out end i =
-    (i ≤ 64) × (end ≤ at + 73 * i) × (length out ≡ length out₀) × Left out₀ at (text (take bounds bound)) out end (leftFrom text bound bounds i)
+    (i ≤ mostBounds) × (end ≤ at + 73 * i) × (length out ≡ length out₀) × Left out₀ at (text (take bounds bound)) out end (leftFrom text bound bounds i)
 
 abbrev μ-loop : tie.MeasureT-loop
 μ-loop out₀ at bounds bound end₀ i₀ out end i = bounds - i
@@ -32,7 +33,7 @@ returns : tie.Need-returns Inv-loop μ-loop
 returns c =
     let a = c .before .before .before .before .args in
     let l = c .before .before .loop in
-    let places : length (a .t4) ≡ 64 = c .before .before .before .before .good .1 .1 .1 .0 .1 .0 .1 in
+    let places : length (a .t4) ≡ mostBounds = c .before .before .before .before .good .1 .1 .1 .0 .1 .0 .1 in
     (left-out text (a .t4) (a .bounds) (boundsText-nil) (l .inv .3) (omega arith), omega arith)
 
 mul-d : tie.Need-mul-d Inv-loop μ-loop
@@ -55,7 +56,7 @@ loop-again c =
     let a = c .before .before .before .before .before .before .before .before .before .args in
     let l = c .before .before .before .before .before .before .before .loop in
     let did = c .before .before .put-bound in
-    let places : length (a .t4) ≡ 64 = c .before .before .before .before .before .before .before .before .before .good .1 .1 .1 .0 .1 .0 .1 in (
+    let places : length (a .t4) ≡ mostBounds = c .before .before .before .before .before .before .before .before .before .good .1 .1 .1 .0 .1 .0 .1 in (
       omega arith,
       omega arith,
       did .kept .0 ∙ l .inv .2,

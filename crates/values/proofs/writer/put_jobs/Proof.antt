@@ -4,6 +4,7 @@ use mathlib.Core.Path.{_≡_, refl, _∙_}
 use mathlib.Core.List.{List, []}
 use native.Mathlib.Omega.{arith}
 use lib.ListN.{length, take}
+use Rattle.plan.specs.Limits.{mostJobs}
 use Rattle.text.specs.LeftLaws.{Left, leftFrom, left-places, left-next, left-stop, left-out}
 use Rattle.plan.specs.declared.Job.{Job}
 use Rattle.plan.specs.PlanRead.{noJob}
@@ -17,7 +18,7 @@ text js = jobsText js []
 
 abbrev Inv-loop : tie.InvT-loop
 Inv-loop out₀ at jobs job end₀ i₀ out end i =
-    (i ≤ 9) × (end ≤ at + 120 * i) × (length out ≡ length out₀) × Left out₀ at (text (take jobs job)) out end (leftFrom text job jobs i)
+    (i ≤ mostJobs) × (end ≤ at + 120 * i) × (length out ≡ length out₀) × Left out₀ at (text (take jobs job)) out end (leftFrom text job jobs i)
 
 abbrev μ-loop : tie.MeasureT-loop
 μ-loop out₀ at jobs job end₀ i₀ out end i = jobs - i
@@ -32,7 +33,7 @@ returns : tie.Need-returns Inv-loop μ-loop
 returns c =
     let a = c .before .before .before .before .args in
     let l = c .before .before .loop in
-    let places : length (a .t4) ≡ 9 = c .before .before .before .before .good .1 .1 .1 .0 .1 .0 .1 in
+    let places : length (a .t4) ≡ mostJobs = c .before .before .before .before .good .1 .1 .1 .0 .1 .0 .1 in
     (left-out text (a .t4) (a .jobs) (jobsText-nil []) (l .inv .3) (omega arith), omega arith)
 
 mul-j : tie.Need-mul-j Inv-loop μ-loop
@@ -55,7 +56,7 @@ loop-again c =
     let a = c .before .before .before .before .before .before .before .before .before .args in
     let l = c .before .before .before .before .before .before .before .loop in
     let did = c .before .before .put-job in
-    let places : length (a .t4) ≡ 9 = c .before .before .before .before .before .before .before .before .before .good .1 .1 .1 .0 .1 .0 .1 in (
+    let places : length (a .t4) ≡ mostJobs = c .before .before .before .before .before .before .before .before .before .good .1 .1 .1 .0 .1 .0 .1 in (
       omega arith,
       omega arith,
       did .kept .0 ∙ l .inv .2,
