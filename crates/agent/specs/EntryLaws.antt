@@ -19,7 +19,7 @@ use Rattle.session.specs.Sessions.{dispatchOutput, sessionAnswer}
 use Rattle.agent.specs.Entry.{entryAnswer}
 
 -- a length that the entry tells
-pub record Told (s out : List ℕ) (n : ℕ) : Type 0 where
+pub record EntryTold (s out : List ℕ) (n : ℕ) : Type 0 where
   pub room : n ≤ length out
   pub answer : pos n ≡ entryAnswer s out
 
@@ -35,11 +35,11 @@ module _ (s out : List ℕ) {r : Written} (d : r ≡ sessionAnswer s out) where
   abbrev by-room : Bool → ℤ
   by-room b = cond b (pos whole) (negℤ (pos (number NoRoom)))
 
-  pub entry-length : (n : ℕ) → r ≡ Length n → Told s out n
+  pub entry-length : (n : ℕ) → r ≡ Length n → EntryTold s out n
   unfolding writtenAs entryAnswer
   entry-length n e = of (hasRoom (dispatchOutput s) out) refl (sym e ∙ d)
     where
-      of : (b : Bool) → hasRoom (dispatchOutput s) out ≡ b → Length n ≡ cond b (Length whole) (Refused NoRoom) → Told s out n
+      of : (b : Bool) → hasRoom (dispatchOutput s) out ≡ b → Length n ≡ cond b (Length whole) (Refused NoRoom) → EntryTold s out n
       of true h f =
           let is : n ≡ whole = cc in
           let room = leb-true whole (length out) h in

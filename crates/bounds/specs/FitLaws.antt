@@ -13,7 +13,7 @@ use Rattle.whole.specs.SplitLaws.{split-neg}
 use Rattle.whole.specs.Rules.{whole, wholes}
 use Rattle.plan.specs.declared.Plan.{Plan}
 use Rattle.plan.specs.declared.Job.{Job}
-use Rattle.plan.specs.PlanRead.{noJob}
+use Rattle.plan.specs.PlanLines.{noJob}
 use Rattle.plan.specs.Accepted.{JobAccepted, Accepted}
 use Rattle.bounds.specs.declared.Judgement.{Judgement}
 use Rattle.bounds.specs.declared.Judgement.the-variants.{Kept}

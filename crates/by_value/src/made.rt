@@ -48,7 +48,7 @@ pub fn starts_from(job: u8, a: Letter, b: Letter, c: i32) -> Bound {
 }
 
 // A plan of one job, as P, with so many of the two bounds.
-pub fn plan_with(
+fn plan_with(
     window: i32,
     rounds: u64,
     last: u64,

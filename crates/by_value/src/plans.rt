@@ -10,7 +10,7 @@ use crate::told::say;
 use crate::told::tell_line;
 use crate::told::tell_numbers;
 use crate::told::tell_refused;
-use lines::PlanAnswer;
+use lines::TextAnswer;
 use lines::Written;
 use plan::Letter;
 use plan::Plan;
@@ -43,8 +43,8 @@ fn decided(p: Plan) {
 fn judged(p: Plan) {
     let told = values::judge_plan(p);
     match told {
-        PlanAnswer::Accepted => say(b"accepted\n"),
-        PlanAnswer::Refused(x) => tell_refused(x),
+        TextAnswer::Accepted => say(b"accepted\n"),
+        TextAnswer::Refused(x) => tell_refused(x),
     }
 }
 

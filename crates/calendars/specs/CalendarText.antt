@@ -11,7 +11,7 @@ use Rattle.text.specs.Numbers.{decimal, digits}
 use Rattle.plan.specs.declared.Plan.{Plan}
 use Rattle.lines.specs.Refusals.{refusedLine}
 use Rattle.lines.specs.Reading.{Reading, read, refused}
-use Rattle.plan.specs.PlanRead.{planAlone}
+use Rattle.plan.specs.PlanLines.{planAlone}
 use Rattle.lines.specs.Keyed.{keyed}
 use Rattle.calendars.specs.declared.Terms.{Terms}
 use Rattle.calendars.specs.declared.Calendar.{Calendar}

@@ -6,7 +6,7 @@ use lib.IntN.{ℤ, pos, negℤ, _-ℤ_}
 use Rattle.clock.specs.declared.WindowTime.{WindowTime}
 use Rattle.plan.specs.declared.Plan.{Plan}
 use Rattle.plan.specs.Limits.{mostJobs}
-use Rattle.plan.specs.PlanRead.{filled}
+use Rattle.plan.specs.PlanLines.{filled}
 use Rattle.bounds.specs.Events.{startNode}
 use Rattle.bounds.specs.Tables.{Cell, off, upto, Rows, at, listed, Set, contradiction, bounds}
 use Rattle.bounds.specs.Elimination.{withoutFinish, withoutStart, thenSet}

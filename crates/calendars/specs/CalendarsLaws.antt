@@ -15,7 +15,7 @@ use lib.ListN.{length, set, take, drop, replicate, length-append, length-replica
 use lib.Seq.{sets, sets-eq, set-at, take-at, drop-at}
 use Rattle.plan.specs.declared.Plan.{Plan}
 use Rattle.plan.specs.Limits.{mostJobs}
-use Rattle.plan.specs.PlanRead.{filled}
+use Rattle.plan.specs.PlanLines.{filled}
 use Rattle.plan.specs.ListLaws.{filled-length}
 use Rattle.plan.specs.Accepted.{Accepted}
 use Rattle.events.specs.declared.Events.{Events}

@@ -9,10 +9,10 @@ use mathlib.Core.List.{List}
 use native.Mathlib.Omega.{arith}
 use Rattle.plan.specs.declared.Plan.{Plan}
 use Rattle.plan.specs.declared.PlanRead.{PlanRead}
-use Rattle.lines.specs.declared.PlanAnswer.the-variants as planAnswer
+use Rattle.lines.specs.declared.TextAnswer.the-variants as planAnswer
 use Rattle.lines.specs.declared.Refusal.{Refusal}
 use Rattle.lines.specs.Refusals.{refusedLine}
-use Rattle.plan.specs.PlanRead.{planAlone}
+use Rattle.plan.specs.PlanLines.{planAlone}
 use Rattle.plan.specs.PlanAnswers.{planRead}
 use Rattle.plan.specs.PlanLaws.{planAlone-accepted}
 use Rattle.plan.specs.PlanPartLaws.{planAlone-tail}

@@ -5,25 +5,25 @@ use Prim.Native.Nat.{ℕ}
 use mathlib.Core.Path.{_≡_, refl, sym, ap, subst, _∙_}
 use mathlib.Core.List.{List}
 use lib.ListN.{length, drop}
-use Rattle.lines.specs.declared.PlanAnswer.{PlanAnswer}
-use Rattle.lines.specs.declared.PlanAnswer.the-variants as planAnswer
+use Rattle.lines.specs.declared.TextAnswer.{TextAnswer}
+use Rattle.lines.specs.declared.TextAnswer.the-variants as planAnswer
 use Rattle.lines.specs.declared.Refusal.{Refusal}
 use Rattle.lines.specs.Reading.{Reading, refused}
 use Rattle.lines.specs.Answers.{answerNumber, answerValue, partAt, Told}
 use Rattle.lines.specs.PartLaws.{Tail, leaves, told-refused, told-none, end-empty}
 use Rattle.plan.specs.declared.Plan.{Plan}
 use Rattle.plan.specs.declared.PlanRead.{PlanRead}
-use Rattle.plan.specs.PlanRead.{planAlone}
+use Rattle.plan.specs.PlanLines.{planAlone}
 use Rattle.plan.specs.PlanAnswers.{planRead}
 use Rattle.plan.specs.PlanPartLaws.{planAlone-tail}
 use Rattle.rounds.specs.declared.VerdictTold.the-variants as told
 use Rattle.rounds.specs.Rounds.{verdict, verdictTold}
-use Rattle.rounds.specs.TextVerdict.{verdictAfter, acceptedAlone}
+use Rattle.rounds.specs.TextVerdict.{verdictAfter, settledAlone}
 use Rattle.rounds.specs.TextVerdictLaws.{verdictAfter-refused, verdictAfter-settled, verdictAfter-judged}
 
 -- what comes after the plan's verdict keeps a refusal
 module _ {A : Type 0} (behind : Reading Plan → Reading A) (keeps : (x : Refusal) (t : List ℕ) → behind (refused x t) ≡ refused x t) where
-  module _ (s : List ℕ) (m : Reading Plan) (tail : Tail s (leaves m)) (r : PlanRead) (d : r ≡ planRead s m) (a : PlanAnswer) (x : Refusal) (e : a ≡ planAnswer.Refused x) where
+  module _ (s : List ℕ) (m : Reading Plan) (tail : Tail s (leaves m)) (r : PlanRead) (d : r ≡ planRead s m) (a : TextAnswer) (x : Refusal) (e : a ≡ planAnswer.Refused x) where
     refusal-told : {t : List ℕ} → verdictAfter m ≡ refused x t → (at : ℕ) → drop at s ≡ t
         → Told (behind (verdictAfter m)) (partAt s at a) (answerNumber a) (answerValue a)
     refusal-told {t} f at p =
@@ -38,8 +38,8 @@ module _ {A : Type 0} (behind : Reading Plan → Reading A) (keeps : (x : Refusa
 
 -- a plan alone that is settled
 pub told-settled-alone : (s : List ℕ) (r : PlanRead) → r ≡ planRead s (planAlone s) → r .answer ≡ planAnswer.Accepted
-    → (k : ℕ) → verdictTold (verdict (r .plan)) ≡ told.Settled k → (a : PlanAnswer) → a ≡ planAnswer.Accepted
-    → Told (acceptedAlone s) (partAt s (r .at) a) (answerNumber a) (answerValue a)
+    → (k : ℕ) → verdictTold (verdict (r .plan)) ≡ told.Settled k → (a : TextAnswer) → a ≡ planAnswer.Accepted
+    → Told (settledAlone s) (partAt s (r .at) a) (answerNumber a) (answerValue a)
 told-settled-alone s r d q k v a e =
     subst (λ (m : Reading Plan). Told m (partAt s (r .at) a) (answerNumber a) (answerValue a))
     (sym (verdictAfter-settled s (planAlone s) (planAlone-tail s) r d q k v))

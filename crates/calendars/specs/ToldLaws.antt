@@ -15,7 +15,7 @@ use Rattle.lines.specs.declared.Refusal.the-variants as refusal
 use Rattle.lines.specs.Reading.{Reading, read, refused, line}
 use Rattle.lines.specs.Refusals.{number, value, refusedLine}
 use Rattle.lines.specs.Reading as reading
-use Rattle.plan.specs.PlanRead.{planAlone}
+use Rattle.plan.specs.PlanLines.{planAlone}
 use Rattle.lines.specs.Keyed.{keyed}
 use Rattle.rounds.specs.declared.Verdict.the-variants.{Settled, NoStrategy}
 use Rattle.rounds.specs.Rounds.{Outcome, settled, noStrategy, unsettled, outcome, verdictOf, verdict}

@@ -10,7 +10,7 @@ use lib.IntN.{ℤ, pos}
 use Rattle.plan.specs.declared.Job.{Job}
 use Rattle.plan.specs.declared.Bound.{Bound}
 use Rattle.plan.specs.declared.Plan.{Plan}
-use Rattle.plan.specs.PlanRead.{filled}
+use Rattle.plan.specs.PlanLines.{filled}
 use Rattle.plan.specs.PlanWritten.{trimmed}
 use Rattle.plan.specs.Accepted.{Accepted}
 use Rattle.bounds.specs.Tables.{Rows, Set, contradiction, bounds}

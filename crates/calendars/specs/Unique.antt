@@ -16,12 +16,13 @@ use Rattle.bounds.specs.Events.{nodes}
 use Rattle.bounds.specs.Flat.{rowsOf}
 use Rattle.rounds.specs.declared.Verdict.{Verdict}
 use Rattle.rounds.specs.Rounds.{outcome, verdict}
-use Rattle.rounds.specs.TextVerdict.{acceptedAlone}
+use Rattle.rounds.specs.TextVerdict.{settledAlone}
 use Rattle.calendars.specs.declared.Calendar.{Calendar}
 use Rattle.calendars.specs.declared.Decision.{Decision}
 use Rattle.calendars.specs.Calendars.{beforeStarts, calendarOf, noCalendar, madeCalendar}
 use Rattle.calendars.specs.CalendarText.{calendarText, decisionText, calendarOutput}
 use Rattle.lines.specs.Whole.{writtenWhole}
+use Rattle.lines.specs.Unique.{whole-unique}
 
 -- ---- the calendar and its text
 
@@ -66,16 +67,16 @@ pub answer-read-unique : (s : List ℕ) (n : ℕ) (out : List ℕ) {r q : ℕ} {
     → (r ≡ length (calendarOutput (take n s))) × (o ≡ writtenWhole (calendarOutput (take n s)) out)
     → (q ≡ length (calendarOutput (take n s))) × (p ≡ writtenWhole (calendarOutput (take n s)) out)
     → (r ≡ q) × (o ≡ p)
-answer-read-unique s n out d e = (only (d .0) (e .0), only (d .1) (e .1))
+answer-read-unique s n out = whole-unique (calendarOutput (take n s)) out
 
 -- ---- the refusal of a plan's text: the part, and what the two numbers become
 
 module _ (s : List ℕ) where
-  pub refused-in-plan-unique : {r q : List ℕ} → r ≡ faultyPart (acceptedAlone s) → q ≡ faultyPart (acceptedAlone s) → r ≡ q
+  pub refused-in-plan-unique : {r q : List ℕ} → r ≡ faultyPart (settledAlone s) → q ≡ faultyPart (settledAlone s) → r ≡ q
   refused-in-plan-unique = only
 
-  pub refused-in-plan-number-unique : {n m : ℕ} → n ≡ refusedNumber (acceptedAlone s) → m ≡ refusedNumber (acceptedAlone s) → n ≡ m
+  pub refused-in-plan-number-unique : {n m : ℕ} → n ≡ refusedNumber (settledAlone s) → m ≡ refusedNumber (settledAlone s) → n ≡ m
   refused-in-plan-number-unique = only
 
-  pub refused-in-plan-value-unique : {n m : ℕ} → n ≡ refusedValue (acceptedAlone s) → m ≡ refusedValue (acceptedAlone s) → n ≡ m
+  pub refused-in-plan-value-unique : {n m : ℕ} → n ≡ refusedValue (settledAlone s) → m ≡ refusedValue (settledAlone s) → n ≡ m
   refused-in-plan-value-unique = only

@@ -1,7 +1,7 @@
 // The calendar program, from the bytes of its input to those of its output.
 use crate::decided::decide;
 use crate::decision_text::write_decision;
-use lines::PlanAnswer;
+use lines::TextAnswer;
 use lines::Written;
 use lines::write_refused;
 ghost use mathlib.Core.Path.{_≡_};
@@ -21,7 +21,7 @@ pub fn answer(text: &[u8], out: &mut [u8]) -> Written
     let read = plan::read_plan(text);
     let told = read.answer;
     match told {
-        PlanAnswer::Accepted => {
+        TextAnswer::Accepted => {
             let p = read.plan;
             let jobs = p.jobs;
             let decision = decide(p);
@@ -29,6 +29,6 @@ pub fn answer(text: &[u8], out: &mut [u8]) -> Written
             let calendar = decision.calendar;
             write_decision(out, jobs, verdict, calendar)
         }
-        PlanAnswer::Refused(x) => write_refused(out, x),
+        TextAnswer::Refused(x) => write_refused(out, x),
     }
 }

@@ -21,7 +21,7 @@ use Rattle.text.specs.DigitLaws.{digits-short}
 use Rattle.text.specs.NumberLaws.{decimal-above}
 use Rattle.lines.specs.Keyed.{keyed}
 
-pub keyed-append : (key : List ℕ) (z : ℤ) (s : List ℕ) → keyed key z s ≡ keyed key z [] ++ s
+keyed-append : (key : List ℕ) (z : ℤ) (s : List ℕ) → keyed key z s ≡ keyed key z [] ++ s
 keyed-append key z s = sym (append-assoc key (decimal z ++ (LF ∷ [])) s ∙ ap (λ (x : List ℕ). key ++ x) (append-assoc (decimal z) (LF ∷ []) s))
 
 -- ---- its length

@@ -11,8 +11,8 @@ use lib.ListN.{length, take, drop, length-append, take-append-drop, drop-of-leng
 use lib.Seq.{drop-append-seam}
 use Rattle.text.specs.Lines.{LF, before, has, lenTo}
 use Rattle.lines.specs.declared.Fault.the-variants as fault
-use Rattle.lines.specs.declared.PlanAnswer.{PlanAnswer}
-use Rattle.lines.specs.declared.PlanAnswer.the-variants.{Accepted, Refused}
+use Rattle.lines.specs.declared.TextAnswer.{TextAnswer}
+use Rattle.lines.specs.declared.TextAnswer.the-variants.{Accepted, Refused}
 use Rattle.lines.specs.declared.Refusal.{Refusal}
 use Rattle.lines.specs.Reading.{Lined, value, bad, Reading, read, refused, Reader, next, lined, line, faultyPart}
 use Rattle.lines.specs.Answers.{answerNumber, answerValue, partAt, Told}
@@ -70,7 +70,7 @@ unfolding lenTo
 before-past s at h = rw (drop-of-length-le s {i = at} (omega arith))
 
 -- an answer, and the place in the text s where its faulty line begins
-module _ {A : Type 0} (s : List ℕ) (a : PlanAnswer) (at : ℕ) where
+module _ {A : Type 0} (s : List ℕ) (a : TextAnswer) (at : ℕ) where
   pub told-refused : (x : Refusal) {t : List ℕ} → a ≡ Refused x → drop at s ≡ t → Told {A = A} (refused x t) (partAt s at a) (answerNumber a) (answerValue a)
   unfolding faultyPart
   told-refused x e d = record { part-is = ap (partAt s at) e ∙ ap (before LF) d; number-is = ap answerNumber e; value-is = ap answerValue e }

@@ -2,17 +2,17 @@
 use Prim.Native.Nat.{ℕ}
 use mathlib.Core.List.{List}
 use lib.ListN.{drop}
-use Rattle.lines.specs.declared.Faulty.{Faulty}
+use Rattle.lines.specs.declared.FaultyLine.{FaultyLine}
 use Rattle.lines.specs.declared.Refusal.the-variants.{Form}
 use Rattle.lines.specs.Reading.{Reading, read, refused}
 
-abbrev pub faultyIn : {A : Type 0} → List ℕ → Faulty → Reading A
+abbrev pub faultyIn : {A : Type 0} → List ℕ → FaultyLine → Reading A
 faultyIn s f = refused (f .refusal) (drop (f .at) s)
 
 -- What a line reader answers: a value and the place of the line after it, or a fault.
 pub data At (A : Type 0) : Type 0 where
   goes : A → ℕ → At A
-  stops : Faulty → At A
+  stops : FaultyLine → At A
 
 -- the reading of the text s that an answer tells, with the number of the line after it
 abbrev pub atTold : {A : Type 0} → List ℕ → ℕ → At A → Reading A
@@ -24,9 +24,9 @@ atPlace (goes a at) = at
 atPlace (stops f) = f .at
 
 -- the fault of an answer that is one
-abbrev pub noFault : Faulty
+abbrev pub noFault : FaultyLine
 noFault = record { refusal = Form 0; at = 0 }
 
-abbrev pub atFault : {A : Type 0} → At A → Faulty
+abbrev pub atFault : {A : Type 0} → At A → FaultyLine
 atFault (goes a at) = noFault
 atFault (stops f) = f

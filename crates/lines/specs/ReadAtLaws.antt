@@ -14,7 +14,7 @@ use Rattle.text.specs.Lines.{LF, lenTo, nextLine}
 use Rattle.text.specs.LineLaws.{nextLine-at}
 use Rattle.lines.specs.declared.Fault.{Fault}
 use Rattle.lines.specs.declared.Refusal.the-variants.{Form}
-use Rattle.lines.specs.declared.Faulty.{Faulty}
+use Rattle.lines.specs.declared.FaultyLine.{FaultyLine}
 use Rattle.lines.specs.ReadAt.{At, goes, stops, atTold, atPlace, atFault, faultyIn}
 use Rattle.lines.specs.Refusals.{faultAt}
 use Rattle.lines.specs.Reading.{Lined, value, bad, Reading, read, refused, lined, line}
@@ -22,7 +22,7 @@ use Rattle.lines.specs.Reading.{Lined, value, bad, Reading, read, refuse
 -- ---- a line at a place: t is the rest of the text, and i the length to its LF
 
 module _ {A : Type 0} (f : List ℕ → Lined A) (s : List ℕ) (at n : ℕ) (t : List ℕ) (i : ℕ) (rest : t ≡ drop at s) (len : i ≡ lenTo LF t) where
-  pub lineAt-bare : length t ≤ i → line f (drop at s) n ≡ refused (Form n) (drop at s)
+  lineAt-bare : length t ≤ i → line f (drop at s) n ≡ refused (Form n) (drop at s)
   unfolding line lined
   lineAt-bare h = rw (← rest) (rw (le-ltb (lenTo LF t) (length t) (omega arith)))
 
@@ -30,11 +30,11 @@ module _ {A : Type 0} (f : List ℕ → Lined A) (s : List ℕ) (at n : ℕ) (t 
   unfolding line
   held v h e = rw (← rest) (rw (lt-ltb (lenTo LF t) (length t) (omega arith), ← len, e))
 
-  pub lineAt-fault : {e : Fault} → i < length t → f (take i t) ≡ bad e → line f (drop at s) n ≡ refused (faultAt n e) (drop at s)
+  lineAt-fault : {e : Fault} → i < length t → f (take i t) ≡ bad e → line f (drop at s) n ≡ refused (faultAt n e) (drop at s)
   unfolding lined
   lineAt-fault {e} h d = held (bad e) h d
 
-  pub lineAt-value : {a : A} → i < length t → f (take i t) ≡ value a → line f (drop at s) n ≡ read a (drop (at + i + 1) s) (n + 1)
+  lineAt-value : {a : A} → i < length t → f (take i t) ≡ value a → line f (drop at s) n ≡ read a (drop (at + i + 1) s) (n + 1)
   unfolding lined
   lineAt-value {a} h d = held (value a) h d ∙ rw (← rest, ← len) (rw (rest, drop-drop (i + 1) at s, add-assoc at i 1, add-one n))
 
@@ -62,12 +62,12 @@ module _ {A : Type 0} (s : List ℕ) (n : ℕ) {m : Reading A} (r : At A) (told 
   pub atTold-goes : {a : A} {at : ℕ} → r ≡ goes a at → m ≡ read a (drop at s) n
   atTold-goes e = told ∙ ap (atTold s n) e
 
-  pub atTold-stops : {f g : Faulty} → r ≡ stops f → g ≡ atFault r → m ≡ faultyIn s g
+  pub atTold-stops : {f g : FaultyLine} → r ≡ stops f → g ≡ atFault r → m ≡ faultyIn s g
   atTold-stops e d = told ∙ ap (atTold s n) e ∙ ap (faultyIn s) (sym (d ∙ ap atFault e))
 
 module _ {A : Type 0} (r : At A) (k : ℕ) (fits : atPlace r ≤ k) where
   pub atPlace-goes : {a : A} {at : ℕ} → r ≡ goes a at → at ≤ k
   atPlace-goes e = subst (λ x. atPlace x ≤ k) e fits
 
-  pub atPlace-stops : {f g : Faulty} → r ≡ stops f → g ≡ atFault r → g .at ≤ k
+  pub atPlace-stops : {f g : FaultyLine} → r ≡ stops f → g ≡ atFault r → g .at ≤ k
   atPlace-stops e d = subst (λ x. x .at ≤ k) (sym (d ∙ ap atFault e)) (subst (λ x. atPlace x ≤ k) e fits)

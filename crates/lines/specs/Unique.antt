@@ -5,17 +5,19 @@ use mathlib.Core.Bool.{Bool}
 use mathlib.Core.List.{List, []}
 use Prim.Native.Nat.{ℕ}
 use lib.IntN.{ℤ, pos}
+use lib.ListN.{length}
 use Rattle.text.specs.Lent.{Stored, written}
 use Rattle.text.specs.Unique.{only, stored-unique}
 use Rattle.text.specs.declared.NumberFault.{NumberFault}
 use Rattle.lines.specs.declared.Fault.{Fault}
-use Rattle.lines.specs.declared.PlanAnswer.{PlanAnswer}
+use Rattle.lines.specs.declared.TextAnswer.{TextAnswer}
 use Rattle.lines.specs.declared.Refusal.{Refusal}
 use Rattle.lines.specs.declared.Written.{Written}
 use Rattle.lines.specs.Refusals.{number, value, ends, lineLacks, faultAt, refusedLine}
 use Rattle.lines.specs.Keyed.{keyed}
 use Rattle.lines.specs.Answers.{answerNumber, answerValue, partAt}
 use Rattle.lines.specs.Written.{writtenAs}
+use Rattle.lines.specs.Whole.{writtenWhole}
 
 pub number-unique : (r : Refusal) {n m : ℕ} → n ≡ number r → m ≡ number r → n ≡ m
 number-unique r = only
@@ -33,7 +35,7 @@ pub fault-at-unique : (line : ℕ) (f : Fault) {r q : Refusal} → r ≡ faultAt
 fault-at-unique line f = only
 
 -- the part, and what the two numbers become
-module _ (s : List ℕ) (a : PlanAnswer) (at : ℕ) where
+module _ (s : List ℕ) (a : TextAnswer) (at : ℕ) where
   pub tell-refusal-unique : {r q : List ℕ} → r ≡ partAt s at a → q ≡ partAt s at a → r ≡ q
   tell-refusal-unique = only
 
@@ -59,3 +61,8 @@ pub put-count-line-unique : (key : List ℕ) (n : ℕ) {out o p : List ℕ} {at 
     → Stored out at (keyed key (pos n) []) p k
     → (o ≡ p) × (j ≡ k)
 put-count-line-unique key n = stored-unique
+
+-- a text that was written whole, and its length
+pub whole-unique : (t out : List ℕ) {r q : ℕ} {o p : List ℕ} → (r ≡ length t) × (o ≡ writtenWhole t out) → (q ≡ length t) × (p ≡ writtenWhole t out)
+    → (r ≡ q) × (o ≡ p)
+whole-unique t out d e = (only (d .0) (e .0), only (d .1) (e .1))

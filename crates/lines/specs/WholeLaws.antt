@@ -36,7 +36,7 @@ module _ (t out : List ℕ) (room : length t ≤ length out) {r : Written} (e : 
   answered-never f = let g = sym f ∙ answered in absurd (let z : _≡_ {A = ℕ} 0 1 = cc in omega arith)
 
 -- what was written as one text was written as any text that equals it
-pub whole-as : (out : List ℕ) {t u o : List ℕ} {n : ℕ} → t ≡ u
+whole-as : (out : List ℕ) {t u o : List ℕ} {n : ℕ} → t ≡ u
     → (n ≡ length t) × ((o ≡ writtenWhole t out) × (n ≤ length o))
     → (n ≡ length u) × ((o ≡ writtenWhole u out) × (n ≤ length o))
 whole-as out e w = (w .0 ∙ ap length e, (w .1 .0 ∙ ap (λ (s : List ℕ). writtenWhole s out) e, w .1 .1))

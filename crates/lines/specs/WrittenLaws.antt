@@ -43,7 +43,7 @@ stored-whole {t} {out} {out′} {n} p h =
       bytes = p .slice ∙ put-written out t room;
     }
 
-pub stored-none : {t out o o′ : List ℕ} {n : ℕ} → Stored o 0 t o′ n → length out < n → WroteAll t out (Refused refusal.NoRoom) out
+stored-none : {t out o o′ : List ℕ} {n : ℕ} → Stored o 0 t o′ n → length out < n → WroteAll t out (Refused refusal.NoRoom) out
 unfolding writtenAs written
 stored-none {t} {out} p h =
     let e = stored-length p in

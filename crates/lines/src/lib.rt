@@ -40,13 +40,13 @@ pub enum Refusal {
 }
 
 // What the reader of a text answers, and the judge of a value as its text would be.
-pub enum PlanAnswer {
+pub enum TextAnswer {
     Accepted,
     Refused(Refusal),
 }
 
 // A refusal, and where its faulty line begins.
-pub struct Faulty {
+pub struct FaultyLine {
     pub refusal: Refusal,
     pub at: usize,
 }

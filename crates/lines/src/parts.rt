@@ -1,5 +1,5 @@
 // A refusal told: its number, its value, and the faulty line as a part of the text.
-use crate::PlanAnswer;
+use crate::TextAnswer;
 use crate::refusals::number;
 use crate::refusals::value;
 ghost use mathlib.Core.Path.{_≡_};
@@ -22,7 +22,7 @@ fn line_at(s: &[u8], at: usize) -> &[u8]
 // line is handed back without its LF. Where nothing is refused both are 0, and the line is empty.
 pub fn tell_refusal<'a>(
     s: &'a [u8],
-    answer: PlanAnswer,
+    answer: TextAnswer,
     at: usize,
     n: &mut u64,
     d: &mut u64,
@@ -31,7 +31,7 @@ pub fn tell_refusal<'a>(
     ensures { λ _. ⌜ now (n .exit) ≡ answerNumber answer ⌝ }
     ensures { λ _. ⌜ now (d .exit) ≡ answerValue answer ⌝ }
 {
-    let PlanAnswer::Refused(x) = answer else {
+    let TextAnswer::Refused(x) = answer else {
         *n = 0;
         *d = 0;
         return &s[..0];

@@ -10,7 +10,7 @@ use Rattle.plan.specs.declared.Job.{Job}
 use Rattle.plan.specs.declared.Bound.{Bound}
 use Rattle.plan.specs.declared.Plan.{Plan}
 use Rattle.plan.specs.Limits.{longestWindow, mostRounds, mostWindows, mostJobs, longestRunning, latestDeadline, mostBounds, leastC, greatestC}
-use Rattle.plan.specs.PlanRead.{isWrongPair, noJob, noBound}
+use Rattle.plan.specs.PlanLines.{isWrongPair, noJob, noBound}
 
 -- '`min=`, `max=` | 0..86,400,000, min <= max', '`release=`, `deadline=` | 0..172,800,000'
 pub record JobAccepted (j : Job) : Type 0 where

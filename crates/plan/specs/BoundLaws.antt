@@ -32,7 +32,7 @@ use Rattle.plan.specs.declared.Bound.{Bound}
 use Rattle.plan.specs.declared.BoundLine.the-variants as boundLine
 use Rattle.plan.specs.Limits.{leastC, greatestC}
 use Rattle.plan.specs.EventNames.{eventName, nameRead}
-use Rattle.plan.specs.PlanRead.{BoundParts, partsOf, boundParts, isJob, judgedBound, boundOf}
+use Rattle.plan.specs.PlanLines.{BoundParts, partsOf, boundParts, isJob, judgedBound, boundOf}
 use Rattle.plan.specs.BoundNames.{partNamed, nameTo, withSecond, withFirst, namesIn}
 
 -- ---- a name up to its comma
@@ -105,7 +105,7 @@ first-parts l k = by-comma (has comma (drop k l)) (eventName (before comma (drop
     by-comma true (some a) = rw (after-drop l k) (second-parts l (k + lenTo comma (drop k l) + 1) a)
     by-comma false o = refl
 
-pub namesIn-parts : (l : List ℕ) → boundParts (afterKey (bytes "bound=") l) ≡ partsFrom l (namesIn l)
+namesIn-parts : (l : List ℕ) → boundParts (afterKey (bytes "bound=") l) ≡ partsFrom l (namesIn l)
 unfolding namesIn bytes boundParts
 namesIn-parts l = by-key (hasKey (bytes "bound=") l) refl
   where

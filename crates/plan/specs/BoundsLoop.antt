@@ -16,10 +16,10 @@ use Rattle.text.specs.Numbers.{within, numberValue}
 use Rattle.lines.specs.declared.Fault.the-variants as fault
 use Rattle.plan.specs.declared.Bound.{Bound}
 use Rattle.plan.specs.declared.BoundLine.the-variants as boundLine
-use Rattle.lines.specs.declared.Faulty.{Faulty}
+use Rattle.lines.specs.declared.FaultyLine.{FaultyLine}
 use Rattle.plan.specs.Limits.{mostBounds, leastC, greatestC, mostJobs}
 use Rattle.lines.specs.Reading.{read, next, line}
-use Rattle.plan.specs.PlanRead.{BoundParts, boundParts, isJob, isWrongPair, judgedBound, boundOf, linedBound, boundIn, boundsAfter, noBound, filled}
+use Rattle.plan.specs.PlanLines.{BoundParts, boundParts, isJob, isWrongPair, judgedBound, boundOf, linedBound, boundOfLine, boundsAfter, noBound, filled}
 use Rattle.plan.specs.Accepted.{BoundAccepted}
 use Rattle.plan.specs.Pairs.{pairOf, isWrongNumbered}
 use Rattle.plan.specs.PairLaws.{Small, isWrongNumbered-pair}
@@ -27,7 +27,7 @@ use Rattle.lines.specs.ReadAt.{faultyIn}
 use Rattle.plan.specs.ReadAt.{boundLined}
 use Rattle.plan.specs.ListLaws.{All, All-more, Filling, Filling-start, Filling-more, Filling-end}
 use Rattle.lines.specs.ReadingLaws.{line-read}
-use Rattle.plan.specs.PlanLaws.{isJob-range, boundIn-read}
+use Rattle.plan.specs.PlanLaws.{isJob-range, boundOfLine-read}
 
 -- ---- the pairs given, by their numbers
 
@@ -51,7 +51,7 @@ module _ (jobs : ℕ) (few : jobs ≤ mostJobs) (given : List Bound) (small : Al
   boundOf-numbered none = refl
   boundOf-numbered (some q) = judgedBound-numbered (record { a = q .a; b = q .b; c = numberValue (q .c) })
 
-  pub boundLined-numbered : (s : List ℕ) (n : ℕ) (codes : List ℕ) → codes ≡ map pairOf given → line (boundLined jobs (isWrongNumbered codes)) s n ≡ line (λ l. linedBound (boundIn jobs given l)) s n
+  boundLined-numbered : (s : List ℕ) (n : ℕ) (codes : List ℕ) → codes ≡ map pairOf given → line (boundLined jobs (isWrongNumbered codes)) s n ≡ line (λ l. linedBound (boundOfLine jobs given l)) s n
   unfolding line
   boundLined-numbered s n codes e = rw (e, boundOf-numbered (boundParts (afterKey (bytes "bound=") (before LF s))))
 
@@ -89,10 +89,10 @@ module _ (s : List ℕ) (from number jobs bounds : ℕ) (bound : List Bound) (gi
   one-more : i < bounds → bounds - i ≡ suc (bounds - (i + 1))
   one-more h = omega arith
 
-  same-line : line (boundLined jobs (isWrongNumbered (take i given))) (drop at s) n ≡ line (λ l. linedBound (boundIn jobs (take i bound) l)) (drop at s) n
+  same-line : line (boundLined jobs (isWrongNumbered (take i given))) (drop at s) n ≡ line (λ l. linedBound (boundOfLine jobs (take i bound) l)) (drop at s) n
   same-line = boundLined-numbered jobs few (take i bound) (p .small) (drop at s) n (take i given) (p .coded)
 
-  pub BoundsPassed-stop : i < bounds → (f : Faulty) → line (boundLined jobs (isWrongNumbered (take i given))) (drop at s) n ≡ faultyIn s f → boundsAfter jobs [] bounds (drop from s) number ≡ faultyIn s f
+  pub BoundsPassed-stop : i < bounds → (f : FaultyLine) → line (boundLined jobs (isWrongNumbered (take i given))) (drop at s) n ≡ faultyIn s f → boundsAfter jobs [] bounds (drop from s) number ≡ faultyIn s f
   unfolding boundsAfter next
   BoundsPassed-stop h f e = p .told ∙ rw (one-more h, sym same-line ∙ e)
 
@@ -123,7 +123,7 @@ module _ (s : List ℕ) (from number jobs bounds : ℕ) (bound : List Bound) (gi
       taken = rw (add-one i) (take-suc-set bound i d (omega (arith, p .array .places)))
 
       accepted : BoundAccepted jobs d
-      accepted = boundIn-read jobs (take i bound) (before LF (drop at s)) (line-read (λ l. linedBound (boundIn jobs (take i bound) l)) (drop at s) n (sym same-line ∙ e) .held) .accepted
+      accepted = boundOfLine-read jobs (take i bound) (before LF (drop at s)) (line-read (λ l. linedBound (boundOfLine jobs (take i bound) l)) (drop at s) n (sym same-line ∙ e) .held) .accepted
 
       codes-taken : take (i + 1) (set given i code) ≡ take i given ++ (code ∷ [])
       codes-taken = rw (add-one i) (take-suc-set given i code (omega (arith, p .codes)))

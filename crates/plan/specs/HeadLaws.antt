@@ -13,15 +13,15 @@ use Rattle.plan.specs.Limits.{mostBounds}
 use Rattle.text.specs.Bytes.{bytes}
 use Rattle.lines.specs.declared.Refusal.{Refusal}
 use Rattle.lines.specs.declared.Refusal.the-variants.{Form}
-use Rattle.lines.specs.declared.Faulty.{Faulty}
+use Rattle.lines.specs.declared.FaultyLine.{FaultyLine}
 use Rattle.plan.specs.declared.Job.{Job}
 use Rattle.plan.specs.declared.Bound.{Bound}
 use Rattle.plan.specs.declared.Plan.{Plan}
 use Rattle.plan.specs.declared.PlanRead.{PlanRead}
 use Rattle.lines.specs.PartLaws.{Tail, tail-place, leaves}
-use Rattle.lines.specs.declared.PlanAnswer.the-variants.{Accepted, Refused}
+use Rattle.lines.specs.declared.TextAnswer.the-variants.{Accepted, Refused}
 use Rattle.lines.specs.Reading.{longestText, Reading, read, refused, next, numberLine}
-use Rattle.plan.specs.PlanRead.{jobsAfter, boundsAfter, planOf, planRest, planLines, planHead, nothingAfter}
+use Rattle.plan.specs.PlanLines.{jobsAfter, boundsAfter, planOf, planRest, planLines, planHead, nothingAfter}
 use Rattle.plan.specs.PlanWritten.{planText}
 use Rattle.plan.specs.PlanLaws.{planHead-written}
 use Rattle.plan.specs.PlanAnswers.{planRead, refusedRead}
@@ -65,7 +65,7 @@ place-back : (s : List ℕ) (at : ℕ) → at ≤ length s → length s - length
 place-back s at h = omega (arith, length-drop at s)
 
 module _ (s : List ℕ) {m : Reading Plan} where
-  pub planRead-refused : (f : Faulty) → f .at ≤ length s → m ≡ faultyIn s f → refusedRead f ≡ planRead s m
+  pub planRead-refused : (f : FaultyLine) → f .at ≤ length s → m ≡ faultyIn s f → refusedRead f ≡ planRead s m
   unfolding planRead
   planRead-refused f h e = sym (ap (planRead s) e ∙ ap (λ (k : ℕ). refusedRead (record { refusal = f .refusal; at = k })) (place-back s (f .at) h))
 

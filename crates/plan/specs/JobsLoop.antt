@@ -9,10 +9,10 @@ use native.Mathlib.Numerals.{add-one}
 use lib.ListN.{length, take, drop, set, replicate}
 use lib.Seq.{take-suc-set}
 use Rattle.plan.specs.declared.Job.{Job}
-use Rattle.lines.specs.declared.Faulty.{Faulty}
+use Rattle.lines.specs.declared.FaultyLine.{FaultyLine}
 use Rattle.plan.specs.Limits.{mostJobs}
 use Rattle.lines.specs.Reading.{read, next}
-use Rattle.plan.specs.PlanRead.{jobLines, jobsAfter, noJob, filled}
+use Rattle.plan.specs.PlanLines.{jobLines, jobsAfter, noJob, filled}
 use Rattle.lines.specs.ReadAt.{faultyIn}
 use Rattle.plan.specs.ListLaws.{Filling, Filling-start, Filling-more, Filling-end}
 
@@ -37,7 +37,7 @@ module _ (s : List ℕ) (from jobs : ℕ) (job : List Job) (at line i : ℕ) (p 
   one-more : i < jobs → jobs - i ≡ suc (jobs - (i + 1))
   one-more h = omega arith
 
-  pub JobsPassed-stop : i < jobs → (f : Faulty) → jobLines (drop at s) line ≡ faultyIn s f → jobsAfter [] jobs (drop from s) 5 ≡ faultyIn s f
+  pub JobsPassed-stop : i < jobs → (f : FaultyLine) → jobLines (drop at s) line ≡ faultyIn s f → jobsAfter [] jobs (drop from s) 5 ≡ faultyIn s f
   unfolding jobsAfter next
   JobsPassed-stop h f e = p .told ∙ rw (one-more h, e)
 

@@ -7,7 +7,7 @@ use native.Mathlib.Nat.{sub-zero}
 use native.Mathlib.Omega.{arith}
 use lib.ListN.{length, take, drop, set, getD, replicate, length-append, length-replicate, length-set, length-take, take-append-drop, List·getD-append}
 use lib.Seq.{take-append-le, take-all, drop-set-lt, drop-drop}
-use Rattle.plan.specs.PlanRead.{filled}
+use Rattle.plan.specs.PlanLines.{filled}
 
 -- what is told of each element
 abbrev pub All : {A : Type 0} → (A → Type 0) → List A → Type 0

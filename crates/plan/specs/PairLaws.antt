@@ -14,7 +14,7 @@ use Rattle.plan.specs.declared.EventName.{EventName}
 use Rattle.plan.specs.declared.Bound.{Bound}
 use Rattle.plan.specs.EventNames.{sameEvent, isNext, eventNumber}
 use Rattle.plan.specs.EventNameLaws.{eventNumber-fits, sameEvent-number}
-use Rattle.plan.specs.PlanRead.{isGiven, isWrongPair}
+use Rattle.plan.specs.PlanLines.{isGiven, isWrongPair}
 use Rattle.plan.specs.ListLaws.{All}
 use Rattle.plan.specs.Pairs.{pairNumber, pairOf, isIn, isWrongNumbered}
 
@@ -48,7 +48,7 @@ pub record Small (a b : EventName) : Type 0 where
   pub a-small : a .job < 256
   pub b-small : b .job < 256
 
-pub samePair-number : (a b c d : EventName) → Small a b → Small c d → sameEvent a c && sameEvent b d ≡ eqb (pairNumber a b) (pairNumber c d)
+samePair-number : (a b c d : EventName) → Small a b → Small c d → sameEvent a c && sameEvent b d ≡ eqb (pairNumber a b) (pairNumber c d)
 samePair-number a b c d h g =
     rw (sameEvent-number a c, sameEvent-number b d)
     (digits (eventNumber a) (eventNumber b) (eventNumber c) (eventNumber d) (eventNumber-fits b (h .b-small)) (eventNumber-fits d (g .b-small)))
@@ -61,7 +61,7 @@ samePair-number a b c d h g =
         by-tests true false p q = sym (ne-eqb (x * 1024 + y) (z * 1024 + w) (λ e. eqb-false y w q (omega (arith, eqb-true x z p))))
         by-tests false t p q = sym (ne-eqb (x * 1024 + y) (z * 1024 + w) (λ e. eqb-false x z p (omega arith)))
 
-pub isGiven-number : (a b : EventName) (given : List Bound) → Small a b → All (λ d. Small (d .a) (d .b)) given → isGiven a b given ≡ isIn (pairNumber a b) (map pairOf given)
+isGiven-number : (a b : EventName) (given : List Bound) → Small a b → All (λ d. Small (d .a) (d .b)) given → isGiven a b given ≡ isIn (pairNumber a b) (map pairOf given)
 unfolding isGiven isIn
 isGiven-number a b [] h hs = refl
 isGiven-number a b (d ∷ given) h hs = rw (samePair-number a b (d .a) (d .b) h (hs .0), isGiven-number a b given h (hs .1))

@@ -3,18 +3,18 @@ use Prim.Native.Nat.{ℕ, _-_}
 use mathlib.Core.List.{List, []}
 use lib.IntN.{pos}
 use lib.ListN.{length}
-use Rattle.lines.specs.declared.Faulty.{Faulty}
+use Rattle.lines.specs.declared.FaultyLine.{FaultyLine}
 use Rattle.plan.specs.declared.Plan.{Plan}
-use Rattle.lines.specs.declared.PlanAnswer.the-variants.{Accepted, Refused}
+use Rattle.lines.specs.declared.TextAnswer.the-variants.{Accepted, Refused}
 use Rattle.plan.specs.declared.PlanRead.{PlanRead}
 use Rattle.lines.specs.Reading.{Reading, read, refused}
-use Rattle.plan.specs.PlanRead.{planOf}
+use Rattle.plan.specs.PlanLines.{planOf}
 
 -- the plan beside a refusal
 abbrev pub emptyPlan : Plan
 emptyPlan = planOf (pos 0) 0 0 0 [] 0 []
 
-abbrev pub refusedRead : Faulty → PlanRead
+abbrev pub refusedRead : FaultyLine → PlanRead
 refusedRead f = record { answer = Refused (f .refusal); plan = emptyPlan; at = f .at; line = 0 }
 
 -- the answer to a text s: a place in it is told by how much of the text is left there

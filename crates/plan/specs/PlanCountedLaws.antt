@@ -12,7 +12,7 @@ use Rattle.lines.specs.CountedLaws.{Counted, then-counted, answer-counted, line
 use Rattle.plan.specs.declared.Job.{Job}
 use Rattle.plan.specs.declared.Bound.{Bound}
 use Rattle.plan.specs.declared.Plan.{Plan}
-use Rattle.plan.specs.PlanRead.{jobLines, jobsAfter, boundsAfter, planLines, planHead}
+use Rattle.plan.specs.PlanLines.{jobLines, jobsAfter, boundsAfter, planLines, planHead}
 
 job-counted : Counted jobLines
 unfolding jobLines

@@ -14,7 +14,7 @@ use Rattle.lines.specs.FormLaws.{ByForm, line-form, next-form, countLine-form}
 use Rattle.plan.specs.declared.Job.{Job}
 use Rattle.plan.specs.declared.Bound.{Bound}
 use Rattle.plan.specs.declared.Plan.{Plan}
-use Rattle.plan.specs.PlanRead.{jobLines, jobsAfter, boundsAfter, planLines, planHead, nothingAfter, planAlone}
+use Rattle.plan.specs.PlanLines.{jobLines, jobsAfter, boundsAfter, planLines, planHead, nothingAfter, planAlone}
 
 jobLines-form : (s : List ℕ) (n : ℕ) → ByForm (jobLines s n)
 unfolding jobLines

@@ -1,7 +1,7 @@
 -- What an accepted text tells of the plan and of itself: the plan is accepted (`planHead-accepted`, `planAlone-accepted`), the text is the plan written out
 -- (`planHead-written`, `planAlone-written`), the places beyond the plan's jobs and bounds hold zeros (`-trimmed`), and the text is short enough (`-fits`). So a
 -- plan that was read and is written out is read again as the same plan (`planAlone-again`), and no two texts are the same plan (`planAlone-unique`).
--- `jobLines-then`, `jobsAfter-then`, `boundParts-read`, `boundIn-read`, `boundsAfter-then` and `planLines-read` tell it of the lines and their groups.
+-- `jobLines-then`, `jobsAfter-then`, `boundParts-read`, `boundOfLine-read`, `boundsAfter-then` and `planLines-read` tell it of the lines and their groups.
 use mathlib.Core.Path.{_≡_, refl, sym, _∙_, ap, subst}
 use mathlib.Core.Bool.{Bool, true, false, not, cond, _&&_}
 use mathlib.Core.List.{List, [], _∷_, _++_, append-assoc, append-nil}
@@ -28,7 +28,7 @@ use Rattle.plan.specs.declared.Plan.{Plan}
 use Rattle.lines.specs.Reading.{longestText, value, Reading, read, refused, Reader, next}
 use Rattle.plan.specs.Limits.{mostJobs, mostBounds, leastC, greatestC}
 use Rattle.lines.specs.Refusals.{tooLong}
-use Rattle.plan.specs.PlanRead.{jobLines, jobsAfter, BoundParts, partsOf, boundParts, isJob, isWrongPair, boundOf, linedBound, boundIn, boundsAfter, noJob, noBound, filled, planOf, planLines, planHead, nothingAfter, planAlone}
+use Rattle.plan.specs.PlanLines.{jobLines, jobsAfter, BoundParts, partsOf, boundParts, isJob, isWrongPair, boundOf, linedBound, boundOfLine, boundsAfter, noJob, noBound, filled, planOf, planLines, planHead, nothingAfter, planAlone}
 use Rattle.plan.specs.EventNames.{nameBytes, eventName}
 use Rattle.plan.specs.EventNameLaws.{eventName-written}
 use Rattle.lines.specs.Keyed.{keyed}
@@ -43,7 +43,7 @@ pub record JobRead (s : List ℕ) (j : Job) (t : List ℕ) : Type 0 where
   pub accepted : JobAccepted j
   pub written : s ≡ jobsText (j ∷ []) t
 
-pub jobLines-then : {B : Type 0} (s : List ℕ) (n : ℕ) (f : Job → Reader B) {b : B} {t : List ℕ} {k : ℕ}
+jobLines-then : {B : Type 0} (s : List ℕ) (n : ℕ) (f : Job → Reader B) {b : B} {t : List ℕ} {k : ℕ}
     → next (jobLines s n) f ≡ read b t k → Then (λ j r i. JobRead s j r) f b t k
 unfolding jobLines jobsText next
 jobLines-then s n f e = do
@@ -81,7 +81,7 @@ pub record JobsRead (left : ℕ) (s : List ℕ) (js : List Job) (t : List ℕ) :
   pub accepted : All JobAccepted js
   pub written : s ≡ jobsText js t
 
-pub jobsAfter-then : {B : Type 0} (done : List Job) (left : ℕ) (s : List ℕ) (n : ℕ) (f : List Job → Reader B) {b : B} {t : List ℕ} {k : ℕ}
+jobsAfter-then : {B : Type 0} (done : List Job) (left : ℕ) (s : List ℕ) (n : ℕ) (f : List Job → Reader B) {b : B} {t : List ℕ} {k : ℕ}
     → next (jobsAfter done left s n) f ≡ read b t k → Then (λ js r i. JobsRead left s js r) (λ js. f (done ++ js)) b t k
 unfolding jobsAfter next jobsText
 jobsAfter-then done zero s n f e = record { got = []; left = s; line = n; told = record { count = refl; accepted = tt; written = refl }; more = rw append-nil e }
@@ -107,7 +107,7 @@ pub record PartsRead (s : List ℕ) (q : BoundParts) : Type 0 where
   pub form : isNumber (q .c) ≡ true
   pub written : s ≡ nameBytes (q .a) ++ (comma ∷ (nameBytes (q .b) ++ (comma ∷ q .c)))
 
-pub boundParts-read : (s : List ℕ) {q : BoundParts} → boundParts (some s) ≡ some q → PartsRead s q
+boundParts-read : (s : List ℕ) {q : BoundParts} → boundParts (some s) ≡ some q → PartsRead s q
 unfolding boundParts
 boundParts-read s {q} e = by-commas (has comma s) (has comma (after comma s)) refl refl e
   where
@@ -151,9 +151,9 @@ isJob-range jobs i e = by-tests (leb 1 i) (leb i jobs) refl refl e
     by-tests true false p q e = absurd (let z : _≡_ {A = ℕ} 0 1 = cc in omega arith)
     by-tests false b p q e = absurd (let z : _≡_ {A = ℕ} 0 1 = cc in omega arith)
 
-pub boundIn-read : (jobs : ℕ) (given : List Bound) (l : List ℕ) {d : Bound} → linedBound (boundIn jobs given l) ≡ value d → BoundRead jobs given l d
+pub boundOfLine-read : (jobs : ℕ) (given : List Bound) (l : List ℕ) {d : Bound} → linedBound (boundOfLine jobs given l) ≡ value d → BoundRead jobs given l d
 unfolding linedBound boundOf boundParts
-boundIn-read jobs given l {d} e = by-parts (boundParts (afterKey (bytes "bound=") l)) refl e
+boundOfLine-read jobs given l {d} e = by-parts (boundParts (afterKey (bytes "bound=") l)) refl e
   where
     by-key : (o : Option (List ℕ)) → afterKey (bytes "bound=") l ≡ o → (q : BoundParts) → boundParts o ≡ some q → l ≡ boundBytes (record { a = q .a; b = q .b; c = numberValue (q .c) }) []
     by-key none p q h = absurd (let z : _≡_ {A = ℕ} 0 1 = cc in omega arith)
@@ -211,15 +211,15 @@ pub record BoundsRead (jobs : ℕ) (given : List Bound) (left : ℕ) (s : List �
   pub accepted : AllBounds jobs given ds
   pub written : s ≡ boundsText ds ++ t
 
-pub boundsAfter-then : {B : Type 0} (jobs : ℕ) (given : List Bound) (left : ℕ) (s : List ℕ) (n : ℕ) (f : List Bound → Reader B) {b : B} {t : List ℕ} {k : ℕ}
+boundsAfter-then : {B : Type 0} (jobs : ℕ) (given : List Bound) (left : ℕ) (s : List ℕ) (n : ℕ) (f : List Bound → Reader B) {b : B} {t : List ℕ} {k : ℕ}
     → next (boundsAfter jobs given left s n) f ≡ read b t k → Then (λ ds r i. BoundsRead jobs given left s ds r) (λ ds. f (given ++ ds)) b t k
 unfolding boundsAfter next boundsText
 boundsAfter-then jobs given zero s n f e = record { got = []; left = s; line = n; told = record { count = refl; accepted = tt; written = refl }; more = rw append-nil e }
 boundsAfter-then jobs given (suc left) s n f e = do
   all ← next-then (boundsAfter jobs given (suc left) s n) f e
   bound ← next-then _ _ (all .told)
-  q ← line-read (λ l. linedBound (boundIn jobs given l)) s n (bound .told)
-  p ← boundIn-read jobs given (before LF s) (q .held)
+  q ← line-read (λ l. linedBound (boundOfLine jobs given l)) s n (bound .told)
+  p ← boundOfLine-read jobs given (before LF s) (q .held)
   others ← boundsAfter-then jobs (given ++ (bound .got ∷ [])) left (bound .left) (bound .line) f (next-of f (bound .more) (all .more))
   record {
     got = bound .got ∷ others .got;
@@ -264,7 +264,7 @@ linesOf window rounds last jobs js bounds s =
 linesOf-append : (window : ℤ) (rounds last jobs : ℕ) (js : List Job) (bounds : ℕ) (s t : List ℕ) → linesOf window rounds last jobs js bounds s ++ t ≡ linesOf window rounds last jobs js bounds (s ++ t)
 linesOf-append window rounds last jobs js bounds s t = simp (append-assoc, jobsText-append)
 
-pub planLines-read : (s : List ℕ) (n : ℕ) {p : Plan} {t : List ℕ} {k : ℕ} → planLines s n ≡ read p t k → PlanRead s p t
+planLines-read : (s : List ℕ) (n : ℕ) {p : Plan} {t : List ℕ} {k : ℕ} → planLines s n ≡ read p t k → PlanRead s p t
 unfolding planLines planText trimmed
 planLines-read s n {p} {t} {k} e = do
   window ← numberLine-then _ _ _ _ _ _ e
@@ -323,7 +323,7 @@ planLines-read s n {p} {t} {k} e = do
       })
 
 -- 'At most 65,536 bytes'
-pub planHead-read : (s : List ℕ) {p : Plan} {t : List ℕ} {k : ℕ} → planHead s ≡ read p t k → PlanRead s p t × (length s ≤ longestText)
+planHead-read : (s : List ℕ) {p : Plan} {t : List ℕ} {k : ℕ} → planHead s ≡ read p t k → PlanRead s p t × (length s ≤ longestText)
 unfolding planHead
 planHead-read s {p} {t} {k} e = by-length (leb (length s) longestText) refl e
   where
@@ -332,7 +332,7 @@ planHead-read s {p} {t} {k} e = by-length (leb (length s) longestText) refl e
     by-length false h d = absurd (let z : _≡_ {A = ℕ} 0 1 = cc in omega arith)
 
 -- 'nothing after the last'
-pub nothingAfter-read : (m : Reading Plan) {p : Plan} {t : List ℕ} {k : ℕ} → nothingAfter m ≡ read p t k → (m ≡ read p t k) × (t ≡ [])
+nothingAfter-read : (m : Reading Plan) {p : Plan} {t : List ℕ} {k : ℕ} → nothingAfter m ≡ read p t k → (m ≡ read p t k) × (t ≡ [])
 unfolding nothingAfter
 nothingAfter-read (read q [] n) e = (e, cc)
 nothingAfter-read (read q (a ∷ s) n) e = absurd (let z : _≡_ {A = ℕ} 0 1 = cc in omega arith)
@@ -347,7 +347,7 @@ module _ (s : List ℕ) {p : Plan} {t : List ℕ} {k : ℕ} (e : planHead s ≡ 
   pub planHead-written : planText p ++ t ≡ s
   planHead-written = planHead-read s e .0 .written
 
-  pub planHead-trimmed : trimmed p ≡ p
+  planHead-trimmed : trimmed p ≡ p
   planHead-trimmed = planHead-read s e .0 .whole
 
   pub planHead-fits : length s ≤ longestText
@@ -357,7 +357,7 @@ module _ (s : List ℕ) {p : Plan} {t : List ℕ} {k : ℕ} (e : planAlone s ≡
   head : planHead s ≡ read p t k
   head = nothingAfter-read (planHead s) e .0
 
-  pub planAlone-end : t ≡ []
+  planAlone-end : t ≡ []
   planAlone-end = nothingAfter-read (planHead s) e .1
 
   pub planAlone-accepted : Accepted p
@@ -366,7 +366,7 @@ module _ (s : List ℕ) {p : Plan} {t : List ℕ} {k : ℕ} (e : planAlone s ≡
   pub planAlone-written : planText p ≡ s
   planAlone-written = sym (append-nil (planText p)) ∙ ap (λ (x : List ℕ). planText p ++ x) (sym planAlone-end) ∙ planHead-written s head
 
-  pub planAlone-trimmed : trimmed p ≡ p
+  planAlone-trimmed : trimmed p ≡ p
   planAlone-trimmed = planHead-trimmed s head
 
   pub planAlone-fits : length s ≤ longestText

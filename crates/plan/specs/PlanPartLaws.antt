@@ -11,7 +11,7 @@ use Rattle.plan.specs.declared.Plan.{Plan}
 use Rattle.lines.specs.Reading.{longestText, Reading, read, refused}
 use Rattle.lines.specs.Refusals.{tooLong}
 use Rattle.lines.specs.PartLaws.{Tail, tail-self, tail-none, leaves, line-tail, next-tail}
-use Rattle.plan.specs.PlanRead.{jobLines, jobsAfter, boundsAfter, planLines, planHead, nothingAfter, planAlone}
+use Rattle.plan.specs.PlanLines.{jobLines, jobsAfter, boundsAfter, planLines, planHead, nothingAfter, planAlone}
 
 -- ---- a plan
 

@@ -14,7 +14,7 @@ use Rattle.lines.specs.declared.Refusal.{Refusal}
 use Rattle.lines.specs.Reading.{Reading, read, refused}
 use Rattle.lines.specs.Keyed.{keyed}
 use Rattle.plan.specs.EventNames.{nameBytes}
-use Rattle.plan.specs.PlanRead.{planOf, planAlone}
+use Rattle.plan.specs.PlanLines.{planOf, planAlone}
 
 unfoldable pub jobsText : List Job → List ℕ → List ℕ
 jobsText [] s = s

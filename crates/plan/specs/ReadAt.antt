@@ -7,7 +7,7 @@ use Rattle.text.specs.Bytes.{bytes}
 use Rattle.text.specs.Lines.{afterKey}
 use lib.IntN.{ℤ, pos}
 use lib.ListN.{length, take, drop}
-use Rattle.lines.specs.declared.Faulty.{Faulty}
+use Rattle.lines.specs.declared.FaultyLine.{FaultyLine}
 use Rattle.plan.specs.declared.NumberLine.{NumberLine}
 use Rattle.plan.specs.declared.NumberLine.the-variants as numberLine
 use Rattle.plan.specs.declared.Job.{Job}
@@ -24,22 +24,22 @@ use Rattle.plan.specs.declared.Went.{Went}
 use Rattle.plan.specs.declared.Went.the-variants as went
 use Rattle.plan.specs.declared.Jobs.{Jobs}
 use Rattle.plan.specs.Limits.{mostJobs, mostBounds}
-use Rattle.plan.specs.PlanRead.{boundParts, boundOf, linedBound, noJob, noBound, filled, planRest}
+use Rattle.plan.specs.PlanLines.{boundParts, boundOf, linedBound, noJob, noBound, filled, planRest}
 use Rattle.lines.specs.Reading.{Lined, Reading}
 use Rattle.lines.specs.ReadAt.{faultyIn, At, goes, stops, atTold, atPlace}
 
 -- the answers of the code
-abbrev pub numberAt : NumberLine → At ℤ
-numberAt (numberLine.Value z at) = goes z at
-numberAt (numberLine.Bad f) = stops f
+abbrev pub numberLineAt : NumberLine → At ℤ
+numberLineAt (numberLine.Value z at) = goes z at
+numberLineAt (numberLine.Bad f) = stops f
 
-abbrev pub jobAt : JobLines → At Job
-jobAt (jobLines.Value j at) = goes j at
-jobAt (jobLines.Bad f) = stops f
+abbrev pub jobLinesAt : JobLines → At Job
+jobLinesAt (jobLines.Value j at) = goes j at
+jobLinesAt (jobLines.Bad f) = stops f
 
-abbrev pub boundAt : BoundRead → At Bound
-boundAt (boundRead.Value d at) = goes d at
-boundAt (boundRead.Bad f) = stops f
+abbrev pub boundLineAt : BoundRead → At Bound
+boundLineAt (boundRead.Value d at) = goes d at
+boundLineAt (boundRead.Bad f) = stops f
 
 -- of a group of lines: a is what was read there, if all was
 abbrev pub wentAt : {A : Type 0} → A → Went → At A
@@ -77,7 +77,7 @@ abbrev pub firstRest : List ℕ → First → Went → Reading Plan
 firstRest s r (went.On at) = planRest (r .window) (r .rounds) (r .last) (r .jobs) (drop at s) 5
 firstRest s r (went.Bad f) = faultyIn s f
 
-abbrev pub firstFault : Faulty → First
+abbrev pub firstFault : FaultyLine → First
 firstFault f = record { window = pos 0; rounds = 0; last = 0; jobs = 0; went = went.Bad f }
 
 pub record FirstTold (s : List ℕ) (m : Reading Plan) (r : First) : Type 0 where

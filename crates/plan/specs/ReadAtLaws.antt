@@ -12,7 +12,7 @@ use Rattle.lines.specs.ReadAt.{atFault}
 use Rattle.plan.specs.ReadAt.{wentAt, endAt}
 use Rattle.plan.specs.Limits.{longestWindow, mostJobs, longestRunning, latestDeadline, mostRounds, mostWindows}
 use Rattle.lines.specs.Reading.{read, refused, next, numberLine}
-use Rattle.plan.specs.PlanRead.{jobLines, planRest, planLines}
+use Rattle.plan.specs.PlanLines.{jobLines, planRest, planLines}
 
 -- the fault of a group of lines is the same whatever was read there
 pub endAt-fault : {A : Type 0} (a : A) (w : Went) → atFault (endAt w) ≡ atFault (wentAt a w)

@@ -10,16 +10,11 @@ use Rattle.text.specs.Unique.{only}
 use Rattle.plan.specs.declared.Bound.{Bound}
 use Rattle.plan.specs.declared.BoundLine.{BoundLine}
 use Rattle.plan.specs.declared.EventName.{EventName}
-use Rattle.plan.specs.declared.NameRead.{NameRead}
 use Rattle.plan.specs.declared.PlanRead.{PlanRead}
 use Rattle.plan.specs.Limits.{leastC, greatestC}
-use Rattle.plan.specs.EventNames.{eventName, nameRead}
 use Rattle.plan.specs.Pairs.{pairNumber, isWrongNumbered}
-use Rattle.plan.specs.PlanRead.{judgedBound, planHead, planAlone}
+use Rattle.plan.specs.PlanLines.{judgedBound, planHead, planAlone}
 use Rattle.plan.specs.PlanAnswers.{planRead}
-
-pub event-name-unique : (s : List ℕ) {r q : NameRead} → r ≡ nameRead (eventName s) → q ≡ nameRead (eventName s) → r ≡ q
-event-name-unique s = only
 
 pub is-c-unique : (c : ℤ) {r q : Bool} → r ≡ within leastC greatestC c → q ≡ within leastC greatestC c → r ≡ q
 is-c-unique c = only

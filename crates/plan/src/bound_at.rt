@@ -3,7 +3,7 @@ use crate::BoundLine;
 use crate::BoundRead;
 use crate::MOST_BOUNDS;
 use crate::bound_line::read_bound;
-use lines::Faulty;
+use lines::FaultyLine;
 use lines::Refusal;
 use lines::fault_at;
 ghost use mathlib.Core.Path.{_≡_};
@@ -12,7 +12,7 @@ ghost use lib.ListN.{length, take, drop};
 ghost use Rattle.plan.specs.Limits.{mostBounds};
 ghost use Rattle.lines.specs.Reading.{line};
 ghost use Rattle.plan.specs.Pairs.{isWrongNumbered};
-ghost use Rattle.plan.specs.ReadAt.{boundLined, boundAt};
+ghost use Rattle.plan.specs.ReadAt.{boundLined, boundLineAt};
 ghost use Rattle.lines.specs.ReadAt.{atTold, atPlace, atFault};
 
 // The bound of the line that begins at a place, and where the next line begins.
@@ -25,12 +25,12 @@ pub fn read_bound_at(
     n: usize,
 ) -> BoundRead
     requires { ⌜ (at ≤ length (now s)) × ((n ≤ mostBounds) × (n ≤ length (now given))) ⌝ }
-    ensures { λ r. ⌜ line (boundLined jobs (isWrongNumbered (take n (now (given .entry))))) (drop at (now (s .entry))) number ≡ atTold (now (s .entry)) (number + 1) (boundAt r) ⌝ }
-    ensures { λ r. ⌜ atPlace (boundAt r) ≤ length (now (s .entry)) ⌝ }
+    ensures { λ r. ⌜ line (boundLined jobs (isWrongNumbered (take n (now (given .entry))))) (drop at (now (s .entry))) number ≡ atTold (now (s .entry)) (number + 1) (boundLineAt r) ⌝ }
+    ensures { λ r. ⌜ atPlace (boundLineAt r) ≤ length (now (s .entry)) ⌝ }
 {
     let next = text::next_line(s, at);
     if s.len() < next {
-        return BoundRead::Bad(Faulty {
+        return BoundRead::Bad(FaultyLine {
             refusal: Refusal::Form(number),
             at,
         });
@@ -41,17 +41,17 @@ pub fn read_bound_at(
         BoundLine::Value(d) => BoundRead::Value(d, next),
         BoundLine::Bad(f) => {
             let refusal = fault_at(number, f);
-            BoundRead::Bad(Faulty { refusal, at })
+            BoundRead::Bad(FaultyLine { refusal, at })
         }
     }
 }
 
 // The fault of a line that is faulty.
-pub fn bound_fault(l: BoundRead) -> Faulty
-    ensures { λ r. ⌜ r ≡ atFault (boundAt l) ⌝ }
+pub fn bound_fault(l: BoundRead) -> FaultyLine
+    ensures { λ r. ⌜ r ≡ atFault (boundLineAt l) ⌝ }
 {
     match l {
-        BoundRead::Value(_, _) => Faulty {
+        BoundRead::Value(_, _) => FaultyLine {
             refusal: Refusal::Form(0),
             at: 0,
         },

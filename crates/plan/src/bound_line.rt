@@ -21,7 +21,7 @@ ghost use Rattle.text.specs.Bytes.{bytes};
 ghost use Rattle.text.specs.Lines.{afterKey};
 ghost use Rattle.text.specs.Numbers.{within};
 ghost use Rattle.plan.specs.Limits.{leastC, greatestC, mostBounds};
-ghost use Rattle.plan.specs.PlanRead.{isJob, boundParts, judgedBound, boundOf};
+ghost use Rattle.plan.specs.PlanLines.{isJob, boundParts, judgedBound, boundOf};
 ghost use Rattle.plan.specs.BoundNames.{nameTo, namesIn};
 ghost use Rattle.plan.specs.Pairs.{isWrongNumbered};
 

@@ -15,7 +15,7 @@ ghost use mathlib.Core.List.{[]};
 ghost use Prim.Native.Nat.{_≤_};
 ghost use lib.ListN.{length, drop};
 ghost use Rattle.plan.specs.Limits.{mostJobs, mostBounds, mostLines};
-ghost use Rattle.plan.specs.PlanRead.{boundsAfter};
+ghost use Rattle.plan.specs.PlanLines.{boundsAfter};
 ghost use Rattle.plan.specs.ReadAt.{boundsTold, boundsFilled, endAt};
 ghost use Rattle.lines.specs.ReadAt.{atPlace};
 

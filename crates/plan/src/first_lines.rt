@@ -5,12 +5,12 @@ use crate::NumberLine;
 use crate::Went;
 use crate::number_line::number_fault;
 use crate::number_line::read_number_line;
-use lines::Faulty;
+use lines::FaultyLine;
 use lines::Refusal;
 ghost use mathlib.Core.Path.{_≡_};
 ghost use lib.IntN.{pos, natAbs};
 ghost use lib.Signed.{_≤ℤ_};
-ghost use Rattle.plan.specs.PlanRead.{planLines};
+ghost use Rattle.plan.specs.PlanLines.{planLines};
 ghost use Rattle.plan.specs.ReadAt.{FirstTold, firstFault, endAt};
 ghost use Rattle.lines.specs.ReadAt.{atFault};
 
@@ -23,11 +23,11 @@ pub fn count(z: i32) -> u64
 }
 
 // The fault of lines that are faulty.
-pub fn went_fault(w: Went) -> Faulty
+pub fn went_fault(w: Went) -> FaultyLine
     ensures { λ r. ⌜ r ≡ atFault (endAt w) ⌝ }
 {
     match w {
-        Went::On(_) => Faulty {
+        Went::On(_) => FaultyLine {
             refusal: Refusal::Form(0),
             at: 0,
         },
@@ -36,7 +36,7 @@ pub fn went_fault(w: Went) -> Faulty
 }
 
 // The first lines of a faulty text.
-fn no_first(fault: Faulty) -> First
+fn no_first(fault: FaultyLine) -> First
     ensures { λ r. ⌜ r ≡ firstFault fault ⌝ }
 {
     First {

@@ -4,21 +4,21 @@ use crate::JobLines;
 use crate::NumberLine;
 use crate::number_line::number_fault;
 use crate::number_line::read_number_line;
-use lines::Faulty;
+use lines::FaultyLine;
 use lines::Refusal;
 ghost use mathlib.Core.Path.{_≡_};
 ghost use Prim.Native.Nat.{_+_, _≤_};
 ghost use lib.ListN.{length, drop};
 ghost use Rattle.plan.specs.Limits.{mostLines};
-ghost use Rattle.plan.specs.PlanRead.{jobLines};
-ghost use Rattle.plan.specs.ReadAt.{jobAt};
+ghost use Rattle.plan.specs.PlanLines.{jobLines};
+ghost use Rattle.plan.specs.ReadAt.{jobLinesAt};
 ghost use Rattle.lines.specs.ReadAt.{atTold, atPlace, atFault};
 
 // The job whose lines begin at a place, and where the line after them begins.
 pub fn read_job(s: &[u8], at: usize, line: usize) -> JobLines
     requires { ⌜ (at ≤ length (now s)) × (line ≤ mostLines) ⌝ }
-    ensures { λ r. ⌜ jobLines (drop at (now (s .entry))) line ≡ atTold (now (s .entry)) (line + 1 + 1 + 1 + 1) (jobAt r) ⌝ }
-    ensures { λ r. ⌜ atPlace (jobAt r) ≤ length (now (s .entry)) ⌝ }
+    ensures { λ r. ⌜ jobLines (drop at (now (s .entry))) line ≡ atTold (now (s .entry)) (line + 1 + 1 + 1 + 1) (jobLinesAt r) ⌝ }
+    ensures { λ r. ⌜ atPlace (jobLinesAt r) ≤ length (now (s .entry)) ⌝ }
 {
     let first = read_number_line(s, at, line, b"min=", 0, 86_400_000);
     let NumberLine::Value(min, at2) = first else {
@@ -49,11 +49,11 @@ pub fn read_job(s: &[u8], at: usize, line: usize) -> JobLines
 }
 
 // The fault of lines that are faulty.
-pub fn job_fault(l: JobLines) -> Faulty
-    ensures { λ r. ⌜ r ≡ atFault (jobAt l) ⌝ }
+pub fn job_fault(l: JobLines) -> FaultyLine
+    ensures { λ r. ⌜ r ≡ atFault (jobLinesAt l) ⌝ }
 {
     match l {
-        JobLines::Value(_, _) => Faulty {
+        JobLines::Value(_, _) => FaultyLine {
             refusal: Refusal::Form(0),
             at: 0,
         },

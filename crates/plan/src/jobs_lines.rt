@@ -11,7 +11,7 @@ ghost use mathlib.Core.List.{[]};
 ghost use Prim.Native.Nat.{_≤_};
 ghost use lib.ListN.{length, drop};
 ghost use Rattle.plan.specs.Limits.{mostJobs};
-ghost use Rattle.plan.specs.PlanRead.{jobsAfter};
+ghost use Rattle.plan.specs.PlanLines.{jobsAfter};
 ghost use Rattle.plan.specs.ReadAt.{jobsTold, jobsFilled, endAt};
 ghost use Rattle.lines.specs.ReadAt.{atPlace};
 

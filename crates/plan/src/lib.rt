@@ -1,8 +1,8 @@
 // Plans: their types, and their texts read.
 
 use lines::Fault;
-use lines::Faulty;
-use lines::PlanAnswer;
+use lines::FaultyLine;
+use lines::TextAnswer;
 
 // ---- sizes
 
@@ -67,7 +67,7 @@ pub struct Plan {
 // ---- what the readers answer
 
 // An event's name as it was read; Bad where the bytes are no name.
-pub enum NameRead {
+enum NameRead {
     Value(EventName),
     Bad,
 }
@@ -95,25 +95,25 @@ pub enum BoundLine {
 // A line that is a key and a number: the number and where the next line begins, or the fault.
 enum NumberLine {
     Value(i32, usize),
-    Bad(Faulty),
+    Bad(FaultyLine),
 }
 
 // The four lines of a job: the job and where the next line begins, or the first fault.
 enum JobLines {
     Value(Job, usize),
-    Bad(Faulty),
+    Bad(FaultyLine),
 }
 
 // A bound line at its place: the bound and where the next line begins, or the fault.
 enum BoundRead {
     Value(Bound, usize),
-    Bad(Faulty),
+    Bad(FaultyLine),
 }
 
 // Where a group of lines ended: the place of the next line, or the first fault.
 enum Went {
     On(usize),
-    Bad(Faulty),
+    Bad(FaultyLine),
 }
 
 // The jobs of a plan as they were read; on a fault what was read before it.
@@ -140,7 +140,7 @@ struct First {
 // A plan as it was read. Accepted: the plan, the place where it ended, and the number of the line that begins there. Refused: the empty plan, the
 // place where the faulty line begins (the end of a text that is too long), and 0.
 pub struct PlanRead {
-    pub answer: PlanAnswer,
+    pub answer: TextAnswer,
     pub plan: Plan,
     pub at: usize,
     pub line: usize,
@@ -160,7 +160,6 @@ mod reader;
 
 pub use bound_line::is_c;
 pub use bound_line::judge_bound;
-pub use names::event_name;
 pub use pairs::pair_number;
 pub use reader::read_head;
 pub use reader::read_plan;

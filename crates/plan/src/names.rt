@@ -8,7 +8,7 @@ ghost use Prim.Native.Nat.{_<_};
 ghost use mathlib.Core.Bool.{_&&_};
 ghost use mathlib.Core.List.{[], _∷_};
 ghost use mathlib.Core.Option.{some};
-ghost use Rattle.plan.specs.PlanRead.{isJob};
+ghost use Rattle.plan.specs.PlanLines.{isJob};
 ghost use Rattle.plan.specs.EventNames.{eventName, nameOf, kindOf, jobOf, nameRead, letterNumber, kindNumber, eventNumber, isNext};
 
 // A name with its letter and its kind known: its last byte is the job digit.

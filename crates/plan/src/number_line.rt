@@ -1,7 +1,7 @@
 // A line that is a key and a number, read at a place of the text.
 use crate::NumberLine;
 use crate::narrow::narrow;
-use lines::Faulty;
+use lines::FaultyLine;
 use lines::Refusal;
 use lines::fault_at;
 use lines::line_lacks;
@@ -10,7 +10,7 @@ ghost use mathlib.Core.Path.{_≡_};
 ghost use Prim.Native.Nat.{_+_, _≤_};
 ghost use lib.ListN.{length, drop};
 ghost use Rattle.lines.specs.Reading.{numberLine};
-ghost use Rattle.plan.specs.ReadAt.{numberAt};
+ghost use Rattle.plan.specs.ReadAt.{numberLineAt};
 ghost use Rattle.lines.specs.ReadAt.{atTold, atPlace, atFault};
 
 // The number of the line that begins at a place, and where the next line begins.
@@ -23,12 +23,12 @@ pub fn read_number_line(
     hi: i32,
 ) -> NumberLine
     requires { ⌜ at ≤ length (now s) ⌝ }
-    ensures { λ r. ⌜ numberLine (now (key .entry)) lo hi (drop at (now (s .entry))) line ≡ atTold (now (s .entry)) (line + 1) (numberAt r) ⌝ }
-    ensures { λ r. ⌜ atPlace (numberAt r) ≤ length (now (s .entry)) ⌝ }
+    ensures { λ r. ⌜ numberLine (now (key .entry)) lo hi (drop at (now (s .entry))) line ≡ atTold (now (s .entry)) (line + 1) (numberLineAt r) ⌝ }
+    ensures { λ r. ⌜ atPlace (numberLineAt r) ≤ length (now (s .entry)) ⌝ }
 {
     let next = text::next_line(s, at);
     if s.len() < next {
-        return NumberLine::Bad(Faulty {
+        return NumberLine::Bad(FaultyLine {
             refusal: Refusal::Form(line),
             at,
         });
@@ -39,17 +39,17 @@ pub fn read_number_line(
         Number::Value(z) => NumberLine::Value(narrow(z), next),
         Number::Bad(f) => {
             let refusal = fault_at(line, line_lacks(f));
-            NumberLine::Bad(Faulty { refusal, at })
+            NumberLine::Bad(FaultyLine { refusal, at })
         }
     }
 }
 
 // The fault of a line that is faulty.
-pub fn number_fault(l: NumberLine) -> Faulty
-    ensures { λ r. ⌜ r ≡ atFault (numberAt l) ⌝ }
+pub fn number_fault(l: NumberLine) -> FaultyLine
+    ensures { λ r. ⌜ r ≡ atFault (numberLineAt l) ⌝ }
 {
     match l {
-        NumberLine::Value(_, _) => Faulty {
+        NumberLine::Value(_, _) => FaultyLine {
             refusal: Refusal::Form(0),
             at: 0,
         },

@@ -18,16 +18,16 @@ use crate::first_lines::went_fault;
 use crate::jobs_lines::read_jobs;
 use crate::number_line::number_fault;
 use crate::number_line::read_number_line;
-use lines::Faulty;
+use lines::FaultyLine;
 use lines::LONGEST_TEXT;
-use lines::PlanAnswer;
 use lines::Refusal;
+use lines::TextAnswer;
 ghost use mathlib.Core.Path.{_≡_};
-ghost use Rattle.plan.specs.PlanRead.{planHead, planAlone};
+ghost use Rattle.plan.specs.PlanLines.{planHead, planAlone};
 ghost use Rattle.plan.specs.PlanAnswers.{planRead, refusedRead};
 
 // The answer to a faulty text: the refusal, the empty plan, and where the faulty line begins.
-fn refused_plan(fault: Faulty) -> PlanRead
+fn refused_plan(fault: FaultyLine) -> PlanRead
     ensures { λ r. ⌜ r ≡ refusedRead fault ⌝ }
 {
     let no_job = Job {
@@ -59,7 +59,7 @@ fn refused_plan(fault: Faulty) -> PlanRead
     };
     let refusal = fault.refusal;
     PlanRead {
-        answer: PlanAnswer::Refused(refusal),
+        answer: TextAnswer::Refused(refusal),
         plan,
         at: fault.at,
         line: 0,
@@ -72,7 +72,7 @@ pub fn read_head(s: &[u8]) -> PlanRead
 {
     let len = s.len();
     if LONGEST_TEXT < len {
-        return refused_plan(Faulty {
+        return refused_plan(FaultyLine {
             refusal: Refusal::Form(0),
             at: len,
         });
@@ -113,7 +113,7 @@ pub fn read_head(s: &[u8]) -> PlanRead
     };
     let after = next + bounds;
     PlanRead {
-        answer: PlanAnswer::Accepted,
+        answer: TextAnswer::Accepted,
         plan,
         at: end,
         line: after,
@@ -126,13 +126,13 @@ pub fn read_plan(s: &[u8]) -> PlanRead
 {
     let r = read_head(s);
     let answer = r.answer;
-    let PlanAnswer::Accepted = answer else {
+    let TextAnswer::Accepted = answer else {
         return r;
     };
     let at = r.at;
     let line = r.line;
     if at < s.len() {
-        return refused_plan(Faulty {
+        return refused_plan(FaultyLine {
             refusal: Refusal::Form(line),
             at,
         });

@@ -9,7 +9,7 @@ use Rattle.text.specs.Numbers.{allDigits, isPositive, isNumber, digitsValue, nu
 use Rattle.lines.specs.Refusals.{refusedLine}
 use Rattle.lines.specs.Reading.{next, lined, line, linedNumber}
 use Rattle.plan.specs.EventNames.{eventName, sameEvent}
-use Rattle.plan.specs.PlanRead.{jobLines, jobsAfter, boundParts, isGiven, isWrongPair, boundOf, linedBound, boundsAfter, planLines, planHead, nothingAfter}
+use Rattle.plan.specs.PlanLines.{jobLines, jobsAfter, boundParts, isGiven, isWrongPair, boundOf, linedBound, boundsAfter, planLines, planHead, nothingAfter}
 use Rattle.bounds.specs.Events.{jobAt, shift, earliest, latest, nodeOf, eventOf}
 use Rattle.bounds.specs.Judgements.{judged}
 use Rattle.bounds.specs.Tables.{least, plus, join, at, listed, leastOf, judgement, anyBelow, contradicts, keptRows, judgedSet}

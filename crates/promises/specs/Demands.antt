@@ -15,12 +15,12 @@ use Rattle.plan.specs.declared.Plan.{Plan}
 use Rattle.lines.specs.declared.Refusal.{Refusal}
 use Rattle.lines.specs.declared.Refusal.the-variants as refusal
 use Rattle.lines.specs.Reading.{longestText, read}
-use Rattle.plan.specs.PlanRead.{planAlone, planHead}
+use Rattle.plan.specs.PlanLines.{planAlone, planHead}
 use Rattle.plan.specs.PlanWritten.{planText, trimmed, judgedPlan}
 use Rattle.plan.specs.PlanLaws.{planAlone-written, planAlone-again, planAlone-fits, planAlone-unique, planHead-accepted}
 use Rattle.plan.specs.Accepted.{Accepted}
 use Rattle.values.specs.AgainLaws.{accepted-again}
-use Rattle.values.specs.JudgedLines.{Placed}
+use Rattle.values.specs.JudgedLines.{HasPlaces}
 use Rattle.values.specs.JudgedLaws.{judgedPlan-accepted}
 use Rattle.bounds.specs.Tables.{Rows}
 use Rattle.rounds.specs.declared.Verdict.the-variants.{Settled, NoStrategy}
@@ -83,7 +83,7 @@ one-text = planAlone-unique
 pub read-accepted : (s : List ℕ) {p : Plan} {t : List ℕ} {n : ℕ} → planHead s ≡ read p t n → Accepted p
 read-accepted s e = planHead-accepted s e
 
-pub judged-accepted : (p : Plan) → Placed p → judgedPlan p ≡ none → Accepted p
+pub judged-accepted : (p : Plan) → HasPlaces p → judgedPlan p ≡ none → Accepted p
 judged-accepted = judgedPlan-accepted
 
 module _ (p : Plan) (good : Accepted p) where

@@ -19,12 +19,12 @@ use Rattle.lines.specs.declared.Refusal.{Refusal}
 use Rattle.lines.specs.declared.Refusal.the-variants as refusal
 use Rattle.lines.specs.Refusals.{refusedLine, ends}
 use Rattle.lines.specs.Reading.{Reading, read, refused, next}
-use Rattle.plan.specs.PlanRead.{planHead, planAlone, noJob}
+use Rattle.plan.specs.PlanLines.{planHead, planAlone, noJob}
 use Rattle.plan.specs.PlanLaws.{planHead-accepted}
 use Rattle.plan.specs.Accepted.{Accepted}
 use Rattle.bounds.specs.Tables.{Rows}
 use Rattle.rounds.specs.Rounds.{Outcome, settled, noStrategy, unsettled, outcome, verdictOf, verdictTold}
-use Rattle.rounds.specs.TextVerdict.{orRefused, verdictAfter, acceptedAlone}
+use Rattle.rounds.specs.TextVerdict.{orRefused, verdictAfter, settledAlone}
 use Rattle.calendars.specs.declared.Calendar.{Calendar}
 use Rattle.calendars.specs.Calendars.{calendar}
 use Rattle.calendars.specs.CalendarText.{outcomeText, answered, calendarOutput}
@@ -186,7 +186,7 @@ refused-ends s x part e = of (planHead s) refl e
         only-line same (ap sessionOf d)
 
 -- a plan's text that is refused, its verdict included, has that line for its whole answer
-pub refused-printed : (s : List ℕ) (x : Refusal) (part : List ℕ) → acceptedAlone s ≡ refused x part → calendarOutput s ≡ refusedLine x
+pub refused-printed : (s : List ℕ) (x : Refusal) (part : List ℕ) → settledAlone s ≡ refused x part → calendarOutput s ≡ refusedLine x
 unfolding verdictAfter orRefused answered outcomeText
 refused-printed s x part e = of (planAlone s) e
   where

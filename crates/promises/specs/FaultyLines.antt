@@ -6,7 +6,7 @@ use mathlib.Core.Path.{_≡_, refl}
 use mathlib.Core.List.{List, [], _∷_, map}
 use Rattle.text.specs.Bytes.{bytes}
 use Rattle.lines.specs.Reading.{Reading, refusedNumber, refusedValue, faultyPart}
-use Rattle.rounds.specs.TextVerdict.{orRefused, verdictAfter, acceptedAlone}
+use Rattle.rounds.specs.TextVerdict.{orRefused, verdictAfter, settledAlone}
 use Rattle.session.specs.SessionRead.{stepsWithin, sessionRead}
 use Rattle.promises.specs.Case.{computing}
 
@@ -63,7 +63,7 @@ faultyLines =
     ∷ record { text = "window=10\nrounds=6\nlast=1000\njobs=1\nmin=2\nmax=4\nrelease=0\ndeadline=10\nbounds=1\nbound=ns1,ts1,9\nno step\n"; alone = told 1 11 "no step"; session = told 5 6 "" }
     ∷ []
 
-pub alone-right : map (λ (f : Faulty). toldOf (acceptedAlone (bytes (f .text)))) faultyLines ≡ map (λ (f : Faulty). f .alone) faultyLines
+pub alone-right : map (λ (f : Faulty). toldOf (settledAlone (bytes (f .text)))) faultyLines ≡ map (λ (f : Faulty). f .alone) faultyLines
 unfolding computing faultyPart orRefused verdictAfter
 alone-right = refl
 

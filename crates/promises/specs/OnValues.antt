@@ -10,7 +10,7 @@ use Rattle.plan.specs.declared.Letter.the-variants.{This, Next}
 use Rattle.plan.specs.declared.Kind.the-variants.{Start}
 use Rattle.plan.specs.declared.Plan.{Plan}
 use Rattle.lines.specs.declared.Refusal.the-variants as refusal
-use Rattle.plan.specs.PlanRead.{noJob, noBound}
+use Rattle.plan.specs.PlanLines.{noJob, noBound}
 use Rattle.plan.specs.PlanWritten.{jobsText, boundsText, planText, refusalOf}
 use Rattle.calendars.specs.declared.Calendar.{Calendar}
 use Rattle.calendars.specs.Calendars.{noTerms}

@@ -14,7 +14,7 @@ use Rattle.lines.specs.declared.Refusal.the-variants as refusal
 use Rattle.lines.specs.Refusals.{refusedLine}
 use Rattle.lines.specs.Reading.{Reading, read, refused}
 use Rattle.lines.specs.Reading as reading
-use Rattle.plan.specs.PlanRead.{planAlone, planHead}
+use Rattle.plan.specs.PlanLines.{planAlone, planHead}
 use Rattle.plan.specs.PlanLaws.{planAlone-accepted, planHead-accepted}
 use Rattle.plan.specs.Accepted.{Accepted}
 use Rattle.bounds.specs.Tables.{Rows}

@@ -18,7 +18,7 @@ use Rattle.plan.specs.declared.EventName.{EventName}
 use Rattle.plan.specs.declared.Bound.{Bound}
 use Rattle.plan.specs.declared.Plan.{Plan}
 use Rattle.plan.specs.EventNames.{isNext}
-use Rattle.plan.specs.PlanRead.{noBound}
+use Rattle.plan.specs.PlanLines.{noBound}
 use Rattle.plan.specs.PlanWritten.{boundsOf}
 use Rattle.plan.specs.Accepted.{BoundAccepted, Accepted}
 use Rattle.plan.specs.ListLaws.{All}

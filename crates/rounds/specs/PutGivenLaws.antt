@@ -11,7 +11,7 @@ use lib.ListN.{drop, getD, length-take, drop-of-length-le}
 use lib.Seq.{drop-cons, getD-take}
 use Rattle.plan.specs.declared.Bound.{Bound}
 use Rattle.plan.specs.declared.Plan.{Plan}
-use Rattle.plan.specs.PlanRead.{noBound}
+use Rattle.plan.specs.PlanLines.{noBound}
 use Rattle.plan.specs.PlanWritten.{boundsOf}
 use Rattle.plan.specs.Accepted.{Accepted}
 use Rattle.bounds.specs.Events.{nodeOf}

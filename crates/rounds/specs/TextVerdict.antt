@@ -3,7 +3,7 @@ use Prim.Native.Nat.{ℕ}
 use mathlib.Core.List.{List, []}
 use Rattle.plan.specs.declared.Plan.{Plan}
 use Rattle.lines.specs.Reading.{Reading, read, refused}
-use Rattle.plan.specs.PlanRead.{planAlone, planHead}
+use Rattle.plan.specs.PlanLines.{planAlone, planHead}
 use Rattle.rounds.specs.declared.VerdictTold.{VerdictTold}
 use Rattle.rounds.specs.declared.VerdictTold.the-variants.{Settled, Refused}
 use Rattle.rounds.specs.Rounds.{verdict, verdictTold}
@@ -18,8 +18,8 @@ verdictAfter (read p s n) = orRefused (verdictTold (verdict p)) (read p s n)
 verdictAfter (refused x part) = refused x part
 
 -- a plan alone, and a plan at the head of a session
-abbrev pub acceptedAlone : List ℕ → Reading Plan
-acceptedAlone s = verdictAfter (planAlone s)
+abbrev pub settledAlone : List ℕ → Reading Plan
+settledAlone s = verdictAfter (planAlone s)
 
-abbrev pub acceptedHead : List ℕ → Reading Plan
-acceptedHead s = verdictAfter (planHead s)
+abbrev pub settledHead : List ℕ → Reading Plan
+settledHead s = verdictAfter (planHead s)

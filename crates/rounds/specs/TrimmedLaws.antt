@@ -17,7 +17,7 @@ use Rattle.plan.specs.declared.Job.{Job}
 use Rattle.plan.specs.declared.Bound.{Bound}
 use Rattle.plan.specs.declared.Plan.{Plan}
 use Rattle.plan.specs.Limits.{mostJobs, mostBounds}
-use Rattle.plan.specs.PlanRead.{noJob, noBound, filled}
+use Rattle.plan.specs.PlanLines.{noJob, noBound, filled}
 use Rattle.plan.specs.PlanWritten.{jobsOf, boundsOf, trimmed}
 use Rattle.plan.specs.Accepted.{Accepted}
 use Rattle.plan.specs.ListLaws.{filled-at, filled-all}

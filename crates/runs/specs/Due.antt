@@ -10,7 +10,7 @@ use Rattle.clock.specs.declared.RunTime.{RunTime}
 use Rattle.clock.specs.Spans.{Spanned, Near}
 use Rattle.plan.specs.declared.Plan.{Plan}
 use Rattle.plan.specs.Limits.{mostJobs}
-use Rattle.plan.specs.PlanRead.{noJob}
+use Rattle.plan.specs.PlanLines.{noJob}
 use Rattle.calendars.specs.declared.Calendar.{Calendar}
 use Rattle.calendars.specs.Calendars.{noTerms}
 use Rattle.runs.specs.declared.Due.{Due}

@@ -14,7 +14,7 @@ use Rattle.whole.specs.Rules.{wholes}
 use Rattle.whole.specs.SplitLaws.{split-neg, split-sub}
 use Rattle.plan.specs.declared.Plan.{Plan}
 use Rattle.plan.specs.Limits.{mostJobs}
-use Rattle.plan.specs.PlanRead.{filled}
+use Rattle.plan.specs.PlanLines.{filled}
 use Rattle.plan.specs.Accepted.{Accepted}
 use Rattle.bounds.specs.Events.{startNode, finishNode, nodes}
 use Rattle.bounds.specs.Tables.{Cell, off, upto, Rows, at, listed, Set, contradiction, bounds}

@@ -16,7 +16,7 @@ use Rattle.lines.specs.declared.Refusal.{Refusal}
 use Rattle.lines.specs.declared.Refusal.the-variants as refusal
 use Rattle.lines.specs.Refusals.{outsideLimits}
 use Rattle.plan.specs.Limits.{mostJobs}
-use Rattle.plan.specs.PlanRead.{noJob}
+use Rattle.plan.specs.PlanLines.{noJob}
 use Rattle.plan.specs.PlanWritten.{judgedPlan}
 use Rattle.bounds.specs.Tables.{listed}
 use Rattle.calendars.specs.declared.Calendar.{Calendar}

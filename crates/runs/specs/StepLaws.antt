@@ -12,8 +12,8 @@ use Rattle.clock.specs.declared.RunTime.{RunTime}
 use Rattle.clock.specs.Spans.{Near}
 use Rattle.clock.specs.Clock.{isBetween, movedBy}
 use Rattle.plan.specs.declared.Plan.{Plan}
-use Rattle.lines.specs.declared.PlanAnswer.{PlanAnswer}
-use Rattle.lines.specs.declared.PlanAnswer.the-variants as planAnswer
+use Rattle.lines.specs.declared.TextAnswer.{TextAnswer}
+use Rattle.lines.specs.declared.TextAnswer.the-variants as planAnswer
 use Rattle.lines.specs.declared.Refusal.{Refusal}
 use Rattle.lines.specs.declared.Refusal.the-variants as refusal
 use Rattle.lines.specs.Refusals.{outsideLimits}
@@ -21,7 +21,7 @@ use Rattle.plan.specs.Limits.{mostJobs}
 use Rattle.plan.specs.PlanWritten.{judgedPlan}
 use Rattle.values.specs.PlanJudged.{judgedAnswer}
 use Rattle.values.specs.JudgedLaws.{judgedAnswer-none, judgedAnswer-some, accepted-judged}
-use Rattle.plan.specs.PlanRead.{noJob}
+use Rattle.plan.specs.PlanLines.{noJob}
 use Rattle.calendars.specs.declared.Calendar.{Calendar}
 use Rattle.runs.specs.declared.Answer.the-variants.{Final}
 use Rattle.runs.specs.declared.Due.{Due}
@@ -108,7 +108,7 @@ module _ (p : Plan) (c : Calendar) (r : Run) (st : Step) where
 -- ---- a step on values: the plan is judged first
 
 -- with the answer a to its plan
-module _ (p : Plan) (c : Calendar) (r : Run) (st : Step) (a : PlanAnswer) (judged : a ≡ judgedAnswer (judgedPlan p)) where
+module _ (p : Plan) (c : Calendar) (r : Run) (st : Step) (a : TextAnswer) (judged : a ≡ judgedAnswer (judgedPlan p)) where
   pub step-refused : (x : Refusal) → a ≡ planAnswer.Refused x → refusedWith r x ≡ step p c r st
   unfolding step valuesRefused unlessRefused
   step-refused x e = rw (judgedAnswer-some (judgedPlan p) x (sym judged ∙ e))

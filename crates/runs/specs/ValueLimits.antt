@@ -10,7 +10,7 @@ use Rattle.text.specs.Numbers.{within}
 use Rattle.clock.specs.declared.RunTime.{RunTime}
 use Rattle.plan.specs.declared.Plan.{Plan}
 use Rattle.plan.specs.Limits.{leastC, greatestC}
-use Rattle.plan.specs.PlanRead.{isJob}
+use Rattle.plan.specs.PlanLines.{isJob}
 use Rattle.bounds.specs.Tables.{anyBelow}
 use Rattle.calendars.specs.declared.Terms.{Terms}
 use Rattle.calendars.specs.declared.Calendar.{Calendar}

@@ -8,7 +8,7 @@ use crate::steps::refused_with;
 use crate::steps::step_accepted;
 use calendars::Calendar;
 use clock::RunTime;
-use lines::PlanAnswer;
+use lines::TextAnswer;
 use plan::Plan;
 ghost use mathlib.Core.Path.{_≡_};
 ghost use Rattle.runs.specs.Steps as steps;
@@ -21,8 +21,8 @@ pub fn take_step(p: Plan, c: Calendar, run: Run, st: Step) -> Answered
 {
     let judged = values::judge_plan(p);
     match judged {
-        PlanAnswer::Accepted => step_accepted(p, c, run, st),
-        PlanAnswer::Refused(x) => refused_with(run, x),
+        TextAnswer::Accepted => step_accepted(p, c, run, st),
+        TextAnswer::Refused(x) => refused_with(run, x),
     }
 }
 

@@ -5,12 +5,12 @@ use mathlib.Core.Path.{_≡_, sym, ap}
 use mathlib.Core.List.{List}
 use native.Mathlib.Omega.{arith}
 use lib.ListN.{length, drop}
-use Rattle.lines.specs.declared.PlanAnswer.the-variants as planAnswer
+use Rattle.lines.specs.declared.TextAnswer.the-variants as planAnswer
 use Rattle.lines.specs.declared.Refusal.{Refusal}
 use Rattle.lines.specs.Reading.{longestText}
 use Rattle.lines.specs.Refusals.{refusedLine}
 use Rattle.plan.specs.declared.PlanRead.{PlanRead}
-use Rattle.plan.specs.PlanRead.{planHead}
+use Rattle.plan.specs.PlanLines.{planHead}
 use Rattle.plan.specs.PlanLaws.{planHead-accepted, planHead-fits}
 use Rattle.plan.specs.PlanAnswers.{planRead}
 use Rattle.plan.specs.PlanPartLaws.{planHead-tail}

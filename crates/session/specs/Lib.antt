@@ -1,9 +1,11 @@
 -- Sessions, as document 01 has them. In reading order: steps read, answers printed, the dispatch program's output, and what ends a session. These files are
 -- definitions alone; the laws stand after them.
+-- ---- document 01
 pub mod StepRead
 pub mod AnswerText
 pub mod Sessions
 pub mod SessionRead
+-- ---- what the code works with
 pub mod StepAt
 pub mod Judged
 -- ---- laws

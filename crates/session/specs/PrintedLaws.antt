@@ -17,7 +17,7 @@ use Rattle.lines.specs.declared.Refusal.{Refusal}
 use Rattle.lines.specs.declared.Refusal.the-variants as refusal
 use Rattle.lines.specs.Refusals.{number, refusedLine, outsideLimits}
 use Rattle.lines.specs.Reading.{Reading, read, refused}
-use Rattle.plan.specs.PlanRead.{noJob, planHead}
+use Rattle.plan.specs.PlanLines.{noJob, planHead}
 use Rattle.rounds.specs.declared.Verdict.the-variants.{NoStrategy}
 use Rattle.rounds.specs.Rounds.{Outcome, settled, noStrategy, unsettled, outcome, verdictOf}
 use Rattle.calendars.specs.declared.Calendar.{Calendar}
@@ -92,7 +92,7 @@ finished-or p r t (Running j i s) =
     refusal.OutsideTimes tt
     (λ e. omega arith)
 
-pub stepped-not-four : (p : Plan) (c : Calendar) (r : Run) (st : Step) → NotFour (stepped p c r st .answer)
+stepped-not-four : (p : Plan) (c : Calendar) (r : Run) (st : Step) → NotFour (stepped p c r st .answer)
 unfolding stepped
 stepped-not-four p c r Ask = asked-or r (opening p c r) (opening-or p c r (r .phase))
 stepped-not-four p c r (Start choice) = started-or r choice (opening p c r) (opening-or p c r (r .phase))

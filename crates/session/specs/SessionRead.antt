@@ -4,7 +4,7 @@ use Prim.Native.Nat.{ℕ, zero, suc}
 use mathlib.Core.List.{List, [], _∷_}
 use lib.ListN.{length}
 use Rattle.lines.specs.Reading.{Reading, read, Reader, next}
-use Rattle.rounds.specs.TextVerdict.{acceptedHead}
+use Rattle.rounds.specs.TextVerdict.{settledHead}
 use Rattle.session.specs.StepRead.{stepLine}
 
 -- the step lines of a text, up to the first that is refused. Each step takes a byte at least, so the text's length is more than the count of its steps.
@@ -18,4 +18,4 @@ stepLines s n = stepsWithin (length s) s n
 
 -- 'The verdict follows; in a session it comes before any step is read.'
 abbrev pub sessionRead : List ℕ → Reading Unit
-sessionRead s = next (acceptedHead s) (λ p. stepLines)
+sessionRead s = next (settledHead s) (λ p. stepLines)

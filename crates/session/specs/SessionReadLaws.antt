@@ -9,11 +9,11 @@ use native.Mathlib.Omega.{arith}
 use lib.ListN.{length, drop, length-drop, drop-of-length-le}
 use Rattle.plan.specs.declared.Plan.{Plan}
 use Rattle.plan.specs.declared.PlanRead.{PlanRead}
-use Rattle.lines.specs.declared.PlanAnswer.{PlanAnswer}
-use Rattle.lines.specs.declared.PlanAnswer.the-variants as planAnswer
+use Rattle.lines.specs.declared.TextAnswer.{TextAnswer}
+use Rattle.lines.specs.declared.TextAnswer.the-variants as planAnswer
 use Rattle.lines.specs.declared.Refusal.{Refusal}
 use Rattle.lines.specs.Reading.{Reading, read, refused, Reader, next}
-use Rattle.plan.specs.PlanRead.{planHead}
+use Rattle.plan.specs.PlanLines.{planHead}
 use Rattle.plan.specs.PlanAnswers.{planRead}
 use Rattle.lines.specs.Answers.{answerNumber, answerValue, partAt, Told}
 use Rattle.plan.specs.PlanPartLaws.{planHead-tail}
@@ -52,7 +52,7 @@ stepsWithin-enough (suc j) (suc k) (b ∷ s) n g h =
 
 -- ---- one step line
 
-pub stepLines-read : (s : List ℕ) (n : ℕ) → 0 < length s → stepLines s n ≡ next (stepLine s n) (λ st. stepLines)
+stepLines-read : (s : List ℕ) (n : ℕ) → 0 < length s → stepLines s n ≡ next (stepLine s n) (λ st. stepLines)
 unfolding stepsWithin
 stepLines-read [] n h = absurd (omega arith)
 stepLines-read (b ∷ s) n h =
@@ -61,7 +61,7 @@ stepLines-read (b ∷ s) n h =
     let l = stepLine-shorter (b ∷ s) n h e in
     stepsWithin-enough (length s) (length t) t m (omega arith) (omega arith))
 
-pub stepLines-end : (s : List ℕ) (i n : ℕ) → length s ≤ i → stepLines (drop i s) n ≡ read tt [] n
+stepLines-end : (s : List ℕ) (i n : ℕ) → length s ≤ i → stepLines (drop i s) n ≡ read tt [] n
 unfolding stepsWithin
 stepLines-end s i n h = rw (drop-of-length-le s {i = i} h)
 
@@ -86,7 +86,7 @@ module _ (text : List ℕ) (from line : ℕ) where
   walking-start h = record { left = refl; placed = h; numbered = omega arith }
 
   module _ (place number : ℕ) (w : Walking text from line place number) where
-    pub walking-end : length text ≤ place → {a : PlanAnswer} (at : ℕ) → a ≡ planAnswer.Accepted
+    pub walking-end : length text ≤ place → {a : TextAnswer} (at : ℕ) → a ≡ planAnswer.Accepted
         → Told (stepLines (drop from text) line) (partAt text at a) (answerNumber a) (answerValue a)
     walking-end h {a} at e =
         subst (λ (m : Reading Unit). Told m (partAt text at a) (answerNumber a) (answerValue a)) (sym (w .left ∙ stepLines-end text place number h))
@@ -96,7 +96,7 @@ module _ (text : List ℕ) (from line : ℕ) where
       some : 0 < length (drop place text)
       some = omega (arith, length-drop place text)
 
-      pub walking-refused : (x : Refusal) {r : StepAt} → stepLine (drop place text) number ≡ stepTold text place (number + 1) r → r ≡ stepAt.Bad x → {a : PlanAnswer} → a ≡ planAnswer.Refused x
+      pub walking-refused : (x : Refusal) {r : StepAt} → stepLine (drop place text) number ≡ stepTold text place (number + 1) r → r ≡ stepAt.Bad x → {a : TextAnswer} → a ≡ planAnswer.Refused x
           → Told (stepLines (drop from text) line) (partAt text place a) (answerNumber a) (answerValue a)
       walking-refused x {r} d e {a} f =
           subst (λ (m : Reading Unit). Told m (partAt text place a) (answerNumber a) (answerValue a))

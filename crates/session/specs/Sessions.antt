@@ -7,7 +7,7 @@ use Rattle.text.specs.Numbers.{isEmpty}
 use Rattle.plan.specs.declared.Plan.{Plan}
 use Rattle.lines.specs.Reading.{longestText, Reading, read, refused}
 use Rattle.lines.specs.Refusals.{refusedLine}
-use Rattle.plan.specs.PlanRead.{planHead}
+use Rattle.plan.specs.PlanLines.{planHead}
 use Rattle.lines.specs.declared.Written.{Written}
 use Rattle.lines.specs.Written.{writtenAs}
 use Rattle.calendars.specs.declared.Calendar.{Calendar}

@@ -36,12 +36,12 @@ unfoldable pub timed : (RunTime → Step) → Number → StepLine
 timed f (number.Value z) = Value (f (record { 0 = z }))
 timed f (number.Bad x) = Bad (lineLacks x)
 
-abbrev pub timeIn : List ℕ → Number
-timeIn s = numberIn (pos 0) lastTime s
+abbrev pub stepTime : List ℕ → Number
+stepTime s = numberIn (pos 0) lastTime s
 
 -- what follows `finish=`
 unfoldable pub finishIn : List ℕ → StepLine
-finishIn s = timed Finish (timeIn s)
+finishIn s = timed Finish (stepTime s)
 
 unfoldable pub finishStep : Option (List ℕ) → StepLine
 finishStep none = Bad fault.Form
@@ -49,7 +49,7 @@ finishStep (some s) = finishIn s
 
 -- what follows `start=`
 unfoldable pub startIn : List ℕ → StepLine
-startIn s = cond (isText (bytes "auto") s) (Value (Start Auto)) (timed (λ t. Start (At t)) (timeIn s))
+startIn s = cond (isText (bytes "auto") s) (Value (Start Auto)) (timed (λ t. Start (At t)) (stepTime s))
 
 unfoldable pub startStep : List ℕ → Option (List ℕ) → StepLine
 startStep l none = finishStep (afterKey (bytes "finish=") l)

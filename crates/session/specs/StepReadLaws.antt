@@ -43,7 +43,7 @@ use Rattle.session.specs.declared.StepAt.{StepAt}
 use Rattle.session.specs.declared.StepAt.the-variants as stepAt
 use Rattle.session.specs.StepAt.{stepTold, StepEnds}
 use Rattle.session.specs.declared.StepLine.the-variants.{Value, Bad}
-use Rattle.session.specs.StepRead.{isAll, isText, timed, timeIn, finishIn, finishStep, startIn, startStep, stepIn, linedStep, stepLine}
+use Rattle.session.specs.StepRead.{isAll, isText, timed, stepTime, finishIn, finishStep, startIn, startStep, stepIn, linedStep, stepLine}
 
 -- ---- a line that is just a text
 
@@ -59,7 +59,7 @@ module _ (t l : List ℕ) where
       of (some []) e = refl
       of (some (b ∷ s)) e = absurd (omega (arith, rest-length (b ∷ s) e))
 
-  pub isText-length : isText t l ≡ true → length l ≡ length t
+  isText-length : isText t l ≡ true → length l ≡ length t
   isText-length h = of (afterKey t l) refl h
     where
       of : (o : Option (List ℕ)) → afterKey t l ≡ o → isAll o ≡ true → length l ≡ length t
@@ -102,21 +102,21 @@ pub startIn-auto : (s : List ℕ) → isText (bytes "auto") s ≡ true → start
 unfolding startIn
 startIn-auto s h = rw h
 
-pub startIn-time : (s : List ℕ) → isText (bytes "auto") s ≡ false → startIn s ≡ timed (λ t. Start (At t)) (timeIn s)
+pub startIn-time : (s : List ℕ) → isText (bytes "auto") s ≡ false → startIn s ≡ timed (λ t. Start (At t)) (stepTime s)
 unfolding startIn
 startIn-time s h = rw h
 
 -- ---- a time
 
 module _ (f : RunTime → Step) (s : List ℕ) where
-  pub timed-value : (z : ℤ) → timeIn s ≡ number.Value z → timed f (timeIn s) ≡ Value (f (record { 0 = toZ w64 (ofZ w64 z) }))
+  pub timed-value : (z : ℤ) → stepTime s ≡ number.Value z → timed f (stepTime s) ≡ Value (f (record { 0 = toZ w64 (ofZ w64 z) }))
   unfolding timed
   timed-value z e =
       let q = numberIn-value (pos 0) lastTime z s e in
       let g : SFits w64 z = omega (wholes, q .0 .least, q .0 .greatest) in
       rw (e, toZ-ofZ g)
 
-  pub timed-bad : (x : NumberFault) → timeIn s ≡ number.Bad x → timed f (timeIn s) ≡ Bad (lineLacks x)
+  pub timed-bad : (x : NumberFault) → stepTime s ≡ number.Bad x → timed f (stepTime s) ≡ Bad (lineLacks x)
   unfolding timed
   timed-bad x e = rw e
 
@@ -133,11 +133,11 @@ record TimeTold (s : List ℕ) (st : Step) : Type 0 where
   timed : isStep st ≡ true
 
 module _ (s : List ℕ) (st : Step) where
-  time-told : (f : RunTime → Step) → ((t : RunTime) → isStep (f t) ≡ isTime t) → timed f (timeIn s) ≡ Value st → TimeTold s st
+  time-told : (f : RunTime → Step) → ((t : RunTime) → isStep (f t) ≡ isTime t) → timed f (stepTime s) ≡ Value st → TimeTold s st
   unfolding timed
-  time-told f is e = of (timeIn s) refl e
+  time-told f is e = of (stepTime s) refl e
     where
-      of : (n : Number) → timeIn s ≡ n → timed f n ≡ Value st → TimeTold s st
+      of : (n : Number) → stepTime s ≡ n → timed f n ≡ Value st → TimeTold s st
       of (number.Bad x) d h = absurd (let z : _≡_ {A = ℕ} 0 1 = cc in omega arith)
       of (number.Value z) d h =
           let q = numberIn-value (pos 0) lastTime z s d in
@@ -154,7 +154,7 @@ module _ (s : List ℕ) (st : Step) where
   unfolding startIn bytes
   start-told e = of (isText (bytes "auto") s) refl e
     where
-      of : (b : Bool) → isText (bytes "auto") s ≡ b → cond b (Value (Start Auto)) (timed (λ t. Start (At t)) (timeIn s)) ≡ Value st → TimeTold s st
+      of : (b : Bool) → isText (bytes "auto") s ≡ b → cond b (Value (Start Auto)) (timed (λ t. Start (At t)) (stepTime s)) ≡ Value st → TimeTold s st
       of true h d =
           let g : st ≡ Start Auto = cc in
           record { some-byte = omega (arith, isText-length (bytes "auto") s h); timed = ap isStep g }
@@ -175,7 +175,7 @@ module _ (l : List ℕ) (st : Step) where
   after-start none d e = after-finish (afterKey (bytes "finish=") l) refl e
   after-start (some s) d e = behind-key (bytes "start=") s 6 refl (omega arith) d (start-told s st e)
 
-  pub stepIn-told : stepIn l ≡ Value st → StepTold l st
+  stepIn-told : stepIn l ≡ Value st → StepTold l st
   unfolding stepIn bytes
   stepIn-told e = of (isText (bytes "ask=offer") l) refl e
     where

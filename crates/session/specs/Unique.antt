@@ -8,6 +8,7 @@ use Rattle.text.specs.Lent.{written}
 use Rattle.session.specs.declared.StepLine.{StepLine}
 use Rattle.lines.specs.declared.Written.{Written}
 use Rattle.lines.specs.Whole.{writtenWhole}
+use Rattle.lines.specs.Unique.{whole-unique}
 use Rattle.lines.specs.Reading.{refusedNumber, refusedValue, faultyPart}
 use Rattle.session.specs.StepRead.{stepIn}
 use Rattle.session.specs.SessionRead.{sessionRead}
@@ -26,7 +27,7 @@ pub answer-read-unique : (s : List ℕ) (n : ℕ) (out : List ℕ) {r q : ℕ} {
     → (r ≡ length (dispatchOutput (take n s))) × (o ≡ writtenWhole (dispatchOutput (take n s)) out)
     → (q ≡ length (dispatchOutput (take n s))) × (p ≡ writtenWhole (dispatchOutput (take n s)) out)
     → (r ≡ q) × (o ≡ p)
-answer-read-unique s n out d e = (only (d .0) (e .0), only (d .1) (e .1))
+answer-read-unique s n out = whole-unique (dispatchOutput (take n s)) out
 
 -- what ends a session: the part, and what the two numbers become
 module _ (s : List ℕ) where

@@ -1,8 +1,8 @@
 // Sessions: a plan followed by steps, and the answer text to them.
 
 use lines::Fault;
-use lines::PlanAnswer;
 use lines::Refusal;
+use lines::TextAnswer;
 use runs::Step;
 
 // No step's answer has more bytes.
@@ -25,7 +25,7 @@ enum StepAt {
 
 // What the step lines of a text come to: nothing refused, or the first refusal and where its line begins.
 struct StepsRead {
-    answer: PlanAnswer,
+    answer: TextAnswer,
     at: usize,
 }
 

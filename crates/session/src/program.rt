@@ -1,7 +1,7 @@
 // The dispatch program, from the bytes of its input to those of its output.
 use crate::judged::answer_judged;
 use calendars::decide;
-use lines::PlanAnswer;
+use lines::TextAnswer;
 use lines::Written;
 use lines::write_refused;
 ghost use mathlib.Core.Path.{_≡_};
@@ -20,13 +20,13 @@ pub fn answer(text: &[u8], out: &mut [u8]) -> Written
     let head = plan::read_head(text);
     let told = head.answer;
     match told {
-        PlanAnswer::Accepted => {
+        TextAnswer::Accepted => {
             let p = head.plan;
             let decision = decide(p);
             let verdict = decision.verdict;
             let calendar = decision.calendar;
             answer_judged(text, head, verdict, calendar, out)
         }
-        PlanAnswer::Refused(x) => write_refused(out, x),
+        TextAnswer::Refused(x) => write_refused(out, x),
     }
 }

@@ -4,7 +4,7 @@ use crate::StepsRead;
 use crate::read::read_step_at;
 use crate::read::step_refusal;
 use calendars::decide;
-use lines::PlanAnswer;
+use lines::TextAnswer;
 use lines::tell_refusal;
 use rounds::VerdictTold;
 use rounds::tell_verdict;
@@ -29,7 +29,7 @@ fn read_steps(text: &[u8], from: usize, line: usize) -> StepsRead
         let StepAt::Value(_, next) = read else {
             let refusal = step_refusal(read);
             return StepsRead {
-                answer: PlanAnswer::Refused(refusal),
+                answer: TextAnswer::Refused(refusal),
                 at: place,
             };
         };
@@ -37,7 +37,7 @@ fn read_steps(text: &[u8], from: usize, line: usize) -> StepsRead
         number += 1;
     }
     StepsRead {
-        answer: PlanAnswer::Accepted,
+        answer: TextAnswer::Accepted,
         at: place,
     }
 }
@@ -53,7 +53,7 @@ pub fn refused_in_session<'a>(text: &'a [u8], n: &mut u64, d: &mut u64) -> &'a [
     let head = plan::read_head(text);
     let told = head.answer;
     let at = head.at;
-    let PlanAnswer::Accepted = told else {
+    let TextAnswer::Accepted = told else {
         return tell_refusal(text, told, at, n, d);
     };
     let p = head.plan;
@@ -68,5 +68,5 @@ pub fn refused_in_session<'a>(text: &'a [u8], n: &mut u64, d: &mut u64) -> &'a [
         return tell_refusal(text, answer, place, n, d);
     };
     let end = text.len();
-    tell_refusal(text, PlanAnswer::Refused(x), end, n, d)
+    tell_refusal(text, TextAnswer::Refused(x), end, n, d)
 }

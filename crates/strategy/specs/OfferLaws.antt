@@ -20,7 +20,7 @@ use Rattle.whole.specs.ShapeLaws.{reads, shows}
 use Rattle.clock.specs.Clock.{beginsAt}
 use Rattle.plan.specs.declared.Plan.{Plan}
 use Rattle.plan.specs.Limits.{mostJobs}
-use Rattle.plan.specs.PlanRead.{filled}
+use Rattle.plan.specs.PlanLines.{filled}
 use Rattle.bounds.specs.Events.{startNode}
 use Rattle.bounds.specs.Tables.{Cell, off, upto, Rows, at, listed}
 use Rattle.bounds.specs.BuildLaws.{both-true, getD-listed, length-listed}

@@ -22,7 +22,7 @@ use Rattle.lines.specs.declared.Refusal.{Refusal}
 use Rattle.lines.specs.declared.Refusal.the-variants as refusal
 use Rattle.plan.specs.Limits.{mostJobs}
 use Rattle.lines.specs.Refusals.{outsideLimits}
-use Rattle.plan.specs.PlanRead.{noJob}
+use Rattle.plan.specs.PlanLines.{noJob}
 use Rattle.bounds.specs.Events.{startNode, finishNode}
 use Rattle.bounds.specs.Tables.{upto, Rows, at}
 use Rattle.bounds.specs.Elimination.{thenSet}

@@ -17,7 +17,7 @@ use Rattle.whole.specs.Rules.{wholes}
 use Rattle.whole.specs.Shape.{any, _⊕_, _⊖_, le, eq}
 use Rattle.whole.specs.ShapeLaws.{shows}
 use Rattle.plan.specs.declared.Plan.{Plan}
-use Rattle.plan.specs.PlanRead.{noJob}
+use Rattle.plan.specs.PlanLines.{noJob}
 use Rattle.strategy.specs.Histories.{Ran, History, noRan, ranFor, turn, since, seenFrom}
 use Rattle.strategy.specs.Strategies.{ranIn, Forced}
 use Rattle.strategy.specs.Keeping.{Timely}

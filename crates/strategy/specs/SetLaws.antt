@@ -14,7 +14,7 @@ use borrow.Author.Tests.{eq-eqb}
 use Rattle.whole.specs.SplitLaws.{split-neg}
 use Rattle.whole.specs.Rules.{wholes}
 use Rattle.plan.specs.declared.Plan.{Plan}
-use Rattle.plan.specs.PlanRead.{noJob}
+use Rattle.plan.specs.PlanLines.{noJob}
 use Rattle.bounds.specs.declared.Event.{Event}
 use Rattle.bounds.specs.declared.Event.the-variants.{Origin, Start, Finish}
 use Rattle.bounds.specs.declared.Judgement.{Judgement}

@@ -12,7 +12,7 @@ use Rattle.plan.specs.declared.Bound.{Bound}
 use Rattle.plan.specs.declared.EventName.{EventName}
 use Rattle.plan.specs.declared.Plan.{Plan}
 use Rattle.plan.specs.EventNames.{isNext}
-use Rattle.plan.specs.PlanRead.{isWrongPair, noJob, noBound}
+use Rattle.plan.specs.PlanLines.{isWrongPair, noJob, noBound}
 use Rattle.plan.specs.Accepted.{Accepted}
 use Rattle.bounds.specs.BuildLaws.{neither-true}
 use Rattle.strategy.specs.Histories.{turn}

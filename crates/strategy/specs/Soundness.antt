@@ -9,7 +9,7 @@ use Rattle.plan.specs.declared.EventName.{EventName}
 use Rattle.plan.specs.declared.Plan.{Plan}
 use Rattle.plan.specs.EventNames.{isNext}
 use Rattle.plan.specs.Limits.{mostJobs}
-use Rattle.plan.specs.PlanRead.{noJob}
+use Rattle.plan.specs.PlanLines.{noJob}
 use Rattle.strategy.specs.Strategies.{boundIn}
 
 -- 'a job digit of 0 or above `jobs`' is refused

@@ -18,7 +18,7 @@ use Rattle.plan.specs.declared.Plan.{Plan}
 use Rattle.lines.specs.declared.Refusal.{Refusal}
 use Rattle.lines.specs.declared.Refusal.the-variants as refusal
 use Rattle.lines.specs.Refusals.{outsideLimits}
-use Rattle.plan.specs.PlanRead.{noJob}
+use Rattle.plan.specs.PlanLines.{noJob}
 use Rattle.calendars.specs.declared.Calendar.{Calendar}
 use Rattle.runs.specs.declared.Phase.the-variants.{Waiting, Running}
 use Rattle.runs.specs.declared.Run.{Run}

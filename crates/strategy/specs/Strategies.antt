@@ -11,7 +11,7 @@ use Rattle.plan.specs.declared.Kind.the-variants as kind
 use Rattle.plan.specs.declared.EventName.{EventName}
 use Rattle.plan.specs.declared.Bound.{Bound}
 use Rattle.plan.specs.declared.Plan.{Plan}
-use Rattle.plan.specs.PlanRead.{noBound}
+use Rattle.plan.specs.PlanLines.{noBound}
 use Rattle.strategy.specs.Histories.{Ran, History, noRan, ranFor, turn, seenFrom}
 
 -- ---- the bounds of one window and the next, over what was seen from that window on, on its own clock

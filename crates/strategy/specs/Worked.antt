@@ -11,7 +11,7 @@ use Rattle.plan.specs.declared.Letter.the-variants.{This, Next}
 use Rattle.plan.specs.declared.Kind.the-variants.{Start}
 use Rattle.plan.specs.declared.Bound.{Bound}
 use Rattle.plan.specs.declared.Plan.{Plan}
-use Rattle.plan.specs.PlanRead.{noJob, noBound}
+use Rattle.plan.specs.PlanLines.{noJob, noBound}
 use Rattle.rounds.specs.declared.Verdict.the-variants.{Settled, NoStrategy}
 use Rattle.bounds.specs.Events.{jobAt, shift, earliest, latest, nodeOf, eventOf}
 use Rattle.bounds.specs.Judgements.{judged}

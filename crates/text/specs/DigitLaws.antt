@@ -81,7 +81,7 @@ module _ (P : ℕ → List ℕ → Type 0) (one : (n : ℕ) → n < 10 → P n (
       of true e before = rw (digits-one n (ltb-true n 10 e)) (one n (ltb-true n 10 e))
       of false e before = rw (digits-more n (ltb-false n 10 e)) (more n (digits (n / 10)) (ltb-false n 10 e) (before (ltb-false n 10 e)))
 
-  pub digits-each : (n : ℕ) → P n (digits n)
+  digits-each : (n : ℕ) → P n (digits n)
   digits-each n = each-below n n (omega arith)
 
 -- ---- what they are
@@ -97,7 +97,7 @@ isDigit-range b e = of (leb zeroDigit b) (leb b nineDigit) refl refl e
     of true false l h e = absurd (false≢true e)
     of false q l h e = absurd (false≢true e)
 
-pub allDigits-more : (b : ℕ) (s : List ℕ) → allDigits (b ∷ s) ≡ true → (zeroDigit ≤ b) × (b ≤ nineDigit) × (allDigits s ≡ true)
+allDigits-more : (b : ℕ) (s : List ℕ) → allDigits (b ∷ s) ≡ true → (zeroDigit ≤ b) × (b ≤ nineDigit) × (allDigits s ≡ true)
 unfolding allDigits
 allDigits-more b s h = of (isDigit b) refl h
   where
@@ -120,7 +120,7 @@ isPositive-more b s h = of (eqb b zeroDigit) refl h
         let apart : (b ≡ zeroDigit → ⊥) = eqb-false b zeroDigit e in
         (omega arith, d .1, d .2)
 
-pub allDigits-last : (s : List ℕ) (b : ℕ) → allDigits s ≡ true → isDigit b ≡ true → allDigits (s ++ (b ∷ [])) ≡ true
+allDigits-last : (s : List ℕ) (b : ℕ) → allDigits s ≡ true → isDigit b ≡ true → allDigits (s ++ (b ∷ [])) ≡ true
 unfolding allDigits
 allDigits-last [] b h e = rw e
 allDigits-last (a ∷ s) b h e = of (isDigit a) h (λ g. allDigits-last s b g e)
@@ -129,7 +129,7 @@ allDigits-last (a ∷ s) b h e = of (isDigit a) h (λ g. allDigits-last s b g e)
     of true h more = more h
     of false h more = h
 
-pub isPositive-last : (s : List ℕ) (b : ℕ) → isPositive s ≡ true → isDigit b ≡ true → isPositive (s ++ (b ∷ [])) ≡ true
+isPositive-last : (s : List ℕ) (b : ℕ) → isPositive s ≡ true → isDigit b ≡ true → isPositive (s ++ (b ∷ [])) ≡ true
 unfolding isPositive
 isPositive-last [] b h e = let z : _≡_ {A = ℕ} 0 1 = cc in absurd (omega arith)
 isPositive-last (a ∷ s) b h e = of (not (eqb a zeroDigit)) h

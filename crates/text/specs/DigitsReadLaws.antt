@@ -31,18 +31,18 @@ use Rattle.text.specs.DigitsRead.{tooLarge, capped, digitsRead, positive
 
 -- ---- a digit
 
-pub isDigit-yes : (b : ℕ) → zeroDigit ≤ b → b ≤ nineDigit → isDigit b ≡ true
+isDigit-yes : (b : ℕ) → zeroDigit ≤ b → b ≤ nineDigit → isDigit b ≡ true
 isDigit-yes b h g = rw (le-leb zeroDigit b h, le-leb b nineDigit g)
 
-pub isDigit-below : (b : ℕ) → b < zeroDigit → isDigit b ≡ false
+isDigit-below : (b : ℕ) → b < zeroDigit → isDigit b ≡ false
 isDigit-below b h = rw (lt-leb zeroDigit b h)
 
-pub isDigit-above : (b : ℕ) → nineDigit < b → isDigit b ≡ false
+isDigit-above : (b : ℕ) → nineDigit < b → isDigit b ≡ false
 isDigit-above b h = rw (lt-leb b nineDigit h, le-leb zeroDigit b (omega arith))
 
 -- ---- large numbers
 
-pub digitsRead-large : (m n : ℕ) (s : List ℕ) → tooLarge ≤ m → tooLarge ≤ n → digitsRead m s ≡ digitsRead n s
+digitsRead-large : (m n : ℕ) (s : List ℕ) → tooLarge ≤ m → tooLarge ≤ n → digitsRead m s ≡ digitsRead n s
 unfolding digitsRead
 digitsRead-large m n s h g =
     let e : capped (digitsValue m s) ≡ capped (digitsValue n s) = omega (arith, digitsValue-grows m s, digitsValue-grows n s) in
@@ -50,11 +50,11 @@ digitsRead-large m n s h g =
 
 -- ---- a turn
 
-pub digitsRead-more : (n b : ℕ) (s : List ℕ) → zeroDigit ≤ b → b ≤ nineDigit → digitsRead n (b ∷ s) ≡ digitsRead (n * 10 + (b - zeroDigit)) s
+digitsRead-more : (n b : ℕ) (s : List ℕ) → zeroDigit ≤ b → b ≤ nineDigit → digitsRead n (b ∷ s) ≡ digitsRead (n * 10 + (b - zeroDigit)) s
 unfolding digitsRead allDigits digitsValue
 digitsRead-more n b s h g = rw (isDigit-yes b h g)
 
-pub digitsRead-other : (n b : ℕ) (s : List ℕ) → isDigit b ≡ false → digitsRead n (b ∷ s) ≡ Bad
+digitsRead-other : (n b : ℕ) (s : List ℕ) → isDigit b ≡ false → digitsRead n (b ∷ s) ≡ Bad
 unfolding digitsRead allDigits
 digitsRead-other n b s e = rw e
 
@@ -91,7 +91,7 @@ positiveRead-first s i h d = rw (drop-cons s i 0 h, ne-eqb (getD s i 0) zeroDigi
 
 -- ---- a number of either sign
 
-pub positiveRead-value : (s : List ℕ) (n : ℕ) → positiveRead s ≡ Value n → (isPositive s ≡ true) × (capped (digitsValue 0 s) ≡ n)
+positiveRead-value : (s : List ℕ) (n : ℕ) → positiveRead s ≡ Value n → (isPositive s ≡ true) × (capped (digitsValue 0 s) ≡ n)
 unfolding positiveRead
 positiveRead-value s n e = of (isPositive s) e
   where
@@ -99,7 +99,7 @@ positiveRead-value s n e = of (isPositive s) e
     of true e = (refl, cc)
     of false e = let z : _≡_ {A = ℕ} 0 1 = cc in absurd (omega arith)
 
-pub positiveRead-bad : (s : List ℕ) → positiveRead s ≡ Bad → isPositive s ≡ false
+positiveRead-bad : (s : List ℕ) → positiveRead s ≡ Bad → isPositive s ≡ false
 unfolding positiveRead
 positiveRead-bad s e = of (isPositive s) e
   where
@@ -109,7 +109,7 @@ positiveRead-bad s e = of (isPositive s) e
 
 module _ (lo hi : ℤ) where
   -- above the cut the value does not matter
-  pub numberWithin-capped : (n : ℕ) → SFits w64 hi → numberWithin lo hi (pos (capped n)) ≡ numberWithin lo hi (pos n)
+  numberWithin-capped : (n : ℕ) → SFits w64 hi → numberWithin lo hi (pos (capped n)) ≡ numberWithin lo hi (pos n)
   numberWithin-capped n f = of (leb n tooLarge) refl
     where
       of : (t : Bool) → leb n tooLarge ≡ t → numberWithin lo hi (pos (capped n)) ≡ numberWithin lo hi (pos n)
@@ -118,7 +118,7 @@ module _ (lo hi : ℤ) where
           numberWithin-above lo hi (pos (capped n)) (omega (wholes, fits-below f, leb-false n tooLarge e))
           ∙ sym (numberWithin-above lo hi (pos n) (omega (wholes, fits-below f, leb-false n tooLarge e)))
 
-  pub numberWithin-capped-neg : (n : ℕ) → SFits w64 lo → numberWithin lo hi (negℤ (pos (capped n))) ≡ numberWithin lo hi (negℤ (pos n))
+  numberWithin-capped-neg : (n : ℕ) → SFits w64 lo → numberWithin lo hi (negℤ (pos (capped n))) ≡ numberWithin lo hi (negℤ (pos n))
   numberWithin-capped-neg n f = of (leb n tooLarge) refl
     where
       of : (t : Bool) → leb n tooLarge ≡ t → numberWithin lo hi (negℤ (pos (capped n))) ≡ numberWithin lo hi (negℤ (pos n))

@@ -51,7 +51,7 @@ unfolding put
 put-length out at [] = refl
 put-length out at (b ∷ s) = put-length (set out at b) (suc at) s ∙ length-set out at b
 
-pub put-out : (out : List ℕ) (at : ℕ) (s : List ℕ) → length out ≤ at → put out at s ≡ out
+put-out : (out : List ℕ) (at : ℕ) (s : List ℕ) → length out ≤ at → put out at s ≡ out
 unfolding put
 put-out out at [] h = refl
 put-out out at (b ∷ s) h = rw (set-out out at b h) (put-out out (suc at) s (omega arith))
@@ -63,7 +63,7 @@ unfolding put
 put-sets out at [] = refl
 put-sets out at (b ∷ s) = put-sets (set out at b) (suc at) s
 
-pub put-whole : (out s : List ℕ) → length s ≤ length out → put out 0 s ≡ s ++ drop (length s) out
+put-whole : (out s : List ℕ) → length s ≤ length out → put out 0 s ≡ s ++ drop (length s) out
 put-whole out s h = put-sets out 0 s ∙ sets-eq s out 0 (omega arith) ∙ ap (λ (k : ℕ). s ++ drop k out) (zero-add (length s))
 
 pub put-written : (out s : List ℕ) → length s ≤ length out → put out 0 s ≡ written s out
@@ -72,7 +72,7 @@ put-written out s h = rw (le-leb (length s) (length out) h) (put-whole out s h)
 
 -- ---- for writers
 
-pub put-last : (out : List ℕ) (at : ℕ) (s : List ℕ) (b : ℕ) → put out at (s ++ (b ∷ [])) ≡ put (set out (at + length s) b) at s
+put-last : (out : List ℕ) (at : ℕ) (s : List ℕ) (b : ℕ) → put out at (s ++ (b ∷ [])) ≡ put (set out (at + length s) b) at s
 unfolding put
 put-last out at [] b = rw add-zero
 put-last out at (a ∷ s) b =

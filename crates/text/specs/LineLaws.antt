@@ -25,7 +25,7 @@ use Rattle.text.specs.Lines.{LF, lenTo, before, has, after, behindLine, 
 
 -- ---- the length to a byte
 
-pub lenTo-same : (b : ℕ) {a : ℕ} (s : List ℕ) → a ≡ b → lenTo b (a ∷ s) ≡ 0
+lenTo-same : (b : ℕ) {a : ℕ} (s : List ℕ) → a ≡ b → lenTo b (a ∷ s) ≡ 0
 unfolding lenTo
 lenTo-same b {a} s e = rw (eq-eqb a b e)
 
@@ -53,7 +53,7 @@ lenTo-fits b (a ∷ s) = at-head (eqb a b) (lenTo b s) (length s) (lenTo-fits b 
     at-head false n m h = omega arith
 
 -- a part without b is passed
-pub lenTo-over : (b : ℕ) (s t : List ℕ) → lenTo b s ≡ length s → lenTo b (s ++ t) ≡ length s + lenTo b t
+lenTo-over : (b : ℕ) (s t : List ℕ) → lenTo b s ≡ length s → lenTo b (s ++ t) ≡ length s + lenTo b t
 unfolding lenTo
 lenTo-over b [] t e = sym (zero-add (lenTo b t))
 lenTo-over b (a ∷ s) t e = at-head (eqb a b) (λ h. lenTo-over b s t h) e
@@ -62,7 +62,7 @@ lenTo-over b (a ∷ s) t e = at-head (eqb a b) (λ h. lenTo-over b s t h) e
     at-head true more e = absurd (omega arith)
     at-head false more e = omega (arith, more (omega arith))
 
-pub lenTo-append : (b : ℕ) (s t : List ℕ) → lenTo b s ≡ length s → lenTo b (s ++ (b ∷ t)) ≡ length s
+lenTo-append : (b : ℕ) (s t : List ℕ) → lenTo b s ≡ length s → lenTo b (s ++ (b ∷ t)) ≡ length s
 lenTo-append b s t e = omega (arith, lenTo-over b s (b ∷ t) e, lenTo-same b t refl)
 
 pub free-append : (b : ℕ) (s t : List ℕ) → lenTo b s ≡ length s → lenTo b t ≡ length t → lenTo b (s ++ t) ≡ length (s ++ t)
@@ -77,7 +77,7 @@ has-back b s t e = lt-ltb (lenTo b (s ++ (b ∷ t))) (length (s ++ (b ∷ t))) (
 pub after-back : (b : ℕ) (s t : List ℕ) → lenTo b s ≡ length s → after b (s ++ (b ∷ t)) ≡ t
 after-back b s t e = rw (lenTo-append b s t e, ← drop-drop 1 (length s) (s ++ (b ∷ t)), drop-at s (b ∷ t) (length s) refl)
 
-pub lenTo-found : (b : ℕ) (s : List ℕ) → lenTo b s < length s → getD s (lenTo b s) 0 ≡ b
+lenTo-found : (b : ℕ) (s : List ℕ) → lenTo b s < length s → getD s (lenTo b s) 0 ≡ b
 unfolding lenTo
 lenTo-found b [] h = absurd (omega arith)
 lenTo-found b (a ∷ s) h = at-head (eqb a b) refl h (λ g. lenTo-found b s g)
@@ -91,13 +91,13 @@ has-split b s h =
     let found : lenTo b s < length s = ltb-true (lenTo b s) (length s) h in
     rw (add-one) (split-at s (lenTo b s) 0 found ∙ ap (λ (a : ℕ). take (lenTo b s) s ++ (a ∷ drop (suc (lenTo b s)) s)) (lenTo-found b s found))
 
-pub has-false : (b : ℕ) (s : List ℕ) → has b s ≡ false → lenTo b s ≡ length s
+has-false : (b : ℕ) (s : List ℕ) → has b s ≡ false → lenTo b s ≡ length s
 has-false b s h = omega (arith, ltb-false (lenTo b s) (length s) h, lenTo-fits b s)
 
-pub has-free : (b : ℕ) (s : List ℕ) → lenTo b s ≡ length s → has b s ≡ false
+has-free : (b : ℕ) (s : List ℕ) → lenTo b s ≡ length s → has b s ≡ false
 has-free b s e = le-ltb (lenTo b s) (length s) (omega arith)
 
-pub before-free : (b : ℕ) (s : List ℕ) → lenTo b s ≡ length s → before b s ≡ s
+before-free : (b : ℕ) (s : List ℕ) → lenTo b s ≡ length s → before b s ≡ s
 before-free b s e = ap (λ (n : ℕ). take n s) e ∙ take-length s
 
 -- ---- the place behind a line

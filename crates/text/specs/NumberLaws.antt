@@ -132,21 +132,21 @@ pub numberIn-decimal : (lo hi z : ℤ) → numberIn lo hi (decimal z) ≡ number
 unfolding numberIn
 numberIn-decimal lo hi z = rw (decimal-form z, decimal-back z)
 
-pub numberIn-back : (lo hi z : ℤ) → lo ≤ℤ z → z ≤ℤ hi → numberIn lo hi (decimal z) ≡ Value z
+numberIn-back : (lo hi z : ℤ) → lo ≤ℤ z → z ≤ℤ hi → numberIn lo hi (decimal z) ≡ Value z
 numberIn-back lo hi z h g = numberIn-decimal lo hi z ∙ numberWithin-inside lo hi z h g
 
-pub record InRange (lo hi z : ℤ) : Type 0 where
+pub record NumberWithin (lo hi z : ℤ) : Type 0 where
   pub least : lo ≤ℤ z
   pub greatest : z ≤ℤ hi
 
-pub numberIn-value : (lo hi z : ℤ) (s : List ℕ) → numberIn lo hi s ≡ Value z → InRange lo hi z × (s ≡ decimal z)
+pub numberIn-value : (lo hi z : ℤ) (s : List ℕ) → numberIn lo hi s ≡ Value z → NumberWithin lo hi z × (s ≡ decimal z)
 unfolding numberIn
 numberIn-value lo hi z s h = of (isNumber s) (leZ lo v) (leZ v hi) refl refl refl h
   where
     v : ℤ
     v = numberValue s
 
-    of : (t p q : Bool) → isNumber s ≡ t → leZ lo v ≡ p → leZ v hi ≡ q → cond t (cond (p && q) (Value v) (Bad Range)) (Bad Form) ≡ Value z → InRange lo hi z × (s ≡ decimal z)
+    of : (t p q : Bool) → isNumber s ≡ t → leZ lo v ≡ p → leZ v hi ≡ q → cond t (cond (p && q) (Value v) (Bad Range)) (Bad Form) ≡ Value z → NumberWithin lo hi z × (s ≡ decimal z)
     of true true true e l g h =
         let same : v ≡ z = cc in
         (record { least = omega wholes; greatest = omega wholes }, sym (number-back s e) ∙ ap decimal same)
@@ -172,11 +172,11 @@ numberAfter-back key lo hi s = rw (afterKey-back key s)
 pub keyed-free : (key : List ℕ) (z : ℤ) → lenTo LF key ≡ length key → lenTo LF (key ++ decimal z) ≡ length (key ++ decimal z)
 keyed-free key z e = free-append LF key (decimal z) e (decimal-free LF refl (omega arith) z)
 
-pub numberAfter-value : (key : List ℕ) (lo hi z : ℤ) (s : List ℕ) → numberAfter key lo hi s ≡ Value z → InRange lo hi z × (s ≡ key ++ decimal z)
+pub numberAfter-value : (key : List ℕ) (lo hi z : ℤ) (s : List ℕ) → numberAfter key lo hi s ≡ Value z → NumberWithin lo hi z × (s ≡ key ++ decimal z)
 unfolding numberOf
 numberAfter-value key lo hi z s h = of (afterKey key s) refl h
   where
-    of : (o : Option (List ℕ)) → afterKey key s ≡ o → numberOf lo hi o ≡ Value z → InRange lo hi z × (s ≡ key ++ decimal z)
+    of : (o : Option (List ℕ)) → afterKey key s ≡ o → numberOf lo hi o ≡ Value z → NumberWithin lo hi z × (s ≡ key ++ decimal z)
     of none e h = let z : _≡_ {A = ℕ} 0 1 = cc in absurd (omega arith)
     of (some t) e h =
         let read = numberIn-value lo hi z t h in

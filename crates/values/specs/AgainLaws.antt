@@ -5,16 +5,16 @@ use mathlib.Core.List.{List, []}
 use Prim.Native.Nat.{ℕ, _+_, _*_}
 use native.Mathlib.Omega.{arith}
 use Rattle.plan.specs.declared.Plan.{Plan}
-use Rattle.lines.specs.declared.PlanAnswer.{PlanAnswer}
+use Rattle.lines.specs.declared.TextAnswer.{TextAnswer}
 use Rattle.lines.specs.declared.Refusal.{Refusal}
 use Rattle.lines.specs.Reading.{Reading, read, refused}
-use Rattle.plan.specs.PlanRead.{planLines, nothingAfter, planAlone}
+use Rattle.plan.specs.PlanLines.{planLines, nothingAfter, planAlone}
 use Rattle.plan.specs.PlanWritten.{trimmed, planText}
 use Rattle.plan.specs.Accepted.{Accepted}
 use Rattle.plan.specs.HeadLaws.{planHead-short}
 use Rattle.values.specs.JudgedLines.{onward, planLines-judged}
 use Rattle.values.specs.JudgedLength.{PlanFits, planText-short}
-use Rattle.values.specs.JudgedLaws.{accepted-planJudged, accepted-fits}
+use Rattle.values.specs.JudgedLaws.{accepted-byLines, accepted-fits}
 
 -- a refusal without the text that is left
 abbrev bare : Refusal → Reading Plan
@@ -34,7 +34,7 @@ unfolding nothingAfter
 accepted-again p a =
     ap nothingAfter
     (planHead-short (planText p) (planText-short p f)
-    ∙ bared-read (planLines (planText p) 1) (planLines-judged p (f .placed) bare bared (λ r s. refl) ∙ ap (λ (x : PlanAnswer). onward bare x (read (trimmed p) [] n)) (accepted-planJudged p a)))
+    ∙ bared-read (planLines (planText p) 1) (planLines-judged p (f .placed) bare bared (λ r s. refl) ∙ ap (λ (x : TextAnswer). onward bare x (read (trimmed p) [] n)) (accepted-byLines p a)))
   where
     n : ℕ
     n = 6 + 4 * p .jobs + p .bounds

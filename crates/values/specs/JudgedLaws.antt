@@ -1,5 +1,5 @@
 -- A plan as a value is judged good exactly where it is accepted: `judgedPlan-accepted` (of the answer `judgedAnswer-accepted`) and `accepted-judged`, by way of the judgement line by line
--- (`planJudged-accepted`, `accepted-planJudged`). That this is the judgement of the text stands in `JudgedLines`, and the text's length in `JudgedLength`.
+-- (`judgedByLines-accepted`, `accepted-byLines`). That this is the judgement of the text stands in `JudgedLines`, and the text's length in `JudgedLength`.
 use mathlib.Core.Path.{_≡_, refl, sym, _∙_, ap}
 use mathlib.Core.Bool.{Bool, true, false, not, cond, _&&_}
 use mathlib.Core.List.{List, [], _∷_, _++_, append-nil, append-assoc}
@@ -19,24 +19,24 @@ use Rattle.plan.specs.declared.Job.{Job}
 use Rattle.plan.specs.declared.Bound.{Bound}
 use Rattle.plan.specs.declared.BoundLine.the-variants as boundLine
 use Rattle.plan.specs.declared.Plan.{Plan}
-use Rattle.lines.specs.declared.PlanAnswer.{PlanAnswer}
-use Rattle.lines.specs.declared.PlanAnswer.the-variants as answer
+use Rattle.lines.specs.declared.TextAnswer.{TextAnswer}
+use Rattle.lines.specs.declared.TextAnswer.the-variants as answer
 use Rattle.lines.specs.declared.Refusal.{Refusal}
 use Rattle.lines.specs.declared.Refusal.the-variants.{Form, Range}
 use Rattle.lines.specs.Reading.{longestText, Reading, read, refused}
 use Rattle.plan.specs.Limits.{longestWindow, mostRounds, mostWindows, mostJobs, longestRunning, latestDeadline, mostBounds, leastC, greatestC}
-use Rattle.plan.specs.PlanRead.{isJob, isWrongPair, noJob, noBound, planAlone}
+use Rattle.plan.specs.PlanLines.{isJob, isWrongPair, noJob, noBound, planAlone}
 use Rattle.plan.specs.PlanWritten.{jobsOf, boundsOf, planText, refusalOf, judgedPlan}
-use Rattle.values.specs.PlanJudged.{judgedAnswer, andThen, numberJudged, jobJudged, jobsJudged, isOneDigit, lineJudged, boundJudged, boundsJudged, planJudged}
+use Rattle.values.specs.PlanJudged.{judgedAnswer, andThen, numberJudged, jobJudged, jobsJudged, isOneDigit, lineJudged, boundJudged, boundsJudged, judgedByLines}
 use Rattle.plan.specs.Accepted.{JobAccepted, BoundAccepted, Accepted}
 use Rattle.plan.specs.ListLaws.{All, All-at, All-of, All-map}
 use Rattle.plan.specs.PlanLaws.{isJob-range, AllBounds, AllBounds-at, planAlone-fits}
-use Rattle.values.specs.JudgedLines.{numberJudged-range, numberJudged-inside, Placed, judgedPlan-is}
+use Rattle.values.specs.JudgedLines.{numberJudged-range, numberJudged-inside, HasPlaces, judgedPlan-is}
 use Rattle.values.specs.JudgedLength.{JobFits, BoundFits, PlanFits, planText-short}
 
 -- ---- judged good, so accepted
 
-andThen-both : (x y : PlanAnswer) → andThen x y ≡ answer.Accepted → (x ≡ answer.Accepted) × (y ≡ answer.Accepted)
+andThen-both : (x y : TextAnswer) → andThen x y ≡ answer.Accepted → (x ≡ answer.Accepted) × (y ≡ answer.Accepted)
 andThen-both answer.Accepted y e = (refl, e)
 andThen-both (answer.Refused r) y e = absurd (let z : _≡_ {A = ℕ} 0 1 = cc in omega arith)
 
@@ -87,9 +87,9 @@ boundsJudged-accepted jobs given n (d ∷ ds) e =
     let r = boundJudged-accepted jobs given n d (q .0) in
     (r .0, r .1, boundsJudged-accepted jobs (given ++ (d ∷ [])) (n + 1) ds (q .1))
 
-pub planJudged-accepted : (p : Plan) → Placed p → planJudged p ≡ answer.Accepted → Accepted p
-unfolding planJudged
-planJudged-accepted p l e =
+judgedByLines-accepted : (p : Plan) → HasPlaces p → judgedByLines p ≡ answer.Accepted → Accepted p
+unfolding judgedByLines
+judgedByLines-accepted p l e =
     let q1 = andThen-both (numberJudged (pos 1) longestWindow (p .window) 1) _ e in
     let q2 = andThen-both (numberJudged (pos 1) (pos mostRounds) (pos (p .rounds)) 2) _ (q1 .1) in
     let q3 = andThen-both (numberJudged (pos 1) (pos mostWindows) (pos (p .last)) 3) _ (q2 .1) in
@@ -134,16 +134,16 @@ judgedAnswer-some none x e = absurd (let z : _≡_ {A = ℕ} 0 1 = cc in omega a
 judgedAnswer-some (some r) x e = let same : r ≡ x = cc in ap some same
 
 -- 'A plan handed over as a value is judged as its text would be': where its text would be read, it is accepted
-pub judgedPlan-accepted : (p : Plan) → Placed p → judgedPlan p ≡ none → Accepted p
+pub judgedPlan-accepted : (p : Plan) → HasPlaces p → judgedPlan p ≡ none → Accepted p
 unfolding refusalOf
-judgedPlan-accepted p l e = planJudged-accepted p l (sym (judgedPlan-is p l (by-reading (planAlone (planText p)) refl e)) ∙ ap judgedAnswer e)
+judgedPlan-accepted p l e = judgedByLines-accepted p l (sym (judgedPlan-is p l (by-reading (planAlone (planText p)) refl e)) ∙ ap judgedAnswer e)
   where
     by-reading : (m : Reading Plan) → planAlone (planText p) ≡ m → refusalOf m ≡ none → length (planText p) ≤ longestText
     by-reading (read q t n) d e = planAlone-fits (planText p) d
     by-reading (refused r t) d e = absurd (let z : _≡_ {A = ℕ} 0 1 = cc in omega arith)
 
 -- the same of the answer a to a plan
-pub judgedAnswer-accepted : (p : Plan) → Placed p → (a : PlanAnswer) → a ≡ judgedAnswer (judgedPlan p) → a ≡ answer.Accepted → Accepted p
+pub judgedAnswer-accepted : (p : Plan) → HasPlaces p → (a : TextAnswer) → a ≡ judgedAnswer (judgedPlan p) → a ≡ answer.Accepted → Accepted p
 judgedAnswer-accepted p l a e d = judgedPlan-accepted p l (judgedAnswer-none (judgedPlan p) (sym e ∙ d))
 
 -- ---- accepted, so judged good
@@ -204,9 +204,9 @@ module _ (p : Plan) (a : Accepted p) where
       let l : i < p .bounds = omega (arith, length-take (p .bounds) (p .bound)) in
       (rw (getD-take (p .bounds) (p .bound) i noBound l) (a .bound-at i l), rw (getD-take (p .bounds) (p .bound) i noBound l, take-take i (p .bounds) (p .bound) (omega arith)) (a .pair-at i l)))
 
-  pub accepted-planJudged : planJudged p ≡ answer.Accepted
-  unfolding planJudged
-  accepted-planJudged =
+  pub accepted-byLines : judgedByLines p ≡ answer.Accepted
+  unfolding judgedByLines
+  accepted-byLines =
       rw (
         numberJudged-inside (pos 1) longestWindow (p .window) 1 (a .window-least) (a .window-most),
         numberJudged-inside (pos 1) (pos mostRounds) (pos (p .rounds)) 2 (omega (whole, a .rounds-least)) (omega (whole, a .rounds-most)),
@@ -249,7 +249,7 @@ module _ (p : Plan) (a : Accepted p) where
 
 -- the converse: an accepted plan's text is read
 pub accepted-judged : (p : Plan) → Accepted p → judgedPlan p ≡ none
-accepted-judged p a = judgedAnswer-none (judgedPlan p) (judgedPlan-is p (f .placed) (planText-short p f) ∙ accepted-planJudged p a)
+accepted-judged p a = judgedAnswer-none (judgedPlan p) (judgedPlan-is p (f .placed) (planText-short p f) ∙ accepted-byLines p a)
   where
     f : PlanFits p
     f = accepted-fits p a

@@ -20,7 +20,7 @@ use Rattle.lines.specs.Keyed.{longestKey, keyed}
 use Rattle.plan.specs.PlanWritten.{jobsText, boundsText, jobsOf, boundsOf, planText}
 use Rattle.lines.specs.KeyedLaws.{keyed-short, count-short}
 use Rattle.plan.specs.ListLaws.{All}
-use Rattle.values.specs.JudgedLines.{Key, keys, Placed}
+use Rattle.values.specs.JudgedLines.{Key, keys, HasPlaces}
 
 -- what the types of a plan tell of its numbers: none is longer than 20 bytes
 pub record JobFits (j : Job) : Type 0 where
@@ -35,7 +35,7 @@ pub record BoundFits (d : Bound) : Type 0 where
   pub c : SFits w64 (d .c)
 
 pub record PlanFits (p : Plan) : Type 0 where
-  pub placed : Placed p
+  pub placed : HasPlaces p
   pub window : SFits w64 (p .window)
   pub rounds : p .rounds < 2 ^ 64
   pub last : p .last < 2 ^ 64

@@ -31,43 +31,43 @@ use Rattle.plan.specs.declared.EventName.{EventName}
 use Rattle.plan.specs.declared.Bound.{Bound}
 use Rattle.plan.specs.declared.BoundLine.the-variants as boundLine
 use Rattle.plan.specs.declared.Plan.{Plan}
-use Rattle.lines.specs.declared.PlanAnswer.{PlanAnswer}
-use Rattle.lines.specs.declared.PlanAnswer.the-variants.{Accepted, Refused}
+use Rattle.lines.specs.declared.TextAnswer.{TextAnswer}
+use Rattle.lines.specs.declared.TextAnswer.the-variants.{Accepted, Refused}
 use Rattle.lines.specs.declared.Refusal.{Refusal}
 use Rattle.lines.specs.declared.Refusal.the-variants.{Form, Range, Pair}
 use Rattle.lines.specs.Reading.{longestText, Lined, Reading, read, refused, Reader, next, _>>=_, answer, lined, line, linedNumber, numberLine, countLine}
 use Rattle.plan.specs.Limits.{longestWindow, mostRounds, mostWindows, mostJobs, longestRunning, latestDeadline, mostBounds, leastC, greatestC}
 use Rattle.plan.specs.EventNames.{letterByte, kindByte, nameBytes, eventName}
 use Rattle.plan.specs.EventNameLaws.{eventName-back, eventName-long}
-use Rattle.plan.specs.PlanRead.{jobLines, jobsAfter, partsOf, boundParts, isJob, isWrongPair, judgedBound, boundOf, linedBound, boundIn, boundsAfter, planOf, planRest, planLines, nothingAfter}
+use Rattle.plan.specs.PlanLines.{jobLines, jobsAfter, partsOf, boundParts, isJob, isWrongPair, judgedBound, boundOf, linedBound, boundOfLine, boundsAfter, planOf, planRest, planLines, nothingAfter}
 use Rattle.lines.specs.Keyed.{longestKey, keyed}
 use Rattle.plan.specs.PlanWritten.{jobsText, boundBytes, boundsText, jobsOf, boundsOf, trimmed, planText, refusalOf, judgedPlan}
 use Rattle.plan.specs.HeadLaws.{planHead-short}
 use Rattle.plan.specs.PlanLaws.{boundBytes-append}
-use Rattle.values.specs.PlanJudged.{judgedAnswer, andThen, numberJudged, jobJudged, jobsJudged, isOneDigit, lineJudged, boundJudged, boundsJudged, planJudged}
+use Rattle.values.specs.PlanJudged.{judgedAnswer, andThen, numberJudged, jobJudged, jobsJudged, isOneDigit, lineJudged, boundJudged, boundsJudged, judgedByLines}
 
 -- ---- one answer after another
 
 -- what comes of an answer: where it accepts, what follows it, and of a refusal what `stop` makes of it
-abbrev pub onward : {C : Type 0} → (Refusal → C) → PlanAnswer → C → C
+abbrev pub onward : {C : Type 0} → (Refusal → C) → TextAnswer → C → C
 onward stop Accepted c = c
 onward stop (Refused r) c = stop r
 
 -- an answer x and then an answer v: what follows x matters only where x accepts
-onward-more : {C : Type 0} (stop : Refusal → C) (x v : PlanAnswer) (c : C) {w : C} → (x ≡ Accepted → w ≡ onward stop v c) → onward stop x w ≡ onward stop (andThen x v) c
+onward-more : {C : Type 0} (stop : Refusal → C) (x v : TextAnswer) (c : C) {w : C} → (x ≡ Accepted → w ≡ onward stop v c) → onward stop x w ≡ onward stop (andThen x v) c
 onward-more stop Accepted v c f = f refl
 onward-more stop (Refused r) v c f = refl
 
-onward-accepted : (x : PlanAnswer) → onward Refused x Accepted ≡ x
+onward-accepted : (x : TextAnswer) → onward Refused x Accepted ≡ x
 onward-accepted Accepted = refl
 onward-accepted (Refused r) = refl
 
 -- an answer a to what comes first: a refusal is the answer to all, and where it accepts, what follows is
-pub andThen-stop : (x y a : PlanAnswer) {r : Refusal} → a ≡ x → a ≡ Refused r → a ≡ andThen x y
+pub andThen-stop : (x y a : TextAnswer) {r : Refusal} → a ≡ x → a ≡ Refused r → a ≡ andThen x y
 andThen-stop Accepted y a e d = absurd (let z : _≡_ {A = ℕ} 0 1 = cc in omega arith)
 andThen-stop (Refused r) y a e d = e
 
-pub andThen-pass : (x y a : PlanAnswer) → a ≡ x → a ≡ Accepted → y ≡ andThen x y
+pub andThen-pass : (x y a : TextAnswer) → a ≡ x → a ≡ Accepted → y ≡ andThen x y
 andThen-pass Accepted y a e d = refl
 andThen-pass (Refused r) y a e d = absurd (let z : _≡_ {A = ℕ} 0 1 = cc in omega arith)
 
@@ -138,13 +138,13 @@ keys =
     }
 
 -- a line as it is written, with the text that follows it
-pub line-back : {A : Type 0} (f : List ℕ → Lined A) (l s : List ℕ) (n : ℕ) → lenTo LF l ≡ length l → line f (l ++ (LF ∷ s)) n ≡ lined (f l) (l ++ (LF ∷ s)) n
+line-back : {A : Type 0} (f : List ℕ → Lined A) (l s : List ℕ) (n : ℕ) → lenTo LF l ≡ length l → line f (l ++ (LF ∷ s)) n ≡ lined (f l) (l ++ (LF ∷ s)) n
 unfolding line
 line-back f l s n e = rw (has-back LF l s e, before-back LF l s e)
 
 -- a line that is a key and a number
 module _ (key : List ℕ) (bare : lenTo LF key ≡ length key) (lo hi z : ℤ) (s : List ℕ) (n : ℕ) where
-  pub numberLine-back : numberLine key lo hi (keyed key z s) n ≡ cond (within lo hi z) (read z s (suc n)) (refused (Range n) (keyed key z s))
+  numberLine-back : numberLine key lo hi (keyed key z s) n ≡ cond (within lo hi z) (read z s (suc n)) (refused (Range n) (keyed key z s))
   unfolding lined linedNumber
   numberLine-back =
       rw (sym (append-assoc key (decimal z) (LF ∷ s)))
@@ -157,7 +157,7 @@ module _ (key : List ℕ) (bare : lenTo LF key ≡ length key) (lo hi z : ℤ) (
       by-range true = ap (λ (t : List ℕ). read z t (suc n)) (after-back LF (key ++ decimal z) s (keyed-free key z bare))
       by-range false = refl
 
-  pub numberLine-judged : {B C : Type 0} (stop : Refusal → C) (k : Reading B → C) → Ending stop k → (f : ℤ → Reader B)
+  numberLine-judged : {B C : Type 0} (stop : Refusal → C) (k : Reading B → C) → Ending stop k → (f : ℤ → Reader B)
       → k (next (numberLine key lo hi (keyed key z s) n) f) ≡ onward stop (numberJudged lo hi z n) (k (f z s (suc n)))
   unfolding next
   numberLine-judged {B} {C} stop k ends f = ap (λ m. k (next m f)) numberLine-back ∙ by-range (within lo hi z)
@@ -167,7 +167,7 @@ module _ (key : List ℕ) (bare : lenTo LF key ≡ length key) (lo hi z : ℤ) (
       by-range false = ends (Range n) (keyed key z s)
 
 -- a line that is a key and a count
-pub countLine-judged : (key : List ℕ) → lenTo LF key ≡ length key → (lo hi z : ℕ) (s : List ℕ) (n : ℕ) {B C : Type 0} (stop : Refusal → C) (k : Reading B → C) → Ending stop k → (f : ℕ → Reader B)
+countLine-judged : (key : List ℕ) → lenTo LF key ≡ length key → (lo hi z : ℕ) (s : List ℕ) (n : ℕ) {B C : Type 0} (stop : Refusal → C) (k : Reading B → C) → Ending stop k → (f : ℕ → Reader B)
     → k (next (countLine key lo hi (keyed key (pos z) s) n) f) ≡ onward stop (numberJudged (pos lo) (pos hi) (pos z) n) (k (f z s (suc n)))
 unfolding next
 countLine-judged key bare lo hi z s n stop k ends f =
@@ -175,7 +175,7 @@ countLine-judged key bare lo hi z s n stop k ends f =
 
 -- ---- jobs
 
-pub jobLines-judged : {C : Type 0} (j : Job) (s : List ℕ) (n : ℕ) (stop : Refusal → C) (k : Reading Job → C) → Ending stop k
+jobLines-judged : {C : Type 0} (j : Job) (s : List ℕ) (n : ℕ) (stop : Refusal → C) (k : Reading Job → C) → Ending stop k
     → k (jobLines (jobsText (j ∷ []) s) n) ≡ onward stop (jobJudged n j) (k (read j s (n + 4)))
 unfolding jobLines jobsText jobJudged
 jobLines-judged j s n stop k ends =
@@ -194,7 +194,7 @@ jobLines-judged j s n stop k ends =
     ∙ onward-more stop (numberJudged (pos 0) latestDeadline (j .release) (suc (suc n))) _ _
     (λ h₃. numberLine-judged (bytes "deadline=") (keys .deadline .bare) (pos 0) latestDeadline (j .deadline) _ (suc (suc (suc n))) stop k ends _))))
 
-pub jobsAfter-judged : {C : Type 0} (done js : List Job) (s : List ℕ) (n : ℕ) (stop : Refusal → C) (k : Reading (List Job) → C) → Ending stop k
+jobsAfter-judged : {C : Type 0} (done js : List Job) (s : List ℕ) (n : ℕ) (stop : Refusal → C) (k : Reading (List Job) → C) → Ending stop k
     → k (jobsAfter done (length js) (jobsText js s) n) ≡ onward stop (jobsJudged n js) (k (read (done ++ js) s (n + 4 * length js)))
 unfolding jobsAfter jobsText jobsJudged next
 jobsAfter-judged done [] s n stop k ends = let e : n + 4 * 0 ≡ n = omega arith in rw (append-nil done, e)
@@ -232,9 +232,9 @@ boundParts-back a b s =
 
 module _ (jobs : ℕ) (given : List Bound) (d : Bound) where
   -- a bound's line has its form where both names have one job digit
-  pub boundIn-back : boundIn jobs given (boundBytes d []) ≡ cond (isOneDigit (d .a .job) && isOneDigit (d .b .job)) (judgedBound jobs (λ a b. isWrongPair a b given) d) (boundLine.Bad fault.Form)
+  boundOfLine-back : boundOfLine jobs given (boundBytes d []) ≡ cond (isOneDigit (d .a .job) && isOneDigit (d .b .job)) (judgedBound jobs (λ a b. isWrongPair a b given) d) (boundLine.Bad fault.Form)
   unfolding boundOf
-  boundIn-back =
+  boundOfLine-back =
       rw (append-nil (decimal (d .c)), afterKey-back (bytes "bound=") (nameBytes (d .a) ++ (comma ∷ (nameBytes (d .b) ++ (comma ∷ decimal (d .c))))), boundParts-back (d .a) (d .b) (decimal (d .c)))
       (by-digits (ltb (d .a .job) 10) (ltb (d .b .job) 10) refl refl)
     where
@@ -254,13 +254,13 @@ module _ (jobs : ℕ) (given : List Bound) (d : Bound) where
       (free-append LF (nameBytes (d .b)) _ (nameBytes-free LF refl (omega arith) (d .b))
       (ap suc (free-append LF (decimal (d .c)) [] (decimal-free LF refl (omega arith) (d .c)) refl)))))
 
-  pub boundLine-judged : (s : List ℕ) (n : ℕ) {B C : Type 0} (stop : Refusal → C) (k : Reading B → C) → Ending stop k → (f : Bound → Reader B)
-      → k (next (line (λ l. linedBound (boundIn jobs given l)) (boundBytes d (LF ∷ s)) n) f) ≡ onward stop (boundJudged jobs (λ a b. isWrongPair a b given) n d) (k (f d s (suc n)))
+  boundLine-judged : (s : List ℕ) (n : ℕ) {B C : Type 0} (stop : Refusal → C) (k : Reading B → C) → Ending stop k → (f : Bound → Reader B)
+      → k (next (line (λ l. linedBound (boundOfLine jobs given l)) (boundBytes d (LF ∷ s)) n) f) ≡ onward stop (boundJudged jobs (λ a b. isWrongPair a b given) n d) (k (f d s (suc n)))
   unfolding next lined linedBound boundJudged
   boundLine-judged s n {B} {C} stop k ends f =
-      ap (λ t. k (next (line (λ l. linedBound (boundIn jobs given l)) t n) f)) (sym (boundBytes-append d [] (LF ∷ s)))
-      ∙ ap (λ m. k (next m f)) (line-back (λ l. linedBound (boundIn jobs given l)) (boundBytes d []) s n boundBytes-free)
-      ∙ ap (λ x. k (next (lined (linedBound x) t n) f)) boundIn-back
+      ap (λ t. k (next (line (λ l. linedBound (boundOfLine jobs given l)) t n) f)) (sym (boundBytes-append d [] (LF ∷ s)))
+      ∙ ap (λ m. k (next m f)) (line-back (λ l. linedBound (boundOfLine jobs given l)) (boundBytes d []) s n boundBytes-free)
+      ∙ ap (λ x. k (next (lined (linedBound x) t n) f)) boundOfLine-back
       ∙ by-tests (isOneDigit (d .a .job) && isOneDigit (d .b .job)) (not (isJob jobs (d .a .job) && isJob jobs (d .b .job) && within leastC greatestC (d .c))) (isWrongPair (d .a) (d .b) given)
     where
       t : List ℕ
@@ -273,7 +273,7 @@ module _ (jobs : ℕ) (given : List Bound) (d : Bound) where
       by-tests true false true = ends (Pair n) t
       by-tests true false false = ap (λ (r : List ℕ). k (f d r (suc n))) (after-back LF (boundBytes d []) s boundBytes-free)
 
-pub boundsAfter-judged : {C : Type 0} (jobs : ℕ) (given ds : List Bound) (n : ℕ) (stop : Refusal → C) (k : Reading (List Bound) → C) → Ending stop k
+boundsAfter-judged : {C : Type 0} (jobs : ℕ) (given ds : List Bound) (n : ℕ) (stop : Refusal → C) (k : Reading (List Bound) → C) → Ending stop k
     → k (boundsAfter jobs given (length ds) (boundsText ds) n) ≡ onward stop (boundsJudged jobs given n ds) (k (read (given ++ ds) [] (n + length ds)))
 unfolding boundsAfter boundsText boundsJudged next
 boundsAfter-judged jobs given [] n stop k ends = let e : n + 0 ≡ n = omega arith in rw (append-nil given, e)
@@ -330,20 +330,20 @@ planRest-judged {C} window rounds last js bounds ds all stop k ends =
       afterCount job b
 
 -- the arrays have their sizes, as every value's have
-pub record Placed (p : Plan) : Type 0 where
+pub record HasPlaces (p : Plan) : Type 0 where
   pub job-places : length (p .job) ≡ mostJobs
   pub bound-places : length (p .bound) ≡ mostBounds
 
-pub jobsOf-count : (p : Plan) → Placed p → p .jobs ≤ mostJobs → p .jobs ≡ length (jobsOf p)
+jobsOf-count : (p : Plan) → HasPlaces p → p .jobs ≤ mostJobs → p .jobs ≡ length (jobsOf p)
 jobsOf-count p q h = omega (arith, length-take (p .jobs) (p .job), q .job-places)
 
-pub boundsOf-count : (p : Plan) → Placed p → p .bounds ≤ mostBounds → p .bounds ≡ length (boundsOf p)
+boundsOf-count : (p : Plan) → HasPlaces p → p .bounds ≤ mostBounds → p .bounds ≡ length (boundsOf p)
 boundsOf-count p q h = omega (arith, length-take (p .bounds) (p .bound), q .bound-places)
 
 -- the plan's lines: the refusal of the first that is judged bad; or the plan that is read is the same, with zeros in the places beyond its jobs and bounds
-pub planLines-judged : {C : Type 0} (p : Plan) → Placed p → (stop : Refusal → C) (k : Reading Plan → C) → Ending stop k
-    → k (planLines (planText p) 1) ≡ onward stop (planJudged p) (k (read (trimmed p) [] (6 + 4 * p .jobs + p .bounds)))
-unfolding planLines planText planJudged trimmed next
+pub planLines-judged : {C : Type 0} (p : Plan) → HasPlaces p → (stop : Refusal → C) (k : Reading Plan → C) → Ending stop k
+    → k (planLines (planText p) 1) ≡ onward stop (judgedByLines p) (k (read (trimmed p) [] (6 + 4 * p .jobs + p .bounds)))
+unfolding planLines planText judgedByLines trimmed next
 planLines-judged {C} p q stop k ends =
     numberLine-judged (bytes "window=") (keys .window .bare) (pos 1) longestWindow (p .window) _ 1 stop k ends _
     ∙ onward-more stop (numberJudged (pos 1) longestWindow (p .window) 1) _ _
@@ -362,11 +362,11 @@ planLines-judged {C} p q stop k ends =
     ∙ planRest-judged (p .window) (p .rounds) (p .last) (jobsOf p) (p .bounds) (boundsOf p) (boundsOf-count p q) stop k ends
     ∙ ap (λ (jobs : ℕ). onward stop (lines jobs) (k (read (planOf (p .window) (p .rounds) (p .last) jobs (jobsOf p) (p .bounds) (boundsOf p)) [] (6 + 4 * jobs + p .bounds)))) (sym count)))))
   where
-    lines : ℕ → PlanAnswer
+    lines : ℕ → TextAnswer
     lines jobs = andThen (jobsJudged 5 (jobsOf p)) (andThen (numberJudged (pos 0) (pos mostBounds) (pos (p .bounds)) (5 + 4 * jobs)) (boundsJudged jobs [] (6 + 4 * jobs) (boundsOf p)))
 
 -- what is made of a plan that is read alone
-abbrev alone : Reading Plan → PlanAnswer
+abbrev alone : Reading Plan → TextAnswer
 alone m = judgedAnswer (refusalOf (nothingAfter m))
 
 alone-ends : Ending Refused alone
@@ -378,9 +378,9 @@ unfolding nothingAfter refusalOf
 alone-read p n = refl
 
 -- 'A plan handed over as a value is judged as its text would be.'
-pub judgedPlan-is : (p : Plan) → Placed p → length (planText p) ≤ longestText → judgedAnswer (judgedPlan p) ≡ planJudged p
+pub judgedPlan-is : (p : Plan) → HasPlaces p → length (planText p) ≤ longestText → judgedAnswer (judgedPlan p) ≡ judgedByLines p
 judgedPlan-is p q short =
     ap alone (planHead-short (planText p) short)
     ∙ planLines-judged p q Refused alone alone-ends
-    ∙ ap (onward Refused (planJudged p)) (alone-read (trimmed p) (6 + 4 * p .jobs + p .bounds))
-    ∙ onward-accepted (planJudged p)
+    ∙ ap (onward Refused (judgedByLines p)) (alone-read (trimmed p) (6 + 4 * p .jobs + p .bounds))
+    ∙ onward-accepted (judgedByLines p)

@@ -13,53 +13,53 @@ use Rattle.plan.specs.declared.Job.{Job}
 use Rattle.plan.specs.declared.EventName.{EventName}
 use Rattle.plan.specs.declared.Bound.{Bound}
 use Rattle.plan.specs.declared.Plan.{Plan}
-use Rattle.lines.specs.declared.PlanAnswer.{PlanAnswer}
-use Rattle.lines.specs.declared.PlanAnswer.the-variants.{Accepted, Refused}
+use Rattle.lines.specs.declared.TextAnswer.{TextAnswer}
+use Rattle.lines.specs.declared.TextAnswer.the-variants.{Accepted, Refused}
 use Rattle.lines.specs.declared.Refusal.{Refusal}
 use Rattle.lines.specs.declared.Refusal.the-variants.{Form}
 use Rattle.plan.specs.Limits.{longestWindow, mostRounds, mostWindows, mostJobs, mostBounds, longestRunning, latestDeadline}
-use Rattle.plan.specs.PlanRead.{isWrongPair, judgedBound, noJob, noBound}
+use Rattle.plan.specs.PlanLines.{isWrongPair, judgedBound, noJob, noBound}
 use Rattle.plan.specs.PlanWritten.{jobsOf, boundsOf}
 use Rattle.plan.specs.Accepted.{BoundAccepted}
 use Rattle.plan.specs.Pairs.{pairOf, isWrongNumbered}
 use Rattle.plan.specs.PairLaws.{Small}
 use Rattle.plan.specs.ListLaws.{All, All-more}
 use Rattle.plan.specs.BoundsLoop.{judgedBound-numbered, map-last}
-use Rattle.values.specs.PlanJudged.{andThen, numberJudged, jobJudged, jobsJudged, isOneDigit, lineJudged, boundJudged, boundsJudged, planJudged}
-use Rattle.values.specs.JudgedLines.{andThen-stop, andThen-pass, Placed}
+use Rattle.values.specs.PlanJudged.{andThen, numberJudged, jobJudged, jobsJudged, isOneDigit, lineJudged, boundJudged, boundsJudged, judgedByLines}
+use Rattle.values.specs.JudgedLines.{andThen-stop, andThen-pass, HasPlaces}
 use Rattle.values.specs.JudgedLaws.{boundJudged-accepted}
 
 -- ---- a job
 
 module _ (n : ℕ) (j : Job) where
-  abbrev min-judged : PlanAnswer
+  abbrev min-judged : TextAnswer
   min-judged = numberJudged (pos 0) longestRunning (j .min) n
 
-  abbrev max-judged : PlanAnswer
+  abbrev max-judged : TextAnswer
   max-judged = numberJudged (j .min) longestRunning (j .max) (n + 1)
 
-  abbrev release-judged : PlanAnswer
+  abbrev release-judged : TextAnswer
   release-judged = numberJudged (pos 0) latestDeadline (j .release) (n + 2)
 
-  abbrev deadline-judged : PlanAnswer
+  abbrev deadline-judged : TextAnswer
   deadline-judged = numberJudged (pos 0) latestDeadline (j .deadline) (n + 3)
 
-  module _ (a : PlanAnswer) (e : a ≡ numberJudged (pos 0) longestRunning (j .min) n) where
+  module _ (a : TextAnswer) (e : a ≡ numberJudged (pos 0) longestRunning (j .min) n) where
     pub jobJudged-min : {r : Refusal} → a ≡ Refused r → a ≡ jobJudged n j
     unfolding jobJudged
     jobJudged-min = andThen-stop min-judged _ a e
 
-    module _ (d : a ≡ Accepted) (b : PlanAnswer) (e₂ : b ≡ numberJudged (j .min) longestRunning (j .max) (n + 1)) where
+    module _ (d : a ≡ Accepted) (b : TextAnswer) (e₂ : b ≡ numberJudged (j .min) longestRunning (j .max) (n + 1)) where
       pub jobJudged-max : {r : Refusal} → b ≡ Refused r → b ≡ jobJudged n j
       unfolding jobJudged
       jobJudged-max h = andThen-stop max-judged _ b e₂ h ∙ andThen-pass min-judged _ a e d
 
-      module _ (d₂ : b ≡ Accepted) (c : PlanAnswer) (e₃ : c ≡ numberJudged (pos 0) latestDeadline (j .release) (n + 2)) where
+      module _ (d₂ : b ≡ Accepted) (c : TextAnswer) (e₃ : c ≡ numberJudged (pos 0) latestDeadline (j .release) (n + 2)) where
         pub jobJudged-release : {r : Refusal} → c ≡ Refused r → c ≡ jobJudged n j
         unfolding jobJudged
         jobJudged-release h = andThen-stop release-judged deadline-judged c e₃ h ∙ andThen-pass max-judged _ b e₂ d₂ ∙ andThen-pass min-judged _ a e d
 
-        pub jobJudged-deadline : c ≡ Accepted → (x : PlanAnswer) → x ≡ numberJudged (pos 0) latestDeadline (j .deadline) (n + 3) → x ≡ jobJudged n j
+        pub jobJudged-deadline : c ≡ Accepted → (x : TextAnswer) → x ≡ numberJudged (pos 0) latestDeadline (j .deadline) (n + 3) → x ≡ jobJudged n j
         unfolding jobJudged
         jobJudged-deadline d₃ x e₄ = e₄ ∙ andThen-pass release-judged deadline-judged c e₃ d₃ ∙ andThen-pass max-judged _ b e₂ d₂ ∙ andThen-pass min-judged _ a e d
 
@@ -73,7 +73,7 @@ pub record JobsHeld (p : Plan) (n i : ℕ) : Type 0 where
 pub JobsHeld-start : (p : Plan) → JobsHeld p 5 0
 JobsHeld-start p = record { count = omega arith; number = refl; left = refl }
 
-module _ (p : Plan) (q : Placed p) (few : p .jobs ≤ mostJobs) (n i : ℕ) (h : JobsHeld p n i) where
+module _ (p : Plan) (q : HasPlaces p) (few : p .jobs ≤ mostJobs) (n i : ℕ) (h : JobsHeld p n i) where
   next-job : i < p .jobs → drop i (jobsOf p) ≡ getD (p .job) i noJob ∷ drop (i + 1) (jobsOf p)
   next-job l =
       drop-cons (jobsOf p) i noJob (omega (arith, length-take (p .jobs) (p .job), q .job-places))
@@ -83,7 +83,7 @@ module _ (p : Plan) (q : Placed p) (few : p .jobs ≤ mostJobs) (n i : ℕ) (h :
   unfolding jobsJudged
   one-job l = h .left ∙ ap (jobsJudged n) (next-job l)
 
-  module _ (l : i < p .jobs) (a : PlanAnswer) (e : a ≡ jobJudged n (getD (p .job) i noJob)) where
+  module _ (l : i < p .jobs) (a : TextAnswer) (e : a ≡ jobJudged n (getD (p .job) i noJob)) where
     pub JobsHeld-stop : {r : Refusal} → a ≡ Refused r → a ≡ jobsJudged 5 (jobsOf p)
     JobsHeld-stop d = andThen-stop (jobJudged n (getD (p .job) i noJob)) _ a e d ∙ sym (one-job l)
 
@@ -129,7 +129,7 @@ pub record BoundsHeld (p : Plan) (given : List ℕ) (n i : ℕ) : Type 0 where
 pub BoundsHeld-start : (p : Plan) → BoundsHeld p (replicate mostBounds 0) (6 + 4 * p .jobs) 0
 BoundsHeld-start p = record { count = omega arith; number = omega arith; codes = refl; coded = refl; small = tt; left = refl }
 
-module _ (p : Plan) (q : Placed p) (few : p .jobs ≤ mostJobs) (few-bounds : p .bounds ≤ mostBounds) (given : List ℕ) (n i : ℕ) (h : BoundsHeld p given n i) where
+module _ (p : Plan) (q : HasPlaces p) (few : p .jobs ≤ mostJobs) (few-bounds : p .bounds ≤ mostBounds) (given : List ℕ) (n i : ℕ) (h : BoundsHeld p given n i) where
   next-bound : i < p .bounds → drop i (boundsOf p) ≡ getD (p .bound) i noBound ∷ drop (i + 1) (boundsOf p)
   next-bound l =
       drop-cons (boundsOf p) i noBound (omega (arith, length-take (p .bounds) (p .bound), q .bound-places))
@@ -144,7 +144,7 @@ module _ (p : Plan) (q : Placed p) (few : p .jobs ≤ mostJobs) (few-bounds : p 
   unfolding boundsJudged
   one-bound l = h .left ∙ ap (boundsJudged (p .jobs) (take i (p .bound)) n) (next-bound l)
 
-  module _ (l : i < p .bounds) (a : PlanAnswer) (e : a ≡ boundJudged (p .jobs) (isWrongNumbered (take i given)) n (getD (p .bound) i noBound)) where
+  module _ (l : i < p .bounds) (a : TextAnswer) (e : a ≡ boundJudged (p .jobs) (isWrongNumbered (take i given)) n (getD (p .bound) i noBound)) where
     is-judged : a ≡ boundJudged (p .jobs) (λ a b. isWrongPair a b (take i (p .bound))) n (getD (p .bound) i noBound)
     is-judged = e ∙ same-bound (getD (p .bound) i noBound)
 
@@ -185,21 +185,21 @@ module _ (p : Plan) (q : Placed p) (few : p .jobs ≤ mostJobs) (few-bounds : p 
 -- ---- the plan: the lines that are left are judged as the whole
 
 module _ (p : Plan) where
-  abbrev pub fromCount : PlanAnswer
+  abbrev pub fromCount : TextAnswer
   fromCount = andThen (numberJudged (pos 0) (pos mostBounds) (pos (p .bounds)) (5 + 4 * p .jobs)) (boundsJudged (p .jobs) [] (6 + 4 * p .jobs) (boundsOf p))
 
-  abbrev pub fromJobs : PlanAnswer
+  abbrev pub fromJobs : TextAnswer
   fromJobs = andThen (numberJudged (pos 1) (pos mostJobs) (pos (p .jobs)) 4) (andThen (jobsJudged 5 (jobsOf p)) fromCount)
 
-  abbrev pub fromRounds : PlanAnswer
+  abbrev pub fromRounds : TextAnswer
   fromRounds = andThen (numberJudged (pos 1) (pos mostRounds) (pos (p .rounds)) 2) (andThen (numberJudged (pos 1) (pos mostWindows) (pos (p .last)) 3) fromJobs)
 
-  pub planJudged-lines : planJudged p ≡ andThen (numberJudged (pos 1) longestWindow (p .window) 1) fromRounds
-  unfolding planJudged
+  pub planJudged-lines : judgedByLines p ≡ andThen (numberJudged (pos 1) longestWindow (p .window) 1) fromRounds
+  unfolding judgedByLines
   planJudged-lines = refl
 
 -- w is the answer to the lines from some line on, and a the answer to the first of them
-module _ {w : PlanAnswer} (x y : PlanAnswer) (e : w ≡ andThen x y) (a : PlanAnswer) (d : a ≡ x) where
+module _ {w : TextAnswer} (x y : TextAnswer) (e : w ≡ andThen x y) (a : TextAnswer) (d : a ≡ x) where
   pub lines-stop : {r : Refusal} → a ≡ Refused r → a ≡ w
   lines-stop h = andThen-stop x y a d h ∙ sym e
 

@@ -2,9 +2,11 @@
 -- Decisions, what is decided of it. Then the laws: that the judgement is that of the text, which is never too long; that a plan is judged good exactly where it is
 -- accepted, and is then read again from its text; how the loops go; how a plan's text is written piece by piece; and that what is decided is what the calendar
 -- program answers to its text.
-pub mod PlanJudged
+-- ---- document 01
 pub mod PlanWriting
 pub mod Decisions
+-- ---- what the code works with
+pub mod PlanJudged
 -- ---- laws
 pub mod PlanWrittenLaws
 pub mod JudgedLines

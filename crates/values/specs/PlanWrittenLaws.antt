@@ -21,7 +21,7 @@ use Rattle.lines.specs.KeyedLaws.{stored-behind, stored-narrow}
 
 -- ---- lines before what follows them
 
-pub jobsText-more : (js : List Job) (s : List ℕ) → jobsText js s ≡ jobsText js [] ++ s
+jobsText-more : (js : List Job) (s : List ℕ) → jobsText js s ≡ jobsText js [] ++ s
 unfolding jobsText
 jobsText-more [] s = refl
 jobsText-more (j ∷ js) s = simp (append-assoc, ← jobsText-more js s)

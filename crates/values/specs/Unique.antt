@@ -5,7 +5,7 @@ use Prim.Native.Nat.{ℕ}
 use Rattle.text.specs.Lent.{written}
 use Rattle.text.specs.Unique.{only}
 use Rattle.plan.specs.declared.Plan.{Plan}
-use Rattle.lines.specs.declared.PlanAnswer.{PlanAnswer}
+use Rattle.lines.specs.declared.TextAnswer.{TextAnswer}
 use Rattle.lines.specs.declared.Written.{Written}
 use Rattle.plan.specs.PlanWritten.{judgedPlan}
 use Rattle.rounds.specs.declared.VerdictTold.{VerdictTold}
@@ -16,7 +16,7 @@ use Rattle.values.specs.Decisions.{valueVerdict, valueCalendar, valueTex
 use Rattle.values.specs.PlanJudged.{judgedAnswer}
 use Rattle.values.specs.PlanWriting.{writtenPlan, planBytes}
 
-pub judge-plan-unique : (p : Plan) {r q : PlanAnswer} → r ≡ judgedAnswer (judgedPlan p) → q ≡ judgedAnswer (judgedPlan p) → r ≡ q
+pub judge-plan-unique : (p : Plan) {r q : TextAnswer} → r ≡ judgedAnswer (judgedPlan p) → q ≡ judgedAnswer (judgedPlan p) → r ≡ q
 judge-plan-unique p = only
 
 pub write-plan-unique : (p : Plan) (out : List ℕ) {r q : Written} → r ≡ writtenPlan p out → q ≡ writtenPlan p out → r ≡ q

@@ -5,8 +5,8 @@
 use mathlib.Core.Path.{_≡_, sym, ap, _∙_}
 use mathlib.Core.Option.{none, some}
 use Rattle.plan.specs.declared.Plan.{Plan}
-use Rattle.lines.specs.declared.PlanAnswer.{PlanAnswer}
-use Rattle.lines.specs.declared.PlanAnswer.the-variants as planAnswer
+use Rattle.lines.specs.declared.TextAnswer.{TextAnswer}
+use Rattle.lines.specs.declared.TextAnswer.the-variants as planAnswer
 use Rattle.lines.specs.declared.Refusal.{Refusal}
 use Rattle.lines.specs.Refusals.{refusedLine}
 use Rattle.plan.specs.PlanWritten.{judgedPlan}
@@ -20,7 +20,7 @@ use Rattle.calendars.specs.Calendars.{noCalendar, madeCalendar}
 use Rattle.calendars.specs.CalendarText.{outcomeText}
 use Rattle.values.specs.Decisions.{valueVerdict, valueCalendar, valueText}
 
-module _ (p : Plan) (a : PlanAnswer) (d : a ≡ judgedAnswer (judgedPlan p)) where
+module _ (p : Plan) (a : TextAnswer) (d : a ≡ judgedAnswer (judgedPlan p)) where
   judged-good : a ≡ planAnswer.Accepted → judgedPlan p ≡ none
   judged-good e = judgedAnswer-none (judgedPlan p) (sym d ∙ e)
 

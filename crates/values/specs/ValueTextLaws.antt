@@ -4,9 +4,9 @@ use mathlib.Core.Path.{_≡_, refl, sym, ap, _∙_}
 use mathlib.Core.Option.{none}
 use Rattle.plan.specs.declared.Plan.{Plan}
 use Rattle.lines.specs.Reading.{Reading, read, refused}
-use Rattle.plan.specs.PlanRead.{planAlone}
+use Rattle.plan.specs.PlanLines.{planAlone}
 use Rattle.plan.specs.PlanWritten.{trimmed, planText, refusalOf, judgedPlan}
-use Rattle.values.specs.JudgedLines.{Placed}
+use Rattle.values.specs.JudgedLines.{HasPlaces}
 use Rattle.values.specs.JudgedLaws.{judgedPlan-accepted}
 use Rattle.values.specs.AgainLaws.{accepted-again}
 use Rattle.rounds.specs.Rounds.{outcome}
@@ -14,7 +14,7 @@ use Rattle.calendars.specs.CalendarText.{outcomeText, answered, calendarOutput}
 use Rattle.calendars.specs.TrimmedLaws.{text-trimmed}
 use Rattle.values.specs.Decisions.{valueText}
 
-pub valueText-text : (p : Plan) → Placed p → valueText p (judgedPlan p) ≡ calendarOutput (planText p)
+pub valueText-text : (p : Plan) → HasPlaces p → valueText p (judgedPlan p) ≡ calendarOutput (planText p)
 unfolding valueText answered refusalOf
 valueText-text p placed = of (planAlone (planText p)) refl
   where

@@ -6,8 +6,8 @@ use mathlib.Core.Option.{Option, none, some}
 use Prim.Native.Nat.{ℕ}
 use Rattle.text.specs.Lent.{written}
 use Rattle.plan.specs.declared.Plan.{Plan}
-use Rattle.lines.specs.declared.PlanAnswer.{PlanAnswer}
-use Rattle.lines.specs.declared.PlanAnswer.the-variants as answer
+use Rattle.lines.specs.declared.TextAnswer.{TextAnswer}
+use Rattle.lines.specs.declared.TextAnswer.the-variants as answer
 use Rattle.lines.specs.declared.Refusal.{Refusal}
 use Rattle.lines.specs.declared.Written.{Written}
 use Rattle.lines.specs.declared.Written.the-variants.{Refused}
@@ -17,7 +17,7 @@ use Rattle.values.specs.PlanJudged.{judgedAnswer}
 use Rattle.values.specs.PlanWriting.{writtenWhere, bytesWhere, writtenPlan, planBytes}
 use Rattle.values.specs.JudgedLaws.{judgedAnswer-none, judgedAnswer-some}
 
-module _ (p : Plan) (out : List ℕ) (a : PlanAnswer) (d : a ≡ judgedAnswer (judgedPlan p)) where
+module _ (p : Plan) (out : List ℕ) (a : TextAnswer) (d : a ≡ judgedAnswer (judgedPlan p)) where
   pub writtenPlan-refused : (x : Refusal) → a ≡ answer.Refused x → (Refused x ≡ writtenPlan p out) × (out ≡ planBytes p out)
   unfolding writtenPlan planBytes writtenWhere bytesWhere
   writtenPlan-refused x e =

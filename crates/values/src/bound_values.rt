@@ -1,6 +1,6 @@
 // The bounds of a plan's value, judged as their lines would be.
-use lines::PlanAnswer;
 use lines::Refusal;
+use lines::TextAnswer;
 use lines::fault_at;
 use plan::Bound;
 use plan::BoundLine;
@@ -14,7 +14,7 @@ ghost use mathlib.Core.List.{[]};
 ghost use Prim.Native.Nat.{_+_, _*_, _≤_};
 ghost use lib.ListN.{length, take};
 ghost use Rattle.plan.specs.Limits.{mostBounds, mostJobs};
-ghost use Rattle.values.specs.JudgedLines.{Placed};
+ghost use Rattle.values.specs.JudgedLines.{HasPlaces};
 ghost use Rattle.plan.specs.Pairs.{isWrongNumbered};
 ghost use Rattle.values.specs.PlanJudged.{isOneDigit, lineJudged, boundJudged, boundsJudged};
 ghost use Rattle.plan.specs.PlanWritten.{boundsOf};
@@ -32,12 +32,12 @@ fn has_form(d: Bound) -> bool
 }
 
 // The answer to a line that was judged.
-fn line_answer(l: BoundLine, line: usize) -> PlanAnswer
+fn line_answer(l: BoundLine, line: usize) -> TextAnswer
     ensures { λ r. ⌜ r ≡ lineJudged line l ⌝ }
 {
     match l {
-        BoundLine::Value(_) => PlanAnswer::Accepted,
-        BoundLine::Bad(f) => PlanAnswer::Refused(fault_at(line, f)),
+        BoundLine::Value(_) => TextAnswer::Accepted,
+        BoundLine::Bad(f) => TextAnswer::Refused(fault_at(line, f)),
     }
 }
 
@@ -48,20 +48,20 @@ fn judge_line(
     given: &[u32; MOST_BOUNDS],
     n: usize,
     line: usize,
-) -> PlanAnswer
+) -> TextAnswer
     requires { ⌜ (n ≤ mostBounds) × (n ≤ length (now given)) ⌝ }
     ensures { λ r. ⌜ r ≡ boundJudged jobs (isWrongNumbered (take n (now (given .entry)))) line d ⌝ }
 {
     if !has_form(d) {
-        return PlanAnswer::Refused(Refusal::Form(line));
+        return TextAnswer::Refused(Refusal::Form(line));
     }
     let judged = judge_bound(d, jobs, given, n);
     line_answer(judged, line)
 }
 
 // The bounds of a plan, whose lines would follow the count of the bounds: the first that is refused. The pairs given are kept as numbers.
-pub fn judge_bounds(p: Plan) -> PlanAnswer
-    requires { ⌜ Placed p × ((p .jobs ≤ mostJobs) × (p .bounds ≤ mostBounds)) ⌝ }
+pub fn judge_bounds(p: Plan) -> TextAnswer
+    requires { ⌜ HasPlaces p × ((p .jobs ≤ mostJobs) × (p .bounds ≤ mostBounds)) ⌝ }
     ensures { λ r. ⌜ r ≡ boundsJudged (p .jobs) [] (6 + 4 * p .jobs) (boundsOf p) ⌝ }
 {
     let jobs = p.jobs;
@@ -72,7 +72,7 @@ pub fn judge_bounds(p: Plan) -> PlanAnswer
     while i < bounds {
         let d = p.bound[i];
         let answer = judge_line(d, jobs, &given, i, line);
-        let PlanAnswer::Accepted = answer else {
+        let TextAnswer::Accepted = answer else {
             return answer;
         };
         let a = d.a;
@@ -81,5 +81,5 @@ pub fn judge_bounds(p: Plan) -> PlanAnswer
         line += 1;
         i += 1;
     }
-    PlanAnswer::Accepted
+    TextAnswer::Accepted
 }

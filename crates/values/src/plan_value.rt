@@ -5,42 +5,42 @@ use crate::bound_values::judge_bounds;
 use crate::job_values::judge_count;
 use crate::job_values::judge_jobs;
 use crate::job_values::judge_number;
-use lines::PlanAnswer;
+use lines::TextAnswer;
 use plan::Plan;
 ghost use mathlib.Core.Path.{_≡_};
-ghost use Rattle.lines.specs.declared.PlanAnswer.the-variants as answer;
+ghost use Rattle.lines.specs.declared.TextAnswer.the-variants as answer;
 ghost use Rattle.plan.specs.Accepted.{Accepted};
 ghost use Rattle.values.specs.PlanJudged.{judgedAnswer};
 ghost use Rattle.plan.specs.PlanWritten.{judgedPlan};
 
 // Whether the plan's text would be read, and then the plan is accepted; or the refusal of its first faulty line. The text is not written for it.
-pub fn judge_plan(p: Plan) -> PlanAnswer
+pub fn judge_plan(p: Plan) -> TextAnswer
     ensures { λ r. ⌜ r ≡ judgedAnswer (judgedPlan p) ⌝ }
     ensures { λ r. ⌜ (r ≡ answer.Accepted → Accepted p) ⌝ }
 {
     let window = judge_number(p.window, 1, 86_400_000, 1);
-    let PlanAnswer::Accepted = window else {
+    let TextAnswer::Accepted = window else {
         return window;
     };
     let rounds = judge_count(p.rounds, 1, 1_000, 2);
-    let PlanAnswer::Accepted = rounds else {
+    let TextAnswer::Accepted = rounds else {
         return rounds;
     };
     let last = judge_count(p.last, 1, 1_000_000_000, 3);
-    let PlanAnswer::Accepted = last else {
+    let TextAnswer::Accepted = last else {
         return last;
     };
     let jobs = judge_count(p.jobs as u64, 1, JOBS_AT_MOST, 4);
-    let PlanAnswer::Accepted = jobs else {
+    let TextAnswer::Accepted = jobs else {
         return jobs;
     };
     let all_jobs = judge_jobs(p);
-    let PlanAnswer::Accepted = all_jobs else {
+    let TextAnswer::Accepted = all_jobs else {
         return all_jobs;
     };
     let line = 5 + 4 * p.jobs;
     let bounds = judge_count(p.bounds as u64, 0, BOUNDS_AT_MOST, line);
-    let PlanAnswer::Accepted = bounds else {
+    let TextAnswer::Accepted = bounds else {
         return bounds;
     };
     judge_bounds(p)

@@ -4,7 +4,7 @@ use crate::plan_value::judge_plan;
 use calendars::decide;
 use calendars::empty_calendar;
 use calendars::write_decision;
-use lines::PlanAnswer;
+use lines::TextAnswer;
 use lines::Written;
 use lines::write_refused;
 use plan::Plan;
@@ -26,14 +26,14 @@ pub fn decide_value(p: Plan) -> ValueDecision
 {
     let judged = judge_plan(p);
     match judged {
-        PlanAnswer::Accepted => {
+        TextAnswer::Accepted => {
             let decision = decide(p);
             let decided = decision.verdict;
             let calendar = decision.calendar;
             let verdict = tell_verdict(decided);
             ValueDecision { verdict, calendar }
         }
-        PlanAnswer::Refused(x) => {
+        TextAnswer::Refused(x) => {
             let calendar = empty_calendar();
             let verdict = VerdictTold::Refused(x);
             ValueDecision { verdict, calendar }
@@ -49,13 +49,13 @@ pub fn answer_value(p: Plan, out: &mut [u8]) -> Written
 {
     let judged = judge_plan(p);
     match judged {
-        PlanAnswer::Accepted => {
+        TextAnswer::Accepted => {
             let jobs = p.jobs;
             let decision = decide(p);
             let verdict = decision.verdict;
             let calendar = decision.calendar;
             write_decision(out, jobs, verdict, calendar)
         }
-        PlanAnswer::Refused(x) => write_refused(out, x),
+        TextAnswer::Refused(x) => write_refused(out, x),
     }
 }

@@ -1,7 +1,7 @@
 // A plan's text, written into a lent slice.
 use crate::plan_value::judge_plan;
-use lines::PlanAnswer;
 use lines::Refusal;
+use lines::TextAnswer;
 use lines::Written;
 use plan::Bound;
 use plan::EventName;
@@ -126,7 +126,7 @@ fn put_bounds(out: &mut [u8], at: usize, bounds: usize, bound: [Bound; MOST_BOUN
 }
 
 // A plan's text, from a place on, as far as there is room; answers the place behind it.
-pub fn put_plan(out: &mut [u8], at: usize, p: Plan) -> usize
+fn put_plan(out: &mut [u8], at: usize, p: Plan) -> usize
     requires { ⌜ at ≤ 2 ^ 57 ⌝ }
     ensures { λ r. ⌜ Stored (now (out .entry)) at (planText p) (now (out .exit)) r ⌝ }
     ensures { λ r. ⌜ r ≤ at + 6000 ⌝ }
@@ -165,7 +165,7 @@ pub fn write_plan(p: Plan, out: &mut [u8]) -> Written
 {
     let judged = judge_plan(p);
     match judged {
-        PlanAnswer::Accepted => write_text(p, out),
-        PlanAnswer::Refused(x) => Written::Refused(x),
+        TextAnswer::Accepted => write_text(p, out),
+        TextAnswer::Refused(x) => Written::Refused(x),
     }
 }

@@ -7,7 +7,7 @@ use lib.IntN.{pos, negℤ, _-ℤ_}
 use mir.Syntax.{w64}
 use mir.Val.{ofZ, toZ}
 use mir.Facts.{sfits-lit, toZ-pos}
-use Rattle.agent.specs.EntryLaws.{Told, entry-length, NoRoomTold, entry-refused}
+use Rattle.agent.specs.EntryLaws.{EntryTold, entry-length, NoRoomTold, entry-refused}
 use borrow.Author.Needs.{needs}
 use Rattle.agent.proofs.entry.gekumosari_session.Statement.{statement}
 use Rattle.agent.proofs.entry.gekumosari_session.Tie as tie
@@ -20,7 +20,7 @@ enum-known-told c = search needs
 
 -- the length
 length-told : (c : tie.After-known-told) → let s = c .before .before .before .before .before .before .before .before .before in
-    Told (now (s .args .text)) (now (s .args .out)) (c .before .told .given .0 .0)
+    EntryTold (now (s .args .text)) (now (s .args .out)) (c .before .told .given .0 .0)
 length-told c =
     let s = c .before .before .before .before .before .before .before .before .before in
     entry-length (now (s .args .text)) (now (s .args .out)) (c .before .before .before .before .before .answer .ensures .0) _ (c .before .told .given .1)

@@ -5,7 +5,7 @@ use mathlib.Core.Path.{refl, sym, ap, _∙_}
 use denote.Ref.{now}
 use Rattle.rounds.specs.Rounds.{verdictTold}
 use Rattle.calendars.specs.DecisionsLaws.{plan-accepted}
-use Rattle.plan.specs.PlanRead.{planAlone}
+use Rattle.plan.specs.PlanLines.{planAlone}
 use Rattle.plan.specs.PlanPartLaws.{planAlone-tail}
 use Rattle.calendars.specs.RefusedLaws.{told-lines, told-settled-alone, told-verdict}
 use borrow.Author.Needs.{needs}

@@ -1,4 +1,4 @@
--- `bound_fault`: each arm is a clause of `boundAt` and of `atFault`.
+-- `bound_fault`: each arm is a clause of `boundLineAt` and of `atFault`.
 use borrow.Author.Needs.{needs}
 use Rattle.plan.proofs.bound_at.bound_fault.Statement.{statement}
 use Rattle.plan.proofs.bound_at.bound_fault.Tie as tie

@@ -5,7 +5,7 @@ use denote.Ref.{now}
 use lib.ListN.{take, drop}
 use Rattle.text.specs.LineLaws.{nextLine-at}
 use Rattle.lines.specs.Reading.{refused}
-use Rattle.plan.specs.PlanRead.{linedBound}
+use Rattle.plan.specs.PlanLines.{linedBound}
 use Rattle.plan.specs.Pairs.{isWrongNumbered}
 use Rattle.plan.specs.ReadAt.{boundLined}
 use Rattle.lines.specs.ReadAtLaws.{lineTo-bare, lineTo-value, lineTo-fault}

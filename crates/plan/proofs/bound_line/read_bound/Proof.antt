@@ -13,7 +13,7 @@ use Rattle.text.specs.NumberLaws.{numberIn-value}
 use Rattle.text.specs.declared.Number.the-variants as number
 use Rattle.plan.specs.declared.BoundNames.the-variants as boundNames
 use Rattle.plan.specs.Limits.{leastC, greatestC}
-use Rattle.plan.specs.PlanRead.{judgedBound}
+use Rattle.plan.specs.PlanLines.{judgedBound}
 use Rattle.plan.specs.BoundNames.{namesIn}
 use Rattle.plan.specs.Pairs.{isWrongNumbered}
 use Rattle.plan.specs.declared.BoundLine.the-variants as boundLine

@@ -5,7 +5,7 @@ use native.Mathlib.Omega.{arith}
 use borrow.Author.Needs.{needs}
 use denote.Ref.{now}
 use lib.ListN.{length}
-use Rattle.plan.specs.ReadAt.{boundAt}
+use Rattle.plan.specs.ReadAt.{boundLineAt}
 use Rattle.lines.specs.ReadAtLaws.{atTold-goes, atTold-stops, atPlace-goes, atPlace-stops}
 use Rattle.plan.specs.BoundsLoop.{BoundsPassed, BoundsPassed-start, BoundsPassed-stop, BoundsPassed-past, BoundsPassed-end, BoundsPassed-filled}
 use Rattle.plan.proofs.bounds_lines.read_bounds.Statement.{statement}
@@ -43,8 +43,8 @@ returns c =
     let s = now (a .s) in
     let r = c .before .before .before .read-bound-at in (
       BoundsPassed-stop s (a .from) (a .number) (a .jobs) (a .bounds) (v .bound) (v .given) (v .at) (v .line) (v .i) (l .before .before .pre .1 .1 .0) (v .inv) (c .before .before .before .before .before .loop-test .taken) (c .bound-fault .result)
-          (atTold-stops s (v .line + 1) (boundAt (r .result)) (r .ensures .0) (ap boundAt (c .before .enum-told .given .1)) (c .bound-fault .ensures)),
-      (atPlace-stops (boundAt (r .result)) (length s) (r .ensures .1) (ap boundAt (c .before .enum-told .given .1)) (c .bound-fault .ensures), tt),
+          (atTold-stops s (v .line + 1) (boundLineAt (r .result)) (r .ensures .0) (ap boundLineAt (c .before .enum-told .given .1)) (c .bound-fault .ensures)),
+      (atPlace-stops (boundLineAt (r .result)) (length s) (r .ensures .1) (ap boundLineAt (c .before .enum-told .given .1)) (c .bound-fault .ensures), tt),
     )
 
 pair-number-requires : tie.Need-pair-number-requires Inv-loop μ-loop
@@ -81,9 +81,9 @@ loop-again c =
     let r = d .before .before .read-bound-at in
     BoundsPassed-past s (a .from) (a .number) (a .jobs) (a .bounds) (v .bound) (v .given) (v .at) (v .line) (v .i) (l .before .before .pre .1 .1 .0) (v .inv) (d .before .before .before .before .loop-test .taken) (l .before .before .pre .1 .1 .1)
     (d .read .given .0 .0) (d .read .given .0 .1 .0) (c .pair-number .result)
-    (atPlace-goes (boundAt (r .result)) (length s) (r .ensures .1) (ap boundAt (d .read .given .1)))
+    (atPlace-goes (boundLineAt (r .result)) (length s) (r .ensures .1) (ap boundLineAt (d .read .given .1)))
     (c .pair-number .ensures)
-    (atTold-goes s (v .line + 1) (boundAt (r .result)) (r .ensures .0) (ap boundAt (d .read .given .1)))
+    (atTold-goes s (v .line + 1) (boundLineAt (r .result)) (r .ensures .0) (ap boundLineAt (d .read .given .1)))
     (omega arith)
 
 returns-2 : tie.Need-returns-2 Inv-loop μ-loop

@@ -1,4 +1,4 @@
--- `job_fault`: each arm is a clause of `jobAt` and of `atFault`.
+-- `job_fault`: each arm is a clause of `jobLinesAt` and of `atFault`.
 use borrow.Author.Needs.{needs}
 use Rattle.plan.proofs.job_lines.job_fault.Statement.{statement}
 use Rattle.plan.proofs.job_lines.job_fault.Tie as tie

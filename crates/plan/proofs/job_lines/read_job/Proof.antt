@@ -6,7 +6,7 @@ use lib.ListN.{length, drop}
 use mir.Facts.{toZ-ofZ}
 use mir.Syntax.{w32}
 use Rattle.text.specs.Bytes.{bytes}
-use Rattle.plan.specs.ReadAt.{numberAt}
+use Rattle.plan.specs.ReadAt.{numberLineAt}
 use Rattle.lines.specs.ReadAtLaws.{atTold-goes, atTold-stops, atPlace-goes, atPlace-stops}
 use Rattle.plan.specs.ReadAtLaws.{jobLines-first, jobLines-second, jobLines-third, jobLines-fourth, jobLines-all}
 use borrow.Author.Needs.{needs}
@@ -33,8 +33,8 @@ unfolding bytes
 returns c =
     let a = c .before .before .before .before .before .before .args in
     let s = now (a .s) in (
-      jobLines-first (drop (a .at) s) (a .line) (atTold-stops s (a .line + 1) (numberAt (c .before .before .before .read-number-line .result)) (c .before .before .before .read-number-line .ensures .0) (ap numberAt (c .before .enum-told .given .1)) (c .number-fault .ensures)),
-      atPlace-stops (numberAt (c .before .before .before .read-number-line .result)) (length s) (c .before .before .before .read-number-line .ensures .1) (ap numberAt (c .before .enum-told .given .1)) (c .number-fault .ensures),
+      jobLines-first (drop (a .at) s) (a .line) (atTold-stops s (a .line + 1) (numberLineAt (c .before .before .before .read-number-line .result)) (c .before .before .before .read-number-line .ensures .0) (ap numberLineAt (c .before .enum-told .given .1)) (c .number-fault .ensures)),
+      atPlace-stops (numberLineAt (c .before .before .before .read-number-line .result)) (length s) (c .before .before .before .read-number-line .ensures .1) (ap numberLineAt (c .before .enum-told .given .1)) (c .number-fault .ensures),
     )
 
 add-line2 : tie.Need-add-line2
@@ -44,7 +44,7 @@ slice-aggregate-read-number-line-2 : tie.Need-slice-aggregate-read-number-line-2
 slice-aggregate-read-number-line-2 c = refl
 
 read-number-line-requires-2 : tie.Need-read-number-line-requires-2
-read-number-line-requires-2 c κs = atPlace-goes (numberAt (c .before .before .before .before .read-number-line .result)) (length (now (c .before .before .before .before .before .before .before .args .s))) (c .before .before .before .before .read-number-line .ensures .1) (ap numberAt (c .before .before .first .given .1))
+read-number-line-requires-2 c κs = atPlace-goes (numberLineAt (c .before .before .before .before .read-number-line .result)) (length (now (c .before .before .before .before .before .before .before .args .s))) (c .before .before .before .before .read-number-line .ensures .1) (ap numberLineAt (c .before .before .first .given .1))
 
 enum-known-second : tie.Need-enum-known-second
 enum-known-second c = search needs
@@ -60,9 +60,9 @@ unfolding bytes
 returns-2 c =
     let a = c .before .before .before .before .before .before .before .before .before .before .before .args in
     let s = now (a .s) in
-    let e1 = atTold-goes s (a .line + 1) (numberAt (c .before .before .before .before .before .before .before .before .read-number-line .result)) (c .before .before .before .before .before .before .before .before .read-number-line .ensures .0) (ap numberAt (c .before .before .before .before .before .before .first .given .1)) in (
-      jobLines-second (drop (a .at) s) (a .line) e1 (rw (toZ-ofZ {w = w32} {z = c .before .before .before .before .before .before .first .given .0 .0} (record { sfits = c .before .before .before .before .before .known-told .given .0 .1 })) at (atTold-stops s (a .line + 1 + 1) (numberAt (c .before .before .before .read-number-line2 .result)) (c .before .before .before .read-number-line2 .ensures .0) (ap numberAt (c .before .enum-told2 .given .1)) (c .number-fault2 .ensures))),
-      atPlace-stops (numberAt (c .before .before .before .read-number-line2 .result)) (length s) (c .before .before .before .read-number-line2 .ensures .1) (ap numberAt (c .before .enum-told2 .given .1)) (c .number-fault2 .ensures),
+    let e1 = atTold-goes s (a .line + 1) (numberLineAt (c .before .before .before .before .before .before .before .before .read-number-line .result)) (c .before .before .before .before .before .before .before .before .read-number-line .ensures .0) (ap numberLineAt (c .before .before .before .before .before .before .first .given .1)) in (
+      jobLines-second (drop (a .at) s) (a .line) e1 (rw (toZ-ofZ {w = w32} {z = c .before .before .before .before .before .before .first .given .0 .0} (record { sfits = c .before .before .before .before .before .known-told .given .0 .1 })) at (atTold-stops s (a .line + 1 + 1) (numberLineAt (c .before .before .before .read-number-line2 .result)) (c .before .before .before .read-number-line2 .ensures .0) (ap numberLineAt (c .before .enum-told2 .given .1)) (c .number-fault2 .ensures))),
+      atPlace-stops (numberLineAt (c .before .before .before .read-number-line2 .result)) (length s) (c .before .before .before .read-number-line2 .ensures .1) (ap numberLineAt (c .before .enum-told2 .given .1)) (c .number-fault2 .ensures),
     )
 
 add-line3 : tie.Need-add-line3
@@ -72,7 +72,7 @@ slice-aggregate-read-number-line-3 : tie.Need-slice-aggregate-read-number-line-3
 slice-aggregate-read-number-line-3 c = refl
 
 read-number-line-requires-3 : tie.Need-read-number-line-requires-3
-read-number-line-requires-3 c κs = atPlace-goes (numberAt (c .before .before .before .before .read-number-line2 .result)) (length (now (c .before .before .before .before .before .before .before .before .before .before .before .before .args .s))) (c .before .before .before .before .read-number-line2 .ensures .1) (ap numberAt (c .before .before .second .given .1))
+read-number-line-requires-3 c κs = atPlace-goes (numberLineAt (c .before .before .before .before .read-number-line2 .result)) (length (now (c .before .before .before .before .before .before .before .before .before .before .before .before .args .s))) (c .before .before .before .before .read-number-line2 .ensures .1) (ap numberLineAt (c .before .before .second .given .1))
 
 enum-known-third : tie.Need-enum-known-third
 enum-known-third c = search needs
@@ -88,10 +88,10 @@ unfolding bytes
 returns-3 c =
     let a = c .before .before .before .before .before .before .before .before .before .before .before .before .before .before .before .before .args in
     let s = now (a .s) in
-    let e1 = atTold-goes s (a .line + 1) (numberAt (c .before .before .before .before .before .before .before .before .before .before .before .before .before .read-number-line .result)) (c .before .before .before .before .before .before .before .before .before .before .before .before .before .read-number-line .ensures .0) (ap numberAt (c .before .before .before .before .before .before .before .before .before .before .before .first .given .1)) in
-    let e2 = rw (toZ-ofZ {w = w32} {z = c .before .before .before .before .before .before .before .before .before .before .before .first .given .0 .0} (record { sfits = c .before .before .before .before .before .before .before .before .before .before .known-told .given .0 .1 })) at (atTold-goes s (a .line + 1 + 1) (numberAt (c .before .before .before .before .before .before .before .before .read-number-line2 .result)) (c .before .before .before .before .before .before .before .before .read-number-line2 .ensures .0) (ap numberAt (c .before .before .before .before .before .before .second .given .1))) in (
-      jobLines-third (drop (a .at) s) (a .line) e1 e2 (atTold-stops s (a .line + 1 + 1 + 1) (numberAt (c .before .before .before .read-number-line3 .result)) (c .before .before .before .read-number-line3 .ensures .0) (ap numberAt (c .before .enum-told3 .given .1)) (c .number-fault3 .ensures)),
-      atPlace-stops (numberAt (c .before .before .before .read-number-line3 .result)) (length s) (c .before .before .before .read-number-line3 .ensures .1) (ap numberAt (c .before .enum-told3 .given .1)) (c .number-fault3 .ensures),
+    let e1 = atTold-goes s (a .line + 1) (numberLineAt (c .before .before .before .before .before .before .before .before .before .before .before .before .before .read-number-line .result)) (c .before .before .before .before .before .before .before .before .before .before .before .before .before .read-number-line .ensures .0) (ap numberLineAt (c .before .before .before .before .before .before .before .before .before .before .before .first .given .1)) in
+    let e2 = rw (toZ-ofZ {w = w32} {z = c .before .before .before .before .before .before .before .before .before .before .before .first .given .0 .0} (record { sfits = c .before .before .before .before .before .before .before .before .before .before .known-told .given .0 .1 })) at (atTold-goes s (a .line + 1 + 1) (numberLineAt (c .before .before .before .before .before .before .before .before .read-number-line2 .result)) (c .before .before .before .before .before .before .before .before .read-number-line2 .ensures .0) (ap numberLineAt (c .before .before .before .before .before .before .second .given .1))) in (
+      jobLines-third (drop (a .at) s) (a .line) e1 e2 (atTold-stops s (a .line + 1 + 1 + 1) (numberLineAt (c .before .before .before .read-number-line3 .result)) (c .before .before .before .read-number-line3 .ensures .0) (ap numberLineAt (c .before .enum-told3 .given .1)) (c .number-fault3 .ensures)),
+      atPlace-stops (numberLineAt (c .before .before .before .read-number-line3 .result)) (length s) (c .before .before .before .read-number-line3 .ensures .1) (ap numberLineAt (c .before .enum-told3 .given .1)) (c .number-fault3 .ensures),
     )
 
 add-line4 : tie.Need-add-line4
@@ -101,7 +101,7 @@ slice-aggregate-read-number-line-4 : tie.Need-slice-aggregate-read-number-line-4
 slice-aggregate-read-number-line-4 c = refl
 
 read-number-line-requires-4 : tie.Need-read-number-line-requires-4
-read-number-line-requires-4 c κs = atPlace-goes (numberAt (c .before .before .before .before .read-number-line3 .result)) (length (now (c .before .before .before .before .before .before .before .before .before .before .before .before .before .before .before .before .before .args .s))) (c .before .before .before .before .read-number-line3 .ensures .1) (ap numberAt (c .before .before .third .given .1))
+read-number-line-requires-4 c κs = atPlace-goes (numberLineAt (c .before .before .before .before .read-number-line3 .result)) (length (now (c .before .before .before .before .before .before .before .before .before .before .before .before .before .before .before .before .before .args .s))) (c .before .before .before .before .read-number-line3 .ensures .1) (ap numberLineAt (c .before .before .third .given .1))
 
 enum-known-fourth : tie.Need-enum-known-fourth
 enum-known-fourth c = search needs
@@ -117,11 +117,11 @@ unfolding bytes
 returns-4 c =
     let a = c .before .before .before .before .before .before .before .before .before .before .before .before .before .before .before .before .before .before .before .before .before .args in
     let s = now (a .s) in
-    let e1 = atTold-goes s (a .line + 1) (numberAt (c .before .before .before .before .before .before .before .before .before .before .before .before .before .before .before .before .before .before .read-number-line .result)) (c .before .before .before .before .before .before .before .before .before .before .before .before .before .before .before .before .before .before .read-number-line .ensures .0) (ap numberAt (c .before .before .before .before .before .before .before .before .before .before .before .before .before .before .before .before .first .given .1)) in
-    let e2 = rw (toZ-ofZ {w = w32} {z = c .before .before .before .before .before .before .before .before .before .before .before .before .before .before .before .before .first .given .0 .0} (record { sfits = c .before .before .before .before .before .before .before .before .before .before .before .before .before .before .before .known-told .given .0 .1 })) at (atTold-goes s (a .line + 1 + 1) (numberAt (c .before .before .before .before .before .before .before .before .before .before .before .before .before .read-number-line2 .result)) (c .before .before .before .before .before .before .before .before .before .before .before .before .before .read-number-line2 .ensures .0) (ap numberAt (c .before .before .before .before .before .before .before .before .before .before .before .second .given .1))) in
-    let e3 = atTold-goes s (a .line + 1 + 1 + 1) (numberAt (c .before .before .before .before .before .before .before .before .read-number-line3 .result)) (c .before .before .before .before .before .before .before .before .read-number-line3 .ensures .0) (ap numberAt (c .before .before .before .before .before .before .third .given .1)) in (
-      jobLines-fourth (drop (a .at) s) (a .line) e1 e2 e3 (atTold-stops s (a .line + 1 + 1 + 1 + 1) (numberAt (c .before .before .before .read-number-line4 .result)) (c .before .before .before .read-number-line4 .ensures .0) (ap numberAt (c .before .enum-told4 .given .1)) (c .number-fault4 .ensures)),
-      atPlace-stops (numberAt (c .before .before .before .read-number-line4 .result)) (length s) (c .before .before .before .read-number-line4 .ensures .1) (ap numberAt (c .before .enum-told4 .given .1)) (c .number-fault4 .ensures),
+    let e1 = atTold-goes s (a .line + 1) (numberLineAt (c .before .before .before .before .before .before .before .before .before .before .before .before .before .before .before .before .before .before .read-number-line .result)) (c .before .before .before .before .before .before .before .before .before .before .before .before .before .before .before .before .before .before .read-number-line .ensures .0) (ap numberLineAt (c .before .before .before .before .before .before .before .before .before .before .before .before .before .before .before .before .first .given .1)) in
+    let e2 = rw (toZ-ofZ {w = w32} {z = c .before .before .before .before .before .before .before .before .before .before .before .before .before .before .before .before .first .given .0 .0} (record { sfits = c .before .before .before .before .before .before .before .before .before .before .before .before .before .before .before .known-told .given .0 .1 })) at (atTold-goes s (a .line + 1 + 1) (numberLineAt (c .before .before .before .before .before .before .before .before .before .before .before .before .before .read-number-line2 .result)) (c .before .before .before .before .before .before .before .before .before .before .before .before .before .read-number-line2 .ensures .0) (ap numberLineAt (c .before .before .before .before .before .before .before .before .before .before .before .second .given .1))) in
+    let e3 = atTold-goes s (a .line + 1 + 1 + 1) (numberLineAt (c .before .before .before .before .before .before .before .before .read-number-line3 .result)) (c .before .before .before .before .before .before .before .before .read-number-line3 .ensures .0) (ap numberLineAt (c .before .before .before .before .before .before .third .given .1)) in (
+      jobLines-fourth (drop (a .at) s) (a .line) e1 e2 e3 (atTold-stops s (a .line + 1 + 1 + 1 + 1) (numberLineAt (c .before .before .before .read-number-line4 .result)) (c .before .before .before .read-number-line4 .ensures .0) (ap numberLineAt (c .before .enum-told4 .given .1)) (c .number-fault4 .ensures)),
+      atPlace-stops (numberLineAt (c .before .before .before .read-number-line4 .result)) (length s) (c .before .before .before .read-number-line4 .ensures .1) (ap numberLineAt (c .before .enum-told4 .given .1)) (c .number-fault4 .ensures),
     )
 
 returns-5 : tie.Need-returns-5
@@ -129,10 +129,10 @@ unfolding bytes
 returns-5 c =
     let a = c .before .before .before .before .before .before .before .before .before .before .before .before .before .before .before .before .before .before .before .before .before .args in
     let s = now (a .s) in
-    let e1 = atTold-goes s (a .line + 1) (numberAt (c .before .before .before .before .before .before .before .before .before .before .before .before .before .before .before .before .before .before .read-number-line .result)) (c .before .before .before .before .before .before .before .before .before .before .before .before .before .before .before .before .before .before .read-number-line .ensures .0) (ap numberAt (c .before .before .before .before .before .before .before .before .before .before .before .before .before .before .before .before .first .given .1)) in
-    let e2 = rw (toZ-ofZ {w = w32} {z = c .before .before .before .before .before .before .before .before .before .before .before .before .before .before .before .before .first .given .0 .0} (record { sfits = c .before .before .before .before .before .before .before .before .before .before .before .before .before .before .before .known-told .given .0 .1 })) at (atTold-goes s (a .line + 1 + 1) (numberAt (c .before .before .before .before .before .before .before .before .before .before .before .before .before .read-number-line2 .result)) (c .before .before .before .before .before .before .before .before .before .before .before .before .before .read-number-line2 .ensures .0) (ap numberAt (c .before .before .before .before .before .before .before .before .before .before .before .second .given .1))) in
-    let e3 = atTold-goes s (a .line + 1 + 1 + 1) (numberAt (c .before .before .before .before .before .before .before .before .read-number-line3 .result)) (c .before .before .before .before .before .before .before .before .read-number-line3 .ensures .0) (ap numberAt (c .before .before .before .before .before .before .third .given .1)) in
-    let e4 = atTold-goes s (a .line + 1 + 1 + 1 + 1) (numberAt (c .before .before .before .read-number-line4 .result)) (c .before .before .before .read-number-line4 .ensures .0) (ap numberAt (c .before .fourth .given .1)) in (
+    let e1 = atTold-goes s (a .line + 1) (numberLineAt (c .before .before .before .before .before .before .before .before .before .before .before .before .before .before .before .before .before .before .read-number-line .result)) (c .before .before .before .before .before .before .before .before .before .before .before .before .before .before .before .before .before .before .read-number-line .ensures .0) (ap numberLineAt (c .before .before .before .before .before .before .before .before .before .before .before .before .before .before .before .before .first .given .1)) in
+    let e2 = rw (toZ-ofZ {w = w32} {z = c .before .before .before .before .before .before .before .before .before .before .before .before .before .before .before .before .first .given .0 .0} (record { sfits = c .before .before .before .before .before .before .before .before .before .before .before .before .before .before .before .known-told .given .0 .1 })) at (atTold-goes s (a .line + 1 + 1) (numberLineAt (c .before .before .before .before .before .before .before .before .before .before .before .before .before .read-number-line2 .result)) (c .before .before .before .before .before .before .before .before .before .before .before .before .before .read-number-line2 .ensures .0) (ap numberLineAt (c .before .before .before .before .before .before .before .before .before .before .before .second .given .1))) in
+    let e3 = atTold-goes s (a .line + 1 + 1 + 1) (numberLineAt (c .before .before .before .before .before .before .before .before .read-number-line3 .result)) (c .before .before .before .before .before .before .before .before .read-number-line3 .ensures .0) (ap numberLineAt (c .before .before .before .before .before .before .third .given .1)) in
+    let e4 = atTold-goes s (a .line + 1 + 1 + 1 + 1) (numberLineAt (c .before .before .before .read-number-line4 .result)) (c .before .before .before .read-number-line4 .ensures .0) (ap numberLineAt (c .before .fourth .given .1)) in (
       rw (
         toZ-ofZ {w = w32} {z = c .before .before .before .before .before .before .before .before .before .before .before .before .before .before .before .before .first .given .0 .0} (record { sfits = c .before .before .before .before .before .before .before .before .before .before .before .before .before .before .before .known-told .given .0 .1 }),
         toZ-ofZ {w = w32} {z = c .before .before .before .before .before .before .before .before .before .before .before .second .given .0 .0} (record { sfits = c .before .before .before .before .before .before .before .before .before .before .known-told2 .given .0 .1 }),
@@ -140,7 +140,7 @@ returns-5 c =
         toZ-ofZ {w = w32} {z = c .before .fourth .given .0 .0} (record { sfits = c .known-told4 .given .0 .1 }),
       )
           (jobLines-all (drop (a .at) s) (a .line) e1 e2 e3 e4),
-      atPlace-goes (numberAt (c .before .before .before .read-number-line4 .result)) (length s) (c .before .before .before .read-number-line4 .ensures .1) (ap numberAt (c .before .fourth .given .1)),
+      atPlace-goes (numberLineAt (c .before .before .before .read-number-line4 .result)) (length s) (c .before .before .before .read-number-line4 .ensures .1) (ap numberLineAt (c .before .fourth .given .1)),
     )
 
 pub read-job-spec : {M : Type 1} → statement M

@@ -5,7 +5,7 @@ use native.Mathlib.Omega.{arith}
 use borrow.Author.Needs.{needs}
 use denote.Ref.{now}
 use lib.ListN.{length}
-use Rattle.plan.specs.ReadAt.{jobAt}
+use Rattle.plan.specs.ReadAt.{jobLinesAt}
 use Rattle.lines.specs.ReadAtLaws.{atTold-goes, atTold-stops, atPlace-goes, atPlace-stops}
 use Rattle.plan.specs.JobsLoop.{JobsPassed, JobsPassed-start, JobsPassed-stop, JobsPassed-past, JobsPassed-end, JobsPassed-filled}
 use Rattle.plan.proofs.jobs_lines.read_jobs.Statement.{statement}
@@ -39,8 +39,8 @@ returns c =
     let s = now (a .s) in
     let r = c .before .before .before .read-job in (
       JobsPassed-stop s (a .from) (a .jobs) (l .loop .job) (l .loop .at) (l .loop .line) (l .loop .i) (l .loop .inv) (c .before .before .before .before .loop-test .taken) (c .job-fault .result)
-          (atTold-stops s (l .loop .line + 1 + 1 + 1 + 1) (jobAt (r .result)) (r .ensures .0) (ap jobAt (c .before .enum-told .given .1)) (c .job-fault .ensures)),
-      (atPlace-stops (jobAt (r .result)) (length s) (r .ensures .1) (ap jobAt (c .before .enum-told .given .1)) (c .job-fault .ensures), tt),
+          (atTold-stops s (l .loop .line + 1 + 1 + 1 + 1) (jobLinesAt (r .result)) (r .ensures .0) (ap jobLinesAt (c .before .enum-told .given .1)) (c .job-fault .ensures)),
+      (atPlace-stops (jobLinesAt (r .result)) (length s) (r .ensures .1) (ap jobLinesAt (c .before .enum-told .given .1)) (c .job-fault .ensures), tt),
     )
 
 mul-job : tie.Need-mul-job Inv-loop μ-loop
@@ -66,8 +66,8 @@ loop-again c =
     let r = c .before .before .before .read-job in
     JobsPassed-past s (a .from) (a .jobs) (l .loop .job) (l .loop .at) (l .loop .line) (l .loop .i) (l .loop .inv) (c .before .before .before .before .loop-test .taken) (l .before .before .pre .1)
     (c .before .read .given .0 .0) (c .before .read .given .0 .1 .0)
-    (atPlace-goes (jobAt (r .result)) (length s) (r .ensures .1) (ap jobAt (c .before .read .given .1)))
-    (atTold-goes s (l .loop .line + 1 + 1 + 1 + 1) (jobAt (r .result)) (r .ensures .0) (ap jobAt (c .before .read .given .1)))
+    (atPlace-goes (jobLinesAt (r .result)) (length s) (r .ensures .1) (ap jobLinesAt (c .before .read .given .1)))
+    (atTold-goes s (l .loop .line + 1 + 1 + 1 + 1) (jobLinesAt (r .result)) (r .ensures .0) (ap jobLinesAt (c .before .read .given .1)))
 
 returns-2 : tie.Need-returns-2 Inv-loop μ-loop
 returns-2 c =

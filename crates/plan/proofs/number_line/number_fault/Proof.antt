@@ -1,4 +1,4 @@
--- `number_fault`: each arm is a clause of `numberAt` and of `atFault`.
+-- `number_fault`: each arm is a clause of `numberLineAt` and of `atFault`.
 use borrow.Author.Needs.{needs}
 use Rattle.plan.proofs.number_line.number_fault.Statement.{statement}
 use Rattle.plan.proofs.number_line.number_fault.Tie as tie

@@ -14,14 +14,14 @@ use Rattle.text.specs.Bytes.{bytes}
 use Rattle.plan.specs.declared.Job.{Job}
 use Rattle.plan.specs.declared.Bound.{Bound}
 use Rattle.plan.specs.declared.PlanRead.{PlanRead}
-use Rattle.lines.specs.declared.PlanAnswer.the-variants.{Accepted}
+use Rattle.lines.specs.declared.TextAnswer.the-variants.{Accepted}
 use Rattle.plan.specs.declared.First.{First}
 use Rattle.plan.specs.declared.Jobs.{Jobs}
 use Rattle.plan.specs.Limits.{mostJobs, mostBounds}
 use Rattle.lines.specs.Reading.{read, numberLine}
 use Rattle.lines.specs.ReadingLaws.{numberLine-read}
-use Rattle.plan.specs.PlanRead.{jobsAfter, boundsAfter, noJob, noBound, filled, planRest, planHead}
-use Rattle.plan.specs.ReadAt.{numberAt, wentAt, endAt, firstRest, IfOn}
+use Rattle.plan.specs.PlanLines.{jobsAfter, boundsAfter, noJob, noBound, filled, planRest, planHead}
+use Rattle.plan.specs.ReadAt.{numberLineAt, wentAt, endAt, firstRest, IfOn}
 use Rattle.lines.specs.ReadAt.{atFault, faultyIn}
 use Rattle.lines.specs.ReadAtLaws.{atTold-goes, atTold-stops, atPlace-goes, atPlace-stops}
 use Rattle.plan.specs.ReadAtLaws.{endAt-fault}
@@ -163,9 +163,9 @@ returns-4 c =
     let r = c .before .before .before .before .read-number-line in
     c .refused-plan4 .ensures
     ∙ planRead-refused (s₁ p) (c .before .number-fault .result)
-    (atPlace-stops (numberAt (r .result)) (length (s₁ p)) (r .ensures .1) (ap numberAt (c .before .before .enum-told3 .given .1)) (c .before .number-fault .ensures))
+    (atPlace-stops (numberLineAt (r .result)) (length (s₁ p)) (r .ensures .1) (ap numberLineAt (c .before .before .enum-told3 .given .1)) (c .before .number-fault .ensures))
     (head₁ p ∙ planRest-count (first₁ p .window) (first₁ p .rounds) (first₁ p .last) (first₁ p .jobs) (drop (at₁ p) (s₁ p)) (told₂ q)
-    (atTold-stops (s₁ p) _ (numberAt (r .result)) (r .ensures .0) (ap numberAt (c .before .before .enum-told3 .given .1)) (c .before .number-fault .ensures)))
+    (atTold-stops (s₁ p) _ (numberLineAt (r .result)) (r .ensures .0) (ap numberLineAt (c .before .before .enum-told3 .given .1)) (c .before .number-fault .ensures)))
 
 -- ---- after the count of the bounds
 
@@ -181,13 +181,13 @@ at₃ c = c .before .line .given .0 .1 .0
 told₃ : (c : tie.After-known-told3)
     → numberLine (bytes "bounds=") (pos 0) (pos mostBounds) (drop (at₂ (q₃ c)) (s₁ (p₂ (q₃ c)))) (5 + 4 * first₁ (p₂ (q₃ c)) .jobs) ≡ read (z₃ c) (drop (at₃ c) (s₁ (p₂ (q₃ c)))) (5 + 4 * first₁ (p₂ (q₃ c)) .jobs + 1)
 unfolding bytes
-told₃ c = let r = c .before .before .before .read-number-line in atTold-goes (s₁ (p₂ (q₃ c))) _ (numberAt (r .result)) (r .ensures .0) (ap numberAt (c .before .line .given .1))
+told₃ c = let r = c .before .before .before .read-number-line in atTold-goes (s₁ (p₂ (q₃ c))) _ (numberLineAt (r .result)) (r .ensures .0) (ap numberLineAt (c .before .line .given .1))
 
 z-back : (c : tie.After-known-told3) → mir.Val.toZ w32 (mir.Val.ofZ w32 (z₃ c)) ≡ z₃ c
 z-back c = toZ-ofZ {w = w32} {z = z₃ c} (record { sfits = c .known-told3 .given .0 .1 })
 
 place₃ : (c : tie.After-known-told3) → at₃ c ≤ length (s₁ (p₂ (q₃ c)))
-place₃ c = let r = c .before .before .before .read-number-line in atPlace-goes (numberAt (r .result)) (length (s₁ (p₂ (q₃ c)))) (r .ensures .1) (ap numberAt (c .before .line .given .1))
+place₃ c = let r = c .before .before .before .read-number-line in atPlace-goes (numberLineAt (r .result)) (length (s₁ (p₂ (q₃ c)))) (r .ensures .1) (ap numberLineAt (c .before .line .given .1))
 
 few₃ : (c : tie.After-known-told3) → natAbs (z₃ c) ≤ mostBounds
 few₃ c = let q = numberLine-read (bytes "bounds=") (pos 0) (pos mostBounds) _ _ (told₃ c) .0 in at-most (z₃ c) (q .least) (q .most)

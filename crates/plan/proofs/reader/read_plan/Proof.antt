@@ -5,7 +5,7 @@ use denote.Ref.{now}
 use lib.ListN.{length}
 use Rattle.plan.specs.declared.PlanRead.{PlanRead}
 use Rattle.lines.specs.declared.Refusal.the-variants.{Form}
-use Rattle.plan.specs.PlanRead.{planHead}
+use Rattle.plan.specs.PlanLines.{planHead}
 use Rattle.plan.specs.PlanAnswers.{refusedRead}
 use Rattle.plan.specs.HeadLaws.{alone-refused, alone-more, alone-end, planHead-rest}
 use borrow.Author.Needs.{needs}

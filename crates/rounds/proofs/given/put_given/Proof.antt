@@ -4,7 +4,7 @@ use mathlib.Core.Path.{_≡_, refl, sym, _∙_, ap}
 use mathlib.Core.List.{[], _∷_}
 use native.Mathlib.Omega.{arith}
 use lib.ListN.{getD, drop}
-use Rattle.plan.specs.PlanRead.{noBound}
+use Rattle.plan.specs.PlanLines.{noBound}
 use Rattle.plan.specs.PlanWritten.{boundsOf}
 use Rattle.bounds.specs.Flat.{putBounds}
 use Rattle.bounds.specs.BoundsLaws.{putBounds-stop, putBounds-past, putBounds-none}

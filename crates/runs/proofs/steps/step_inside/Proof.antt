@@ -5,7 +5,7 @@ use native.Mathlib.Omega.{arith}
 use mir.Syntax.{w32}
 use mir.Val.{SFits, toZ, ofZ}
 use lib.ListN.{getD}
-use Rattle.plan.specs.PlanRead.{noJob}
+use Rattle.plan.specs.PlanLines.{noJob}
 use Rattle.calendars.specs.Calendars.{noTerms}
 use mir.Facts.{toZ-ofZ}
 use Rattle.runs.specs.declared.Answer.{Answer}

@@ -4,7 +4,7 @@ use mathlib.Core.Path.{refl, ap, _∙_}
 use native.Mathlib.Omega.{arith}
 use denote.Ref.{now}
 use lib.ListN.{length}
-use Rattle.lines.specs.declared.PlanAnswer.the-variants.{Refused}
+use Rattle.lines.specs.declared.TextAnswer.the-variants.{Refused}
 use Rattle.session.specs.StepAt.{stepRefusal}
 use Rattle.session.specs.SessionReadLaws.{Walking, walking-start, walking-end, walking-refused, walking-more}
 use borrow.Author.Needs.{needs}

@@ -6,7 +6,7 @@ use Rattle.lines.specs.Reading.{refusedNumber, refusedValue, faultyPart}
 use Rattle.rounds.specs.Rounds.{verdictTold}
 use Rattle.session.specs.HeadLaws.{head-accepted}
 use Rattle.session.specs.SessionReadLaws.{stepsBehind, stepsBehind-keeps, sessionRead-settled}
-use Rattle.plan.specs.PlanRead.{planHead}
+use Rattle.plan.specs.PlanLines.{planHead}
 use Rattle.plan.specs.PlanPartLaws.{planHead-tail}
 use Rattle.calendars.specs.RefusedLaws.{told-lines, told-verdict}
 use borrow.Author.Needs.{needs}

@@ -12,7 +12,7 @@ use mir.Facts.{toZ-ofZ}
 use Rattle.text.specs.Lent.{Stored}
 use Rattle.lines.specs.declared.Refusal.{Refusal}
 use Rattle.lines.specs.Reading.{read, refused}
-use Rattle.plan.specs.PlanRead.{noJob}
+use Rattle.plan.specs.PlanLines.{noJob}
 use Rattle.lines.specs.WrittenLaws.{stored-as}
 use Rattle.calendars.specs.Calendars.{noTerms}
 use Rattle.runs.specs.declared.Answer.{Answer}

@@ -1,7 +1,7 @@
 -- `line_answer`: by the cases of the line.
 use mathlib.Core.Path.{sym, _∙_, ap}
 use borrow.Author.Needs.{needs}
-use Rattle.lines.specs.declared.PlanAnswer.the-variants.{Refused}
+use Rattle.lines.specs.declared.TextAnswer.the-variants.{Refused}
 use Rattle.values.specs.PlanJudged.{lineJudged}
 use Rattle.values.proofs.bound_values.line_answer.Statement.{statement}
 use Rattle.values.proofs.bound_values.line_answer.Tie as tie

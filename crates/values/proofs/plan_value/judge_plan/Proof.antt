@@ -9,8 +9,8 @@ use mir.Syntax.{w32}
 use Rattle.whole.specs.Rules.{whole}
 use native.Mathlib.Omega.{arith}
 use Rattle.plan.specs.declared.Plan.{Plan}
-use Rattle.lines.specs.declared.PlanAnswer.{PlanAnswer}
-use Rattle.lines.specs.declared.PlanAnswer.the-variants as answer
+use Rattle.lines.specs.declared.TextAnswer.{TextAnswer}
+use Rattle.lines.specs.declared.TextAnswer.the-variants as answer
 use Rattle.plan.specs.Accepted.{Accepted}
 use Rattle.plan.specs.Limits.{longestWindow, mostRounds, mostWindows, mostJobs, mostBounds}
 use Rattle.plan.specs.PlanWritten.{jobsOf, boundsOf, judgedPlan}
@@ -36,10 +36,10 @@ left₀ : (c : tie.After-struct-told) → judgedAnswer (judgedPlan (p₀ c)) ≡
 left₀ c = judgedPlan-is (p₀ c) (fits₀ c .placed) (planText-short (p₀ c) (fits₀ c)) ∙ planJudged-lines (p₀ c)
 
 -- the two promises of an answer a, of which the first tells the second
-abbrev Promised : Plan → PlanAnswer → Type 0
+abbrev Promised : Plan → TextAnswer → Type 0
 Promised p a = (a ≡ judgedAnswer (judgedPlan p)) × (a ≡ answer.Accepted → Accepted p)
 
-promised : (p : Plan) (a : PlanAnswer) → PlanFits p → a ≡ judgedAnswer (judgedPlan p) → Promised p a
+promised : (p : Plan) (a : TextAnswer) → PlanFits p → a ≡ judgedAnswer (judgedPlan p) → Promised p a
 promised p a f e = (e, judgedAnswer-accepted p (f .placed) a e)
 
 window-line : (c : tie.After-judge-number) → c .judge-number .result ≡ numberJudged (pos 1) longestWindow (p₀ (c .before) .window) 1

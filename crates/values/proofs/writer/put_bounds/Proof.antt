@@ -7,7 +7,7 @@ use lib.ListN.{length, take}
 use Rattle.plan.specs.Limits.{mostBounds}
 use Rattle.text.specs.LeftLaws.{Left, leftFrom, left-places, left-next, left-stop, left-out}
 use Rattle.plan.specs.declared.Bound.{Bound}
-use Rattle.plan.specs.PlanRead.{noBound}
+use Rattle.plan.specs.PlanLines.{noBound}
 use Rattle.plan.specs.PlanWritten.{boundsText}
 use Rattle.values.specs.PlanWrittenLaws.{boundsText-nil, boundsText-more}
 use Rattle.values.proofs.writer.put_bounds.Statement.{statement}

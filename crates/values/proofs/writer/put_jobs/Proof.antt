@@ -7,7 +7,7 @@ use lib.ListN.{length, take}
 use Rattle.plan.specs.Limits.{mostJobs}
 use Rattle.text.specs.LeftLaws.{Left, leftFrom, left-places, left-next, left-stop, left-out}
 use Rattle.plan.specs.declared.Job.{Job}
-use Rattle.plan.specs.PlanRead.{noJob}
+use Rattle.plan.specs.PlanLines.{noJob}
 use Rattle.plan.specs.PlanWritten.{jobsText}
 use Rattle.values.specs.PlanWrittenLaws.{jobsText-nil, jobsText-next}
 use Rattle.values.proofs.writer.put_jobs.Statement.{statement}

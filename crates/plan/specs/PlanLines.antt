@@ -91,14 +91,14 @@ unfoldable pub linedBound : BoundLine → Lined Bound
 linedBound (boundLine.Value b) = value b
 linedBound (boundLine.Bad f) = bad f
 
-abbrev pub boundIn : ℕ → List Bound → List ℕ → BoundLine
-boundIn jobs given l = boundOf jobs (λ a b. isWrongPair a b given) (boundParts (afterKey (bytes "bound=") l))
+abbrev pub boundOfLine : ℕ → List Bound → List ℕ → BoundLine
+boundOfLine jobs given l = boundOf jobs (λ a b. isWrongPair a b given) (boundParts (afterKey (bytes "bound=") l))
 
 -- so many bounds more, after those given before them: 'Bounds keep their order, which is part of the plan.'
 unfoldable pub boundsAfter : ℕ → List Bound → ℕ → Reader (List Bound)
 boundsAfter jobs given zero = answer given
 boundsAfter jobs given (suc left) = do
-  b ← line (λ l. linedBound (boundIn jobs given l))
+  b ← line (λ l. linedBound (boundOfLine jobs given l))
   boundsAfter jobs (given ++ (b ∷ [])) left
 
 -- ---- the plan
