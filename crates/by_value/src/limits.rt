@@ -5,7 +5,6 @@ use crate::made::calendar_with;
 use crate::made::first_run;
 use crate::made::plan_like_p;
 use crate::made::plan_p;
-use crate::made::ran;
 use crate::made::run_with;
 use crate::made::running;
 use crate::made::shut_run;
@@ -13,8 +12,8 @@ use crate::made::waiting;
 use crate::told::say;
 use crate::told::told;
 use clock::RunTime;
+use runs::Before;
 use runs::Phase;
-use runs::Probe;
 use runs::Run;
 
 // ---- runs
@@ -33,9 +32,9 @@ fn first_asked(phase: Phase) {
     asked(run);
 }
 
-// An ask of P in window 2, or in window 1 with that window's places in use, after a probe.
-fn later_asked(phase: Phase, has_previous: bool, q: Probe) {
-    let run = run_with(phase, has_previous, q);
+// An ask of P in window 2, or in window 1 with that window's places in use, after a job that ran from start to finish.
+fn later_asked(phase: Phase, before: Before, start: i64, finish: i64) {
+    let run = run_with(phase, before, start, finish);
     asked(run);
 }
 
@@ -67,13 +66,12 @@ fn jobs() {
 fn times() {
     let second = waiting(2, 1);
     let first = waiting(1, 1);
-    let last = ran(3, 100_000_000_000_000_000);
-    let past = ran(3, 100_000_000_000_000_001);
-    let early = ran(-1, 7);
-    later_asked(second, true, last);
-    later_asked(second, true, past);
-    later_asked(second, true, early);
-    later_asked(first, false, past);
+    let window = Before::Window;
+    let nothing = Before::Nothing;
+    later_asked(second, window, 3, 100_000_000_000_000_000);
+    later_asked(second, window, 3, 100_000_000_000_000_001);
+    later_asked(second, window, -1, 7);
+    later_asked(first, nothing, 3, 100_000_000_000_000_001);
 }
 
 pub fn of_runs() {

@@ -13,8 +13,8 @@ use plan::Letter;
 use plan::MOST_BOUNDS;
 use plan::MOST_JOBS;
 use plan::Plan;
+use runs::Before;
 use runs::Phase;
-use runs::Probe;
 use runs::Run;
 
 // ---- plans
@@ -200,36 +200,27 @@ pub fn running(window: u64, job: usize, start: i64) -> Phase {
     }
 }
 
-// A probe that ran from start to finish.
-pub fn ran(start: i64, finish: i64) -> Probe {
-    Probe {
-        start: RunTime(start),
-        finish: RunTime(finish),
-    }
-}
-
-// A run in some phase, whose previous window, if it has one, had a first job that ran so.
-pub fn run_with(phase: Phase, has_previous: bool, first: Probe) -> Run {
+// A run in some phase, whose previous window, if it has one, had a first job that ran from start to finish.
+pub fn run_with(phase: Phase, before: Before, start: i64, finish: i64) -> Run {
     let fresh = runs::new_run();
-    let mut previous = fresh.previous;
-    let present = fresh.present;
-    previous[0] = first;
+    let mut seen = fresh.seen;
+    seen[0] = start;
+    seen[1] = finish;
     Run {
-        has_previous: has_previous,
         phase: phase,
-        previous: previous,
-        present: present,
+        before: before,
+        seen: seen,
     }
 }
 
 // A run in its first window.
 pub fn first_run(phase: Phase) -> Run {
-    let q = ran(0, 0);
-    run_with(phase, false, q)
+    let before = Before::Nothing;
+    run_with(phase, before, 0, 0)
 }
 
 // A run in window 1,000 or past it, where the job of the previous window started at 100,000: no time of this window is 8 to 12 after it.
 pub fn shut_run(phase: Phase) -> Run {
-    let q = ran(100_000, 100_002);
-    run_with(phase, true, q)
+    let before = Before::Window;
+    run_with(phase, before, 100_000, 100_002)
 }

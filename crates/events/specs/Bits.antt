@@ -71,3 +71,8 @@ nextFrom s e (suc n) = let later = nextFrom s (suc e) n in cond (hasEvent e s) e
 
 abbrev pub nextEvent : ℕ → ℕ → ℕ
 nextEvent s e = nextFrom s e mostBits
+
+-- the events of a set, of n from event e on, in the calendar's order
+unfoldable pub membersFrom : ℕ → ℕ → ℕ → List ℕ
+membersFrom set e zero = []
+membersFrom set e (suc n) = let later = membersFrom set (suc e) n in cond (hasEvent e set) (e ∷ later) later

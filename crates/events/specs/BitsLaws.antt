@@ -8,7 +8,8 @@
 -- The next event from e on is the trailing zeros of the set moved down by e (`nextFrom-zeros`). It is not before e (`nextEvent-from`), it is in the set
 -- (`nextEvent-has`), and none from e on to it is (`nextEvent-least`). So a walk that does nothing at an event outside the set can go on at the next event
 -- (`nextEvent-skips`): a loop `let mut e = set.next(first); while e < count { ..; e = set.next(e + 1); }` does what a walk over every event does.
--- The count from e on is one for the next event and the count behind it (`countFrom-next`), and 0 where there is none (`countFrom-none`).
+-- The count from e on is one for the next event and the count behind it (`countFrom-next`), and 0 where there is none (`countFrom-none`). The members from e on are those from
+-- the next event on (`members-next`), which comes first among them (`members-here`); past the last event there is none (`members-none`).
 
 use Prim.Native.Nat.{ℕ, zero, suc, _+_, _*_, _-_, _/_, _%_, _^_, _≤_, _<_}
 use mathlib.Core.Path.{_≡_, refl, sym, ap, _∙_}
@@ -24,7 +25,19 @@ use lib.Dec.{eqb, leb, ltb}
 use lib.ListN.{length, getD}
 use lib.Pow.{pow-lt, pow-mono}
 use borrow.Author.Tests.{eqb-true, eqb-false, eq-eqb, ne-eqb, leb-true, leb-false, ltb-true, ltb-false}
-use Rattle.events.specs.Bits.{hasEvent, eventSet, countTrue, withEvent, withIf, mostBits, countFrom, eventCount, nextFrom, nextEvent}
+use Rattle.events.specs.Bits.{
+  hasEvent,
+  eventSet,
+  countTrue,
+  withEvent,
+  withIf,
+  mostBits,
+  countFrom,
+  eventCount,
+  nextFrom,
+  nextEvent,
+  membersFrom,
+}
 
 -- ---- members
 
@@ -323,3 +336,23 @@ countFrom-none s e none = of (ltb (nextEvent s e) mostBits) refl
     of : (b : Bool) → ltb (nextEvent s e) mostBits ≡ b → mostBits ≤ nextEvent s e
     of true h = absurd (omega (arith, countFrom-next s e (nextEvent s e) refl (ltb-true (nextEvent s e) mostBits h)))
     of false h = ltb-false (nextEvent s e) mostBits h
+
+-- ---- the members in their order: from an event on they are those from the next member on, and from a member on it comes first
+
+members-past : (s e n : ℕ) → hasEvent e s ≡ false → membersFrom s e (suc n) ≡ membersFrom s (suc e) n
+unfolding membersFrom
+members-past s e n h = rw h
+
+pub members-here : (s e count : ℕ) → e < count → hasEvent e s ≡ true → membersFrom s e (count - e) ≡ e ∷ membersFrom s (e + 1) (count - (e + 1))
+unfolding membersFrom
+members-here s e count l h = let left : count - e ≡ suc (count - suc e) = omega arith in rw (left, h, add-one e)
+
+pub members-none : (s e count : ℕ) → count ≤ e → membersFrom s e (count - e) ≡ []
+unfolding membersFrom
+members-none s e count h = let left : count - e ≡ 0 = omega arith in rw left
+
+pub members-next : (s e count k : ℕ) → k ≡ nextEvent s e → membersFrom s e (count - e) ≡ membersFrom s k (count - k)
+unfolding membersFrom
+members-next s e count k next =
+    nextEvent-skips s count (membersFrom s) (λ e n l h. members-past s e n h) (λ e d. refl) e
+    ∙ ap (λ (j : ℕ). membersFrom s j (count - j)) (sym next)

@@ -16,14 +16,16 @@ use Rattle.bounds.specs.Tables.{least, plus, join, at, listed, leastOf, judgeme
 use Rattle.bounds.specs.Elimination.{finishCell, startCell, thenSet, withoutPlace, eliminated}
 use Rattle.rounds.specs.Given.{givenBounds, ranges, orders, ownBounds, betweenBounds}
 use Rattle.rounds.specs.Rounds.{C0, onNext, joined, round, sameCell, sameRow, sameRows, failsAlone, decided, roundsFrom, outcomeFrom, outcome}
-use Rattle.events.specs.Bits.{hasEvent, eventSet}
+use Rattle.events.specs.Bits.{hasEvent, eventSet, membersFrom}
 use Rattle.calendars.specs.Calendars.{thenTables, beforeStarts, termsOf, leastCs, mostCs, allTerms, allCs, calendarOf, calendar}
 use Rattle.calendars.specs.CalendarText.{termLines, jobText, jobTexts, calendarText, outcomeText, answered, calendarOutput}
-use Rattle.runs.specs.Offers.{timeOf, isInForce, endFrom, offerOf, openingIn}
-use Rattle.runs.specs.Steps.{asked, started, closed, finished, stepped}
+use Rattle.runs.specs.Seen.{jobSeen, frontFrom}
+use Rattle.runs.specs.Offers.{lowerTerms, upperTerms, greatest, openingAt}
+use Rattle.runs.specs.Offers as offers
+use Rattle.runs.specs.Steps.{asked, started, finished, answerAt, closed, moved}
 use Rattle.session.specs.StepRead.{timed, finishIn, finishStep, startIn, startStep, stepIn, linedStep, stepLine}
 use Rattle.session.specs.AnswerText.{answerLine, endsSession}
-use Rattle.session.specs.Sessions.{answeredStep, afterStep, answersWithin, judgedSession, sessionOf, dispatchOutput}
+use Rattle.session.specs.Sessions.{answeredStep, afterStep, dispatchedWithin, judgedSession, sessionOf, dispatchOutput}
 
 pub data Program : Type 0 where
   Calendar : Program
@@ -51,5 +53,5 @@ Right cases = map answer cases ≡ map expected cases
 
 -- naming this on an `unfolding` line opens every definition between the input's bytes and the output's
 unfoldable pub computing : Type 0
-unfolding bytes lenTo afterKey allDigits isPositive isNumber digitsValue numberValue numberIn numberOf digitsBefore decimal refusedLine next lined line linedNumber eventName sameEvent jobLines jobsAfter boundParts isGiven isWrongPair boundOf linedBound boundsAfter planLines planHead nothingAfter jobAt shift earliest latest nodeOf eventOf judged least plus join at listed leastOf judgement anyBelow contradicts keptRows judgedSet finishCell startCell thenSet withoutPlace eliminated givenBounds ranges orders ownBounds betweenBounds C0 onNext joined round sameCell sameRow sameRows failsAlone decided roundsFrom outcomeFrom outcome hasEvent eventSet thenTables beforeStarts termsOf leastCs mostCs allTerms allCs calendarOf calendar termLines jobText jobTexts calendarText outcomeText answered timeOf isInForce endFrom offerOf openingIn asked started closed finished stepped timed finishIn finishStep startIn startStep stepIn linedStep stepLine answerLine endsSession answeredStep afterStep answersWithin judgedSession sessionOf
+unfolding bytes lenTo afterKey allDigits isPositive isNumber digitsValue numberValue numberIn numberOf digitsBefore decimal refusedLine next lined line linedNumber eventName sameEvent jobLines jobsAfter boundParts isGiven isWrongPair boundOf linedBound boundsAfter planLines planHead nothingAfter jobAt shift earliest latest nodeOf eventOf judged least plus join at listed leastOf judgement anyBelow contradicts keptRows judgedSet finishCell startCell thenSet withoutPlace eliminated givenBounds ranges orders ownBounds betweenBounds C0 onNext joined round sameCell sameRow sameRows failsAlone decided roundsFrom outcomeFrom outcome hasEvent eventSet thenTables beforeStarts termsOf leastCs mostCs allTerms allCs calendarOf calendar termLines jobText jobTexts calendarText outcomeText answered membersFrom lowerTerms upperTerms greatest offers.least openingAt asked started closed finished answerAt jobSeen frontFrom moved timed finishIn finishStep startIn startStep stepIn linedStep stepLine answerLine endsSession answeredStep afterStep dispatchedWithin judgedSession sessionOf
 computing = Unit {0}

@@ -38,7 +38,6 @@ use Rattle.runs.specs.ValueLimits.{isTime}
 use Rattle.runs.specs.Offers.{offerOf}
 use Rattle.runs.specs.Steps.{newRun, isStep, stepped, step}
 use Rattle.runs.specs.Inside.{Inside}
-use Rattle.runs.specs.MoveLaws as move-laws
 use Rattle.runs.specs.StepLaws as step-laws
 use Rattle.strategy.specs.Histories.{History, ranFor, turn}
 use Rattle.strategy.specs.Strategies.{Kept, StrategyAfter, StrategyFor, StrategyForAll}
@@ -52,7 +51,7 @@ use Rattle.promises.specs.ValueRuns.{InsideReached, values-from-new}
 
 module _ (p : Plan) (c : Calendar) (r : Run) (st : Step) where
   pub refusal-moves-no-run : (x : Refusal) → step p c r st .answer ≡ Refused x → step p c r st .run ≡ r
-  refusal-moves-no-run = move-laws.step-stays p c r st
+  refusal-moves-no-run = step-laws.step-stays p c r st
 
   -- a step on values inside their limits is the step that demand 3 speaks of
   pub value-step : Inside p c r → isStep st ≡ true → step p c r st ≡ stepped p c r st

@@ -17,7 +17,7 @@ use Rattle.clock.specs.declared.RunTime.{RunTime}
 use Rattle.plan.specs.declared.Plan.{Plan}
 use Rattle.lines.specs.declared.Refusal.{Refusal}
 use Rattle.lines.specs.declared.Refusal.the-variants as refusal
-use Rattle.lines.specs.Refusals.{refusedLine, ends}
+use Rattle.lines.specs.Refusals.{refusedLine}
 use Rattle.lines.specs.Reading.{Reading, read, refused, next}
 use Rattle.plan.specs.PlanLines.{planHead, planAlone, noJob}
 use Rattle.plan.specs.PlanLaws.{planHead-accepted}
@@ -28,25 +28,16 @@ use Rattle.rounds.specs.TextVerdict.{orRefused, verdictAfter, settledAlone}
 use Rattle.calendars.specs.declared.Calendar.{Calendar}
 use Rattle.calendars.specs.Calendars.{calendar}
 use Rattle.calendars.specs.CalendarText.{outcomeText, answered, calendarOutput}
-use Rattle.runs.specs.declared.Phase.{Phase}
-use Rattle.runs.specs.declared.Phase.the-variants.{Waiting, Running}
 use Rattle.runs.specs.declared.Run.{Run}
-use Rattle.runs.specs.declared.Offer.{Offer}
-use Rattle.runs.specs.declared.Opening.{Opening}
-use Rattle.runs.specs.declared.Opening.the-variants.{Open, Shut}
-use Rattle.runs.specs.declared.Choice.the-variants.{At, Auto}
 use Rattle.runs.specs.declared.Step.{Step}
-use Rattle.runs.specs.declared.Step.the-variants.{Ask, Start, Finish}
-use Rattle.runs.specs.declared.Answer.the-variants.{Final}
-use Rattle.runs.specs.Offers.{offerOf, opened, openingIn, opening}
-use Rattle.runs.specs.Steps.{newRun, refusedWith, asked, startedAt, started, closed, finished, stepped}
-use Rattle.runs.specs.DueLaws.{opening-over, opening-running}
+use Rattle.runs.specs.Steps.{newRun, stepped}
 use Rattle.strategy.specs.Reaching.{afterSteps}
 use Rattle.strategy.specs.StepsLaws.{afterSteps-more}
 use Rattle.session.specs.StepRead.{stepLine}
 use Rattle.session.specs.AnswerText.{answerLine, endsSession}
-use Rattle.session.specs.Sessions.{answersWithin, answers, judgedSession, sessionOf, dispatchOutput}
+use Rattle.session.specs.Sessions.{dispatchedWithin, answers, judgedSession, sessionOf, dispatchOutput}
 use Rattle.session.specs.SessionLaws.{stepLine-shorter, answers-refused}
+use Rattle.session.specs.EndLaws.{answer-goes}
 use Rattle.session.specs.SessionRead.{stepsWithin, stepLines, sessionRead}
 use Rattle.session.specs.SessionReadLaws.{stepLines-refused, stepLines-more}
 use Rattle.promises.specs.Demands.{session-kept, auto-taken}
@@ -54,74 +45,18 @@ use Rattle.promises.specs.Printed.{session-printed, step-printed}
 
 -- ---- no step of a settled plan's session is answered by 1 or 2
 
--- an offer that is closed, if it is, by a refusal that goes on
-abbrev Quiet : Opening → Type 0
-Quiet (Open j i o) = Unit
-Quiet (Shut x) = ends x ≡ false
-
-opened-quiet : (j i : ℕ) (o : Offer) → Quiet (opened j i o)
-opened-quiet j i o = of (ltZ (o .to .0) (o .from .0))
-  where
-    of : (b : Bool) → Quiet (cond b (Shut refusal.EmptyOffer) (Open j i o))
-    of true = refl
-    of false = tt
-
-opening-quiet : (p : Plan) (c : Calendar) (r : Run) (φ : Phase) → Quiet (openingIn p c r φ)
-unfolding openingIn
-opening-quiet p c r (Waiting j i) = of (ltb (p .last) j)
-  where
-    of : (b : Bool) → Quiet (cond b (Shut refusal.Over) (opened j i (offerOf p c r j i)))
-    of true = refl
-    of false = opened-quiet j i (offerOf p c r j i)
-opening-quiet p c r (Running j i t) = refl
-
-asked-goes : (r : Run) (o : Opening) → Quiet o → endsSession (asked r o .answer) ≡ false
-unfolding asked endsSession
-asked-goes r (Open j i o) q = refl
-asked-goes r (Shut x) q = q
-
-started-goes : (r : Run) (t : RunTime) (o : Opening) → Quiet o → endsSession (started r (At t) o .answer) ≡ false
-unfolding started endsSession
-started-goes r t (Open j i o) q = of (within (o .from .0) (o .to .0) (t .0))
-  where
-    of : (b : Bool) → endsSession (cond b (startedAt r j i t) (refusedWith r refusal.OutsideOffer) .answer) ≡ false
-    of true = refl
-    of false = refl
-started-goes r t (Shut x) q = q
-
-finished-goes : (p : Plan) (r : Run) (t : RunTime) (φ : Phase) → endsSession (finished p r t φ .answer) ≡ false
-unfolding finished endsSession
-finished-goes p r t (Waiting j i) = refl
-finished-goes p r t (Running j i s) = of (within (s .0 +ℤ getD (p .job) (i - 1) noJob .min) (s .0 +ℤ getD (p .job) (i - 1) noJob .max) (t .0))
-  where
-    of : (b : Bool) → endsSession (cond b (record { answer = Final j i t; run = closed p r j i (record { start = s; finish = t }) }) (refusedWith r refusal.OutsideTimes) .answer) ≡ false
-    of true = refl
-    of false = refl
-
 module _ (p : Plan) (good : Accepted p) (m : ℕ) (c : Rows) (accepted : outcome p ≡ settled m c) (sts : List Step) where
   abbrev run : Run
   run = afterSteps p (calendar p c) newRun sts
 
-  auto-goes : endsSession (stepped p (calendar p c) run (Start Auto) .answer) ≡ false
-  unfolding stepped started endsSession
-  auto-goes = of (run .phase) refl
-    where
-      over : (j i : ℕ) → run .phase ≡ Waiting j i → (b : Bool) → ltb (p .last) j ≡ b → endsSession (stepped p (calendar p c) run (Start Auto) .answer) ≡ false
-      over j i e true d = ap (λ (o : Opening). endsSession (started run Auto o .answer)) (opening-over p (calendar p c) run j i e (ltb-true (p .last) j d))
-      over j i e false d =
-          let k = session-kept p good m c accepted sts in
-          ap endsSession (auto-taken p good m c accepted run (k .history) (k .reached) j i e (ltb-false (p .last) j d))
-
-      of : (φ : Phase) → run .phase ≡ φ → endsSession (stepped p (calendar p c) run (Start Auto) .answer) ≡ false
-      of (Waiting j i) e = over j i e (ltb (p .last) j) refl
-      of (Running j i t) e = ap (λ (o : Opening). endsSession (started run Auto o .answer)) (opening-running p (calendar p c) run j i t e)
-
   pub goes-on : (st : Step) → endsSession (stepped p (calendar p c) run st .answer) ≡ false
-  unfolding stepped
-  goes-on Ask = asked-goes run (opening p (calendar p c) run) (opening-quiet p (calendar p c) run (run .phase))
-  goes-on (Start (At t)) = started-goes run t (opening p (calendar p c) run) (opening-quiet p (calendar p c) run (run .phase))
-  goes-on (Start Auto) = auto-goes
-  goes-on (Finish t) = finished-goes p run t (run .phase)
+  unfolding endsSession
+  goes-on st =
+      answer-goes p (calendar p c) run
+      (λ j i e l.
+      let k = session-kept p good m c accepted sts in
+      ap endsSession (auto-taken p good m c accepted run (k .history) (k .reached) j i e l))
+      st
 
 -- ---- a text that is refused
 
@@ -232,7 +167,7 @@ module _ (p : Plan) (good : Accepted p) (m : ℕ) (c : Rows) (accepted : outcome
     is : answers p (calendar p c) (afterSteps p (calendar p c) newRun done) s n ≡ answersTo p (calendar p c) (afterSteps p (calendar p c) newRun done) later
 
   steps-taken : (left : ℕ) (done : List Step) (s : List ℕ) (n : ℕ) → length s ≤ left → {t : List ℕ} {k : ℕ} → stepLines s n ≡ read tt t k → StepsTaken done s n
-  unfolding answersWithin answersTo
+  unfolding dispatchedWithin answersTo
   steps-taken zero done [] n h e = record { later = []; lines = none; is = refl }
   steps-taken zero done (b ∷ s) n h e = absurd (omega arith)
   steps-taken (suc left) done [] n h e = record { later = []; lines = none; is = refl }

@@ -1,8 +1,7 @@
 -- Steps on values as closed cases: the limits of what is handed over, and the order of the refusals.
-use Prim.Native.Nat.{ℕ}
+use Prim.Native.Nat.{ℕ, _+_, _*_, _-_}
 use mathlib.Core.Path.{_≡_, refl}
-use mathlib.Core.Bool.{Bool, true, false}
-use mathlib.Core.List.{List, [], _∷_, map}
+use mathlib.Core.List.{List, [], _∷_, _++_, map}
 use lib.IntN.{ℤ, pos, negsuc}
 use lib.ListN.{replicate}
 use Rattle.clock.specs.declared.RunTime.{RunTime}
@@ -12,20 +11,21 @@ use Rattle.plan.specs.declared.Plan.{Plan}
 use Rattle.lines.specs.declared.Refusal.the-variants as refusal
 use Rattle.plan.specs.PlanLines.{noJob, noBound}
 use Rattle.plan.specs.PlanWritten.{jobsText, boundsText, planText, refusalOf}
+use Rattle.events.specs.Bits.{mostEvents}
 use Rattle.calendars.specs.declared.Calendar.{Calendar}
 use Rattle.calendars.specs.Calendars.{noTerms}
 use Rattle.runs.specs.declared.Phase.{Phase}
 use Rattle.runs.specs.declared.Phase.the-variants.{Waiting, Running}
-use Rattle.runs.specs.declared.Probe.{Probe}
+use Rattle.runs.specs.declared.Before.{Before}
+use Rattle.runs.specs.declared.Before.the-variants.{Nothing, Window}
 use Rattle.runs.specs.declared.Run.{Run}
 use Rattle.runs.specs.declared.Answer.{Answer}
 use Rattle.runs.specs.declared.Answer.the-variants.{Offered, Started, Refused}
 use Rattle.runs.specs.declared.Choice.the-variants.{At, Auto}
 use Rattle.runs.specs.declared.Step.{Step}
 use Rattle.runs.specs.declared.Step.the-variants.{Ask, Start, Finish}
-use Rattle.runs.specs.Offers.{noProbe}
 use Rattle.runs.specs.ValueLimits.{areTimes, isPhase, isRun, isSide, areTermsOf, isCalendar}
-use Rattle.runs.specs.Steps.{newRun, valuesRefused, unlessRefused, step}
+use Rattle.runs.specs.Steps.{newRun, valuesRefused, unlessRefused, valuesAnswer, step}
 use Rattle.promises.specs.Case.{computing}
 
 -- ---- what is handed over
@@ -74,20 +74,30 @@ fromAbove above d = calendarWith (pos 0) (pos 6) 1 (pos 8) above d
 abbrev at : ℤ → RunTime
 at t = record { 0 = t }
 
-abbrev ran : ℤ → ℤ → Probe
-ran s f = record { start = at s; finish = at f }
+-- a job that ran
+pub record Ran : Type 0 where
+  pub start : ℤ
+  pub finish : ℤ
 
--- a run put together by hand: its phase, whether it has a previous window, and the first probe of the previous and of the present window
-abbrev runWith : Phase → Bool → Probe → Probe → Run
-runWith phase «has_previous» q r =
-    record { phase = phase; «has_previous» = «has_previous»; previous = q ∷ replicate 8 noProbe; present = r ∷ replicate 8 noProbe }
+abbrev ran : ℤ → ℤ → Ran
+ran s f = record { start = s; finish = f }
 
--- one in its first window, and one whose previous window had this probe
+abbrev notRun : Ran
+notRun = ran (pos 0) (pos 0)
+
+-- a run put together by hand, of a plan with so many jobs: its phase, what is before it, and the first job of the previous and of the present window
+abbrev runWith : ℕ → Phase → Before → Ran → Ran → Run
+runWith jobs phase before q r =
+    let own = q .start ∷ q .finish ∷ replicate (2 * jobs - 2) (pos 0) in
+    let now = r .start ∷ r .finish ∷ replicate (mostEvents - (2 * jobs + 2)) (pos 0) in
+    record { phase = phase; before = before; seen = own ++ now }
+
+-- one of P in its first window, and one whose previous window had this job
 abbrev first : Phase → Run
-first phase = runWith phase false noProbe noProbe
+first phase = runWith 1 phase Nothing notRun notRun
 
-abbrev later : Phase → Probe → Run
-later phase q = runWith phase true q noProbe
+abbrev later : Phase → Ran → Run
+later phase q = runWith 1 phase Window q notRun
 
 -- the job of the previous window started at 100,000, and window 1,000 begins at 9,990, so that the offer is empty
 abbrev shut : Phase → Run
@@ -147,10 +157,10 @@ runs =
     ∷ record { plan = planP; calendar = calendarP; run = later (Waiting 2 1) (ran (pos 3) (pos 100000000000000001)); step = Ask; told = outside }
     ∷ record { plan = planP; calendar = calendarP; run = later (Waiting 2 1) (ran (negsuc 0) (pos 7)); step = Ask; told = outside }
     -- without a previous window, its times are no part of the run
-    ∷ record { plan = planP; calendar = calendarP; run = runWith (Waiting 1 1) false (ran (negsuc 0) (negsuc 0)) noProbe; step = Ask; told = offered (pos 0) (pos 6) }
+    ∷ record { plan = planP; calendar = calendarP; run = runWith 1 (Waiting 1 1) Nothing (ran (negsuc 0) (negsuc 0)) notRun; step = Ask; told = offered (pos 0) (pos 6) }
     -- the times of the present window, which are a part of it once job 1 has finished
-    ∷ record { plan = planWith (pos 10) 2; calendar = calendarP; run = runWith (Waiting 1 1) false noProbe (ran (negsuc 0) (pos 2)); step = Ask; told = offered (pos 0) (pos 6) }
-    ∷ record { plan = planWith (pos 10) 2; calendar = calendarP; run = runWith (Waiting 1 2) false noProbe (ran (negsuc 0) (pos 2)); step = Ask; told = outside }
+    ∷ record { plan = planWith (pos 10) 2; calendar = calendarP; run = runWith 2 (Waiting 1 1) Nothing notRun (ran (negsuc 0) (pos 2)); step = Ask; told = offered (pos 0) (pos 6) }
+    ∷ record { plan = planWith (pos 10) 2; calendar = calendarP; run = runWith 2 (Waiting 1 2) Nothing notRun (ran (negsuc 0) (pos 2)); step = Ask; told = outside }
     ∷ []
 
 -- 'a calendar's low, high and c lie in the range of a bound's c, its bits name events of the previous window or of earlier jobs only'
@@ -179,7 +189,7 @@ Told cases = map asked cases ≡ map (λ (a : Asked). a .told) cases
 
 -- naming this on an `unfolding` line opens what a step on values adds to a session's definitions
 unfoldable pub stepping : Type 0
-unfolding jobsText boundsText planText refusalOf areTimes isPhase isRun isSide areTermsOf isCalendar valuesRefused unlessRefused step
+unfolding jobsText boundsText planText refusalOf areTimes isPhase isRun isSide areTermsOf isCalendar valuesRefused unlessRefused valuesAnswer
 stepping = Unit {0}
 
 pub order-right : Told order

@@ -1,18 +1,17 @@
--- The limits as the code looks at them, one place after the other: the times of a window (`areTimes-more`), the phase and the run by their tests, and whether
+-- The limits as the code looks at them, one place after the other: the times that were seen (`areTimes-more`), the phase and the run by their tests, and whether
 -- something is wrong from one place on (`anyFrom`), which is how a side and a calendar are walked (`isSide-walk`, `isCalendar-walk`).
 use Prim.Native.Nat.{ℕ, zero, suc, _+_, _*_, _-_, _/_, _^_, _≤_, _<_}
 use mathlib.Core.Path.{_≡_, refl, sym, ap, ap₂, _∙_}
 use mathlib.Core.Bool.{Bool, true, false, not, _&&_, _||_}
-use mathlib.Core.List.{List, [], _∷_}
+use mathlib.Core.List.{List}
 use native.Mathlib.Nat.{div-eq-of-lt, le-div-iff-mul-le, add-zero, add-suc, suc-add, zero-add}
 use native.Mathlib.Numerals.{add-one}
 use native.Mathlib.Omega.{arith}
 use lib.Dec.{eqb, leb}
 use lib.IntN.{ℤ, pos}
-use lib.ListN.{getD, take, drop, length, drop-of-length-le}
+use lib.ListN.{getD}
 use lib.Pow.{pow-pos}
 use lib.Signed.{_≤ℤ_, leZ}
-use lib.Seq.{drop-cons, take-nil}
 use borrow.Author.Tests.{lt-ltb, le-ltb, leb-true, leb-false}
 use Rattle.whole.specs.Rules.{whole}
 use Rattle.clock.specs.declared.RunTime.{RunTime}
@@ -24,29 +23,21 @@ use Rattle.calendars.specs.declared.Calendar.{Calendar}
 use Rattle.calendars.specs.Calendars.{eventsBefore, mostEvents, noTerms}
 use Rattle.runs.specs.declared.Phase.{Phase}
 use Rattle.runs.specs.declared.Phase.the-variants.{Waiting, Running}
-use Rattle.runs.specs.declared.Probe.{Probe}
 use Rattle.runs.specs.declared.Run.{Run}
 use Rattle.runs.specs.TestLaws.{and-of-true, and-of-false, or-of-true, or-of-false}
-use Rattle.runs.specs.Offers.{noProbe}
+use Rattle.runs.specs.Seen.{timeAt, firstSeen}
 use Rattle.runs.specs.ValueLimits.{isTime, areTimes, isTurn, isPhase, jobOfPhase, isRun, isC, isOut, isSide, areTermsOf, isCalendar}
 
 -- ---- times
 
-pub areTimes-more : (qs : List Probe) (count i : ℕ) → i < count → i < length qs
-    → areTimes (take (count - i) (drop i qs))
-    ≡ (isTime (getD qs i noProbe .start) && isTime (getD qs i noProbe .finish) && areTimes (take (count - (i + 1)) (drop (i + 1) qs)))
-unfolding areTimes
-areTimes-more qs count i h l =
-    let left : count - i ≡ suc (count - suc i) = omega arith in rw (left, drop-cons qs i noProbe l, add-one i)
+module _ (seen : List ℤ) (e count : ℕ) where
+  pub areTimes-more : e < count → areTimes seen e (count - e) ≡ (isTime (timeAt seen e) && areTimes seen (e + 1) (count - (e + 1)))
+  unfolding areTimes
+  areTimes-more h = let left : count - e ≡ suc (count - suc e) = omega arith in rw (left, add-one e)
 
-pub areTimes-past : (qs : List Probe) (n i : ℕ) → length qs ≤ i → areTimes (take n (drop i qs)) ≡ true
-unfolding areTimes
-areTimes-past qs n i h = rw (drop-of-length-le qs h, take-nil n)
-
-pub areTimes-none : (qs : List Probe) → areTimes (take 0 qs) ≡ true
-unfolding areTimes
-areTimes-none [] = refl
-areTimes-none (q ∷ qs) = refl
+  pub areTimes-none : count ≤ e → areTimes seen e (count - e) ≡ true
+  unfolding areTimes
+  areTimes-none h = let left : count - e ≡ 0 = omega arith in rw left
 
 -- ---- the phase
 
@@ -74,19 +65,10 @@ module _ (p : Plan) (r : Run) where
   unfolding isRun
   isRun-phase h = rw (h)
 
-  pub isRun-first : isPhase p (r .phase) ≡ true → r .«has_previous» ≡ false
-      → isRun p r ≡ areTimes (take (jobOfPhase (r .phase) - 1) (r .present))
+  pub isRun-seen : isPhase p (r .phase) ≡ true → (first count : ℕ) → first ≡ firstSeen (p .jobs) (r .before)
+      → count ≡ eventsBefore p (jobOfPhase (r .phase) - 1) → isRun p r ≡ areTimes (r .seen) first (count - first)
   unfolding isRun
-  isRun-first h y = rw (h, y)
-
-  pub isRun-previous : isPhase p (r .phase) ≡ true → r .«has_previous» ≡ true → areTimes (take (p .jobs) (r .previous)) ≡ false → isRun p r ≡ false
-  unfolding isRun
-  isRun-previous h y n = rw (h, y, n)
-
-  pub isRun-later : isPhase p (r .phase) ≡ true → r .«has_previous» ≡ true → areTimes (take (p .jobs) (r .previous)) ≡ true
-      → isRun p r ≡ areTimes (take (jobOfPhase (r .phase) - 1) (r .present))
-  unfolding isRun
-  isRun-later h y n = rw (h, y, n)
+  isRun-seen h first count e f = rw (h, e, f)
 
 -- ---- whether some place below a number
 

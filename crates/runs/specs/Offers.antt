@@ -1,42 +1,63 @@
 -- The offer (document 01, 'Offers and runs': 'The offer is from the greatest lower bound to the least upper bound, both ends included').
-use Prim.Native.Nat.{ℕ, zero, suc, _+_, _*_, _-_, _/_, _%_}
-use mathlib.Core.Bool.{Bool, true, false, cond, _&&_, _||_}
-use mathlib.Core.List.{List, [], _∷_}
-use lib.Dec.{eqb, leb, ltb}
+use Prim.Native.Nat.{ℕ, zero, suc, _+_, _*_, _-_}
+use mathlib.Core.Bool.{Bool, cond}
+use mathlib.Core.List.{List, [], _∷_, map, foldl}
+use lib.Dec.{ltb}
 use lib.IntN.{ℤ, pos, _+ℤ_}
 use lib.Signed.{ltZ}
 use lib.ListN.{getD}
-use Rattle.clock.specs.declared.RunTime.{RunTime}
 use Rattle.clock.specs.Clock.{onRun}
 use Rattle.plan.specs.declared.Plan.{Plan}
 use Rattle.lines.specs.declared.Refusal.the-variants as refusal
-use Rattle.calendars.specs.declared.Terms.{Terms}
+use Rattle.plan.specs.PlanLines.{noJob}
 use Rattle.calendars.specs.declared.Calendar.{Calendar}
-use Rattle.events.specs.Bits.{hasEvent}
-use Rattle.calendars.specs.Calendars.{eventsBefore, mostEvents, noTerms}
-use Rattle.runs.specs.declared.Probe.{Probe}
+use Rattle.events.specs.Bits.{membersFrom}
+use Rattle.calendars.specs.Calendars.{eventsAhead, mostEvents, noTerms}
+use Rattle.runs.specs.declared.Turn.{Turn}
 use Rattle.runs.specs.declared.Phase.{Phase}
 use Rattle.runs.specs.declared.Phase.the-variants.{Waiting, Running}
 use Rattle.runs.specs.declared.Run.{Run}
 use Rattle.runs.specs.declared.Offer.{Offer}
 use Rattle.runs.specs.declared.Opening.{Opening}
 use Rattle.runs.specs.declared.Opening.the-variants.{Open, Shut}
+use Rattle.runs.specs.Seen.{timeAt, firstSeen}
+use Rattle.runs.specs.ValueLimits.{jobOfPhase}
 
--- ---- the times that a run has seen
+-- ---- whose turn it is
 
-abbrev pub noProbe : Probe
-noProbe = record { start = record { 0 = pos 0 }; finish = record { 0 = pos 0 } }
+-- what a plan and its calendar say of job i (from 1)
+abbrev pub turnOf : Plan → Calendar → ℕ → Turn
+turnOf p c i =
+    record {
+      window = p .window;
+      last = p .last;
+      jobs = p .jobs;
+      job = getD (p .job) (i - 1) noJob;
+      terms = getD (c .terms) (i - 1) noTerms;
+    }
 
-abbrev pub timeIn : List Probe → ℕ → ℤ
-timeIn qs e = let q = getD qs (e / 2) noProbe in cond (eqb (e % 2) 0) (q .start .0) (q .finish .0)
+-- ---- the terms in force
 
--- the time of event e, in the calendar's order: the previous window's events, then the present window's
-unfoldable pub timeOf : Plan → Run → ℕ → ℤ
-timeOf p r e = cond (ltb e (2 * p .jobs)) (timeIn (r .previous) e) (timeIn (r .present) (e - 2 * p .jobs))
+-- the events that bound the start of the job at place i, of those that the run has seen before it
+abbrev pub inForce : ℕ → Run → ℕ → ℕ → List ℕ
+inForce jobs r i set = let first = firstSeen jobs (r .before) in membersFrom set first (eventsAhead jobs i - first)
 
--- 'The terms of the first window are the same, without those that name the previous window.'
-unfoldable pub isInForce : Plan → Run → ℕ → Bool
-isInForce p r e = r .«has_previous» || leb (2 * p .jobs) e
+-- the term of event e, whose c stands at place row + e
+abbrev pub termAt : List ℤ → List ℤ → ℕ → ℕ → ℤ
+termAt seen cs row e = timeAt seen e .0 +ℤ getD cs (row + e) (pos 0)
+
+-- the terms on one side of the start of the job at place i: the origin's first, then those in force
+abbrev pub termsFrom : ℤ → ℕ → Run → ℕ → ℕ → List ℤ → List ℤ
+termsFrom origin jobs r i set cs = origin ∷ map (termAt (r .seen) cs (i * mostEvents)) (inForce jobs r i set)
+
+-- the terms of job i (from 1) in window j
+unfoldable pub lowerTerms : Turn → List ℤ → Run → ℕ → ℕ → List ℤ
+lowerTerms d cs r j i =
+    let t = d .terms in termsFrom (onRun (d .window) j (t .low) .0) (d .jobs) r (i - 1) (t .below .0) cs
+
+unfoldable pub upperTerms : Turn → List ℤ → Run → ℕ → ℕ → List ℤ
+upperTerms d cs r j i =
+    let t = d .terms in termsFrom (onRun (d .window) j (t .high) .0) (d .jobs) r (i - 1) (t .above .0) cs
 
 -- ---- the two ends
 
@@ -46,24 +67,22 @@ greater a b = cond (ltZ a b) b a
 abbrev pub lesser : ℤ → ℤ → ℤ
 lesser a b = cond (ltZ b a) b a
 
--- one end: the end so far, and the terms of count events from event e on; cs are the c of the job's row
-unfoldable pub endFrom : (ℤ → ℤ → ℤ) → Plan → Run → ℕ → List ℤ → ℕ → ℤ → ℕ → ℕ → ℤ
-endFrom pick p r set cs row end e zero = end
-endFrom pick p r set cs row end e (suc count) =
-    let term = timeOf p r e +ℤ getD cs (row + e) (pos 0) in
-    let now = cond (hasEvent e set && isInForce p r e) (pick end term) end in
-    endFrom pick p r set cs row now (suc e) count
+-- the greatest and the least of some terms, of which there is one at least: the origin's
+unfoldable pub greatest : List ℤ → ℤ
+greatest [] = pos 0
+greatest (z ∷ zs) = foldl greater z zs
 
--- the offer of job i (from 1) in window j: the origin first, then the terms in the calendar's order
-unfoldable pub offerOf : Plan → Calendar → Run → ℕ → ℕ → Offer
-offerOf p c r j i =
-    let t = getD (c .terms) (i - 1) noTerms in
-    let row = (i - 1) * mostEvents in
-    let count = eventsBefore p (i - 1) in
-    record {
-      from = record { 0 = endFrom greater p r (t .below .0) (c .«at_least») row (onRun (p .window) j (t .low) .0) 0 count };
-      to = record { 0 = endFrom lesser p r (t .above .0) (c .«at_most») row (onRun (p .window) j (t .high) .0) 0 count };
-    }
+unfoldable pub least : List ℤ → ℤ
+least [] = pos 0
+least (z ∷ zs) = foldl lesser z zs
+
+-- 'from the greatest lower bound to the least upper bound'
+abbrev pub offerAt : Turn → List ℤ → List ℤ → Run → ℕ → ℕ → Offer
+offerAt d cs ds r j i =
+    record { from = record { 0 = greatest (lowerTerms d cs r j i) }; to = record { 0 = least (upperTerms d ds r j i) } }
+
+abbrev pub offerOf : Plan → Calendar → Run → ℕ → ℕ → Offer
+offerOf p c r j i = offerAt (turnOf p c i) (c .«at_least») (c .«at_most») r j i
 
 -- ---- 'For ask and start: 10, 6, 11'
 
@@ -72,9 +91,9 @@ abbrev pub opened : ℕ → ℕ → Offer → Opening
 opened j i o = cond (ltZ (o .to .0) (o .from .0)) (Shut refusal.EmptyOffer) (Open j i o)
 
 -- '10 | ask or start once the last job of window `last` has finished (while it runs the answer is 6)'
-unfoldable pub openingIn : Plan → Calendar → Run → Phase → Opening
-openingIn p c r (Waiting j i) = let o = opened j i (offerOf p c r j i) in cond (ltb (p .last) j) (Shut refusal.Over) o
-openingIn p c r (Running j i t) = Shut refusal.Running
+unfoldable pub openingAt : Turn → List ℤ → List ℤ → Run → Phase → Opening
+openingAt d cs ds r (Waiting j i) = let o = opened j i (offerAt d cs ds r j i) in cond (ltb (d .last) j) (Shut refusal.Over) o
+openingAt d cs ds r (Running j i t) = Shut refusal.Running
 
 abbrev pub opening : Plan → Calendar → Run → Opening
-opening p c r = openingIn p c r (r .phase)
+opening p c r = openingAt (turnOf p c (jobOfPhase (r .phase))) (c .«at_least») (c .«at_most») r (r .phase)

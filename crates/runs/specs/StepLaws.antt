@@ -1,128 +1,165 @@
--- The clauses of the steps as equations, each under the tests that lead to it; a step of the code ends in one of them.
-use Prim.Native.Nat.{ℕ, _-_, _≤_}
+-- Steps, one case after the other, as the code takes them: a finish (`finished-on`, `finished-off`); an opening by its phase (`opening-over`, `opening-waiting`,
+-- `opening-running`); the answer by the kind of step (`answer-ask`, `answer-start`, `answer-idle`, `answer-finish`); a step with an accepted plan (`acceptedStep-..`); and a step on values,
+-- whose plan is judged first (`step-refused`, `step-accepted`). A step on values inside their limits is that step of the run (`step-inside`), one whose time is outside is
+-- refused (`step-outside`). A refusal leaves the run as it was (`stepped-stays`, `step-stays`).
+use Prim.Native.Nat.{ℕ, _-_, _≤_, _<_}
 use mathlib.Core.Path.{_≡_, refl, sym, ap, ap₂, _∙_}
 use mathlib.Core.Bool.{Bool, true, false, _&&_}
-use native.Mathlib.Omega.{arith}
+use mathlib.Core.List.{List}
+use mathlib.Core.Option.{none}
 use lib.IntN.{ℤ, _+ℤ_}
-use lib.ListN.{getD, replicate, getD-replicate}
+use lib.ListN.{getD}
 use mir.Syntax.{w64}
 use mir.Val.{SFits}
+use borrow.Author.Tests.{lt-ltb, le-ltb}
 use Rattle.whole.specs.Rules.{wholes}
 use Rattle.clock.specs.declared.RunTime.{RunTime}
 use Rattle.clock.specs.Spans.{Near}
 use Rattle.clock.specs.Clock.{isBetween, movedBy}
+use Rattle.plan.specs.declared.Job.{Job}
 use Rattle.plan.specs.declared.Plan.{Plan}
 use Rattle.lines.specs.declared.TextAnswer.{TextAnswer}
 use Rattle.lines.specs.declared.TextAnswer.the-variants as planAnswer
 use Rattle.lines.specs.declared.Refusal.{Refusal}
 use Rattle.lines.specs.declared.Refusal.the-variants as refusal
 use Rattle.lines.specs.Refusals.{outsideLimits}
-use Rattle.plan.specs.Limits.{mostJobs}
+use Rattle.plan.specs.PlanLines.{noJob}
 use Rattle.plan.specs.PlanWritten.{judgedPlan}
 use Rattle.values.specs.PlanJudged.{judgedAnswer}
 use Rattle.values.specs.JudgedLaws.{judgedAnswer-none, judgedAnswer-some, accepted-judged}
-use Rattle.plan.specs.PlanLines.{noJob}
 use Rattle.calendars.specs.declared.Calendar.{Calendar}
-use Rattle.runs.specs.declared.Answer.the-variants.{Final}
-use Rattle.runs.specs.declared.Due.{Due}
+use Rattle.calendars.specs.Calendars.{noTerms}
+use Rattle.runs.specs.declared.Answer.{Answer}
+use Rattle.runs.specs.declared.Answer.the-variants.{Final, Refused}
+use Rattle.runs.specs.declared.Answered.{Answered}
+use Rattle.runs.specs.declared.Turn.{Turn}
 use Rattle.runs.specs.declared.Phase.{Phase}
 use Rattle.runs.specs.declared.Phase.the-variants.{Waiting, Running}
 use Rattle.runs.specs.declared.Run.{Run}
+use Rattle.runs.specs.declared.Moved.{Moved}
 use Rattle.runs.specs.declared.Choice.{Choice}
 use Rattle.runs.specs.declared.Step.{Step}
 use Rattle.runs.specs.declared.Step.the-variants.{Ask, Start, Finish}
+use Rattle.runs.specs.declared.Opening.the-variants.{Shut}
 use Rattle.runs.specs.ValueLimits.{isRun, isCalendar}
-use Rattle.runs.specs.Steps.{refusedWith, asked, started, closed, finished, stepped, step, isStep, valuesRefused, unlessRefused}
+use Rattle.runs.specs.Offers.{turnOf, offerAt, opened, openingAt}
+use Rattle.runs.specs.Steps.{asked, started, finishedSince, finished, answerAt, answerOf, moved, answeredBy, stepped, isStep, valuesRefused, unlessRefused, valuesAnswer, step}
 use Rattle.runs.specs.TestLaws.{and-true}
-use Rattle.runs.specs.Inside.{Inside, stepAccepted}
-use Rattle.runs.specs.Offers.{opening}
-use Rattle.runs.specs.Due.{duePlan, FinishInside}
+use Rattle.runs.specs.Inside.{Inside, acceptedStep, refusedWith, runOf, movedOf, FinishInside}
 
-pub finish-fits : {d : Due} {j i : ℕ} {s : RunTime} → FinishInside d j i s → (c : ℤ) → Near c → SFits w64 (s .0 +ℤ c)
+-- ---- whose turn it is, read off a plan and a calendar
+
+pub turnOf-made : (p : Plan) (c : Calendar) (i k : ℕ) (window : ℤ) → window ≡ p .window → k ≡ i - 1
+    → _≡_ {A = Turn}
+    (record { window = window; last = p .last; jobs = p .jobs; job = getD (p .job) k noJob; terms = getD (c .terms) k noTerms })
+    (turnOf p c i)
+turnOf-made p c i k window e f = rw (e, f)
+
+-- ---- a run put together again from what became of its parts
+
+pub moved-made : (m : Moved) (seen : List ℤ) (r : Run) → m ≡ movedOf r → seen ≡ r .seen → runOf (m .phase) (m .before) seen ≡ r
+moved-made m seen r e f = rw (e, f)
+
+-- ---- a finish, where from and to are start + min and start + max
+
+pub finish-fits : {job : Job} {s : RunTime} → FinishInside job s → (c : ℤ) → Near c → SFits w64 (s .0 +ℤ c)
 finish-fits h c n = omega wholes
 
--- a finish, where from and to are start + min and start + max
-module _
-    (d : Due)
-    (r : Run)
-    (j i : ℕ)
-    (s t from to : RunTime)
-    (h : i ≤ mostJobs)
-    (e : from ≡ movedBy s (d .job .min))
-    (f : to ≡ movedBy s (d .job .max))
-  where
-    due-job : getD (replicate mostJobs (d .job)) (i - 1) noJob ≡ d .job
-    due-job = getD-replicate mostJobs (i - 1) (d .job) noJob (omega arith)
+module _ (job : Job) (j i : ℕ) (s t from to : RunTime) (e : from ≡ movedBy s (job .min)) (f : to ≡ movedBy s (job .max)) where
+  times : isBetween from to t ≡ isBetween (movedBy s (job .min)) (movedBy s (job .max)) t
+  times = rw (e, f)
 
-    times : isBetween from to t ≡ isBetween (movedBy s (d .job .min)) (movedBy s (d .job .max)) t
-    times = rw (e, f)
+  pub finished-on : isBetween from to t ≡ true → Final j i t ≡ finishedSince job j i s t
+  finished-on b = rw (sym times ∙ b)
 
-    pub finished-on : isBetween from to t ≡ true
-        → record { answer = Final j i t; run = closed (duePlan d) r j i (record { start = s; finish = t }) } ≡ finished (duePlan d) r t (Running j i s)
-    unfolding finished
-    finished-on b = rw (due-job, sym times ∙ b)
+  pub finished-off : isBetween from to t ≡ false → Refused refusal.OutsideTimes ≡ finishedSince job j i s t
+  finished-off b = rw (sym times ∙ b)
 
-    pub finished-off : isBetween from to t ≡ false → refusedWith r refusal.OutsideTimes ≡ finished (duePlan d) r t (Running j i s)
-    unfolding finished
-    finished-off b = rw (due-job, sym times ∙ b)
+-- ---- an opening, by its phase
 
-pub finished-idle : (p : Plan) (r : Run) (t : RunTime) (f : Phase) (j i : ℕ) → f ≡ Waiting j i → refusedWith r refusal.Idle ≡ finished p r t f
-unfolding finished
-finished-idle p r t f j i e = rw (e)
+module _ (d : Turn) (cs ds : List ℤ) (r : Run) (f : Phase) (j i : ℕ) where
+  pub opening-over : f ≡ Waiting j i → d .last < j → openingAt d cs ds r f ≡ Shut refusal.Over
+  unfolding openingAt
+  opening-over e h = rw (e, lt-ltb (d .last) j h)
 
--- ---- a step, by its kind
+  pub opening-waiting : f ≡ Waiting j i → j ≤ d .last → openingAt d cs ds r f ≡ opened j i (offerAt d cs ds r j i)
+  unfolding openingAt
+  opening-waiting e h = rw (e, le-ltb (d .last) j h)
 
-module _ (p : Plan) (c : Calendar) (r : Run) (st : Step) where
-  pub stepped-ask : st ≡ Ask → asked r (opening p c r) ≡ stepped p c r st
-  unfolding stepped
-  stepped-ask e = rw (e)
+  pub opening-running : (t : RunTime) → f ≡ Running j i t → openingAt d cs ds r f ≡ Shut refusal.Running
+  unfolding openingAt
+  opening-running t e = rw e
 
-  pub stepped-start : (choice : Choice) → st ≡ Start choice → started r choice (opening p c r) ≡ stepped p c r st
-  unfolding stepped
-  stepped-start choice e = rw (e)
+-- ---- the answer, by the kind of step
 
-  pub stepped-finish : (t : RunTime) → st ≡ Finish t → finished p r t (r .phase) ≡ stepped p c r st
-  unfolding stepped
-  stepped-finish t e = rw (e)
+module _ (d : Turn) (cs ds : List ℤ) (r : Run) (st : Step) where
+  pub answer-ask : st ≡ Ask → asked (openingAt d cs ds r (r .phase)) ≡ answerAt d cs ds r st
+  unfolding answerAt
+  answer-ask e = rw (e)
+
+  pub answer-start : (choice : Choice) → st ≡ Start choice → started choice (openingAt d cs ds r (r .phase)) ≡ answerAt d cs ds r st
+  unfolding answerAt
+  answer-start choice e = rw (e)
+
+  module _ (t : RunTime) (e : st ≡ Finish t) (j i : ℕ) where
+    pub answer-idle : r .phase ≡ Waiting j i → Refused refusal.Idle ≡ answerAt d cs ds r st
+    unfolding answerAt finished
+    answer-idle h = rw (e, h)
+
+    pub answer-finish : (s : RunTime) → r .phase ≡ Running j i s → finishedSince (d .job) j i s t ≡ answerAt d cs ds r st
+    unfolding answerAt finished
+    answer-finish s h = rw (e, h)
 
 -- ---- a step with a plan that is accepted
 
 module _ (p : Plan) (c : Calendar) (r : Run) (st : Step) where
-  outside : (b : Bool) → (isRun p r && isCalendar p c && isStep st) ≡ b → b ≡ false → refusedWith r outsideLimits ≡ stepAccepted p c r st
-  unfolding valuesRefused unlessRefused
+  outside : (b : Bool) → (isRun p r && isCalendar p c && isStep st) ≡ b → b ≡ false → refusedWith r outsideLimits ≡ acceptedStep p c r st
+  unfolding valuesRefused unlessRefused moved
   outside b e f = rw (e ∙ f)
 
-  pub stepAccepted-run : isRun p r ≡ false → refusedWith r outsideLimits ≡ stepAccepted p c r st
-  stepAccepted-run h = outside _ (ap (λ (x : Bool). x && isCalendar p c && isStep st) h) refl
+  pub acceptedStep-run : isRun p r ≡ false → refusedWith r outsideLimits ≡ acceptedStep p c r st
+  acceptedStep-run h = outside _ (ap (λ (x : Bool). x && isCalendar p c && isStep st) h) refl
 
-  pub stepAccepted-calendar : isRun p r ≡ true → isCalendar p c ≡ false → refusedWith r outsideLimits ≡ stepAccepted p c r st
-  stepAccepted-calendar h k = outside _ (ap₂ (λ (x y : Bool). x && y && isStep st) h k) refl
+  pub acceptedStep-calendar : isRun p r ≡ true → isCalendar p c ≡ false → refusedWith r outsideLimits ≡ acceptedStep p c r st
+  acceptedStep-calendar h k = outside _ (ap₂ (λ (x y : Bool). x && y && isStep st) h k) refl
 
-  pub stepAccepted-step : isRun p r ≡ true → isCalendar p c ≡ true → isStep st ≡ false → refusedWith r outsideLimits ≡ stepAccepted p c r st
-  stepAccepted-step h k l = outside _ (ap₂ (λ (x y : Bool). x && y && isStep st) h k ∙ l) refl
+  pub acceptedStep-step : isRun p r ≡ true → isCalendar p c ≡ true → isStep st ≡ false → refusedWith r outsideLimits ≡ acceptedStep p c r st
+  acceptedStep-step h k l = outside _ (ap₂ (λ (x y : Bool). x && y && isStep st) h k ∙ l) refl
 
-  pub stepAccepted-inside : isRun p r ≡ true → isCalendar p c ≡ true → isStep st ≡ true → stepped p c r st ≡ stepAccepted p c r st
+  pub acceptedStep-inside : isRun p r ≡ true → isCalendar p c ≡ true → isStep st ≡ true → stepped p c r st ≡ acceptedStep p c r st
   unfolding valuesRefused unlessRefused
-  stepAccepted-inside h k l = rw (and-true _ _ (and-true _ _ h k) l)
+  acceptedStep-inside h k l = rw (and-true _ _ (and-true _ _ h k) l)
 
 -- ---- a step on values: the plan is judged first
 
 -- with the answer a to its plan
 module _ (p : Plan) (c : Calendar) (r : Run) (st : Step) (a : TextAnswer) (judged : a ≡ judgedAnswer (judgedPlan p)) where
   pub step-refused : (x : Refusal) → a ≡ planAnswer.Refused x → refusedWith r x ≡ step p c r st
-  unfolding step valuesRefused unlessRefused
+  unfolding valuesAnswer valuesRefused unlessRefused moved
   step-refused x e = rw (judgedAnswer-some (judgedPlan p) x (sym judged ∙ e))
 
-  pub step-accepted : a ≡ planAnswer.Accepted → stepAccepted p c r st ≡ step p c r st
-  unfolding step
+  pub step-accepted : a ≡ planAnswer.Accepted → acceptedStep p c r st ≡ step p c r st
+  unfolding valuesAnswer
   step-accepted e = rw (judgedAnswer-none (judgedPlan p) (sym judged ∙ e))
 
 -- ---- a step on values inside their limits is that step of the run; one whose time is outside is refused
 
 pub step-inside : (p : Plan) (c : Calendar) (r : Run) (st : Step) → Inside p c r → isStep st ≡ true → step p c r st ≡ stepped p c r st
-unfolding step valuesRefused unlessRefused
+unfolding valuesAnswer valuesRefused unlessRefused
 step-inside p c r st i e = rw (accepted-judged p (i .plan), i .run, i .calendar, e)
 
 pub step-outside : (p : Plan) (c : Calendar) (r : Run) (st : Step) → Inside p c r → isStep st ≡ false → step p c r st ≡ refusedWith r outsideLimits
-unfolding step valuesRefused unlessRefused
+unfolding valuesAnswer valuesRefused unlessRefused moved
 step-outside p c r st i e = rw (accepted-judged p (i .plan), i .run, i .calendar, e)
+
+-- ---- 'A refusal moves neither the run ..'
+
+pub refused-stays : (jobs : ℕ) (r : Run) (a : Answer) (x : Refusal) → a ≡ Refused x → moved jobs r a ≡ r
+unfolding moved
+refused-stays jobs r a x e = rw e
+
+pub stepped-stays : (p : Plan) (c : Calendar) (r : Run) (st : Step) (x : Refusal) → stepped p c r st .answer ≡ Refused x → stepped p c r st .run ≡ r
+stepped-stays p c r st x e = refused-stays (p .jobs) r _ x e
+
+pub step-stays : (p : Plan) (c : Calendar) (r : Run) (st : Step) (x : Refusal) → step p c r st .answer ≡ Refused x → step p c r st .run ≡ r
+step-stays p c r st x e = refused-stays (p .jobs) r _ x e

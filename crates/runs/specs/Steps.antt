@@ -1,22 +1,25 @@
--- Steps: ask, start and finish, with the order of their refusals (document 01, 'Numbers of refusal' and 'Offers and runs').
-use Prim.Native.Nat.{ℕ, zero, suc, _+_, _-_}
+-- Steps: ask, start and finish (document 01, 'Numbers of refusal' and 'Offers and runs'). The answer to a step says nothing of what becomes of the run; what an
+-- answer makes of a run stands by itself; and a step is the one and then the other.
+use Prim.Native.Nat.{ℕ, zero, suc, _+_, _*_, _-_}
 use mathlib.Core.Bool.{Bool, true, false, cond, _&&_}
-use mathlib.Core.List.{List, [], _∷_}
+use mathlib.Core.List.{List}
 use mathlib.Core.Option.{Option, none, some}
 use lib.Dec.{ltb}
 use lib.IntN.{ℤ, pos, _+ℤ_}
-use lib.ListN.{getD, set, replicate}
+use lib.ListN.{replicate}
 use Rattle.text.specs.Numbers.{within}
 use Rattle.clock.specs.declared.RunTime.{RunTime}
+use Rattle.plan.specs.declared.Job.{Job}
 use Rattle.plan.specs.declared.Plan.{Plan}
 use Rattle.lines.specs.declared.Refusal.{Refusal}
 use Rattle.lines.specs.declared.Refusal.the-variants as refusal
-use Rattle.plan.specs.Limits.{mostJobs}
 use Rattle.lines.specs.Refusals.{outsideLimits}
-use Rattle.plan.specs.PlanLines.{noJob}
 use Rattle.plan.specs.PlanWritten.{judgedPlan}
 use Rattle.calendars.specs.declared.Calendar.{Calendar}
-use Rattle.runs.specs.declared.Probe.{Probe}
+use Rattle.calendars.specs.Calendars.{mostEvents}
+use Rattle.runs.specs.declared.Before.{Before}
+use Rattle.runs.specs.declared.Before.the-variants.{Nothing, Window}
+use Rattle.runs.specs.declared.Turn.{Turn}
 use Rattle.runs.specs.declared.Phase.{Phase}
 use Rattle.runs.specs.declared.Phase.the-variants.{Waiting, Running}
 use Rattle.runs.specs.declared.Run.{Run}
@@ -30,77 +33,78 @@ use Rattle.runs.specs.declared.Step.the-variants.{Ask, Start, Finish}
 use Rattle.runs.specs.declared.Answer.{Answer}
 use Rattle.runs.specs.declared.Answer.the-variants.{Offered, Started, Final, Refused}
 use Rattle.runs.specs.declared.Answered.{Answered}
-use Rattle.runs.specs.ValueLimits.{isTime, isRun, isCalendar}
-use Rattle.runs.specs.Offers.{noProbe, opening}
+use Rattle.runs.specs.Seen.{jobSeen, toFront}
+use Rattle.runs.specs.ValueLimits.{isTime, jobOfPhase, isRun, isCalendar}
+use Rattle.runs.specs.Offers.{turnOf, openingAt}
 
--- ---- runs
+-- ---- the answer to a step, with a plan, a calendar and times inside their limits
 
-abbrev pub noProbes : List Probe
-noProbes = replicate mostJobs noProbe
+unfoldable pub asked : Opening → Answer
+asked (Open j i o) = Offered o
+asked (Shut x) = Refused x
+
+-- '8 | start outside the offer'
+abbrev pub startedBy : ℕ → ℕ → Offer → Choice → Answer
+startedBy j i o (At t) = cond (within (o .from .0) (o .to .0) (t .0)) (Started j i t) (Refused refusal.OutsideOffer)
+-- '`start=auto` (the offer's lower end)'; '2,0 instead for an auto start outside the range of T'
+startedBy j i o Auto = cond (isTime (o .from)) (Started j i (o .from)) (Refused outsideLimits)
+
+unfoldable pub started : Choice → Opening → Answer
+started choice (Open j i o) = startedBy j i o choice
+started choice (Shut x) = Refused x
+
+-- '9 | finish earlier than start + min or later than start + max'
+abbrev pub finishedSince : Job → ℕ → ℕ → RunTime → RunTime → Answer
+finishedSince job j i s t =
+    cond (within (s .0 +ℤ job .min) (s .0 +ℤ job .max) (t .0)) (Final j i t) (Refused refusal.OutsideTimes)
+
+-- '7 | finish while none runs'
+unfoldable pub finished : Job → RunTime → Phase → Answer
+finished job t (Waiting j i) = Refused refusal.Idle
+finished job t (Running j i s) = finishedSince job j i s t
+
+-- 'For ask and start: 10, 6, 11, 8 (2,0 instead for an auto start outside the range of T). For finish: 7, 9.'
+unfoldable pub answerAt : Turn → List ℤ → List ℤ → Run → Step → Answer
+answerAt d cs ds r Ask = asked (openingAt d cs ds r (r .phase))
+answerAt d cs ds r (Start choice) = started choice (openingAt d cs ds r (r .phase))
+answerAt d cs ds r (Finish t) = finished (d .job) t (r .phase)
+
+abbrev pub answerOf : Plan → Calendar → Run → Step → Answer
+answerOf p c r st = answerAt (turnOf p c (jobOfPhase (r .phase))) (c .«at_least») (c .«at_most») r st
+
+-- ---- what an answer makes of a run
 
 -- a run at its beginning
 abbrev pub newRun : Run
-newRun = record { phase = Waiting 1 1; «has_previous» = false; previous = noProbes; present = noProbes }
+newRun = record { phase = Waiting 1 1; before = Nothing; seen = replicate mostEvents (pos 0) }
 
--- 'None changes the run': a refusal with the run as it came in
-abbrev pub refusedWith : Run → Refusal → Answered
-refusedWith r x = record { answer = Refused x; run = r }
+-- the job that runs since s has finished at t, and the run moves on: to the window's next job, or to the next window, for which this one is the previous window
+abbrev pub closedSince : ℕ → Run → ℕ → ℕ → RunTime → RunTime → Run
+closedSince jobs r j i s t =
+    let seen = jobSeen jobs (i - 1) s t (r .seen) in
+    cond (ltb i jobs)
+    (record { phase = Waiting j (i + 1); before = r .before; seen = seen })
+    (record { phase = Waiting (j + 1) 1; before = Window; seen = toFront (2 * jobs) seen })
 
--- ---- ask
+unfoldable pub closed : ℕ → Run → RunTime → Phase → Run
+closed jobs r t (Waiting j i) = r
+closed jobs r t (Running j i s) = closedSince jobs r j i s t
 
-unfoldable pub asked : Run → Opening → Answered
-asked r (Open j i o) = record { answer = Offered o; run = r }
-asked r (Shut x) = refusedWith r x
+-- a start and a finish move the run; an offer leaves it; of refusals: 'None changes the run'
+unfoldable pub moved : ℕ → Run → Answer → Run
+moved jobs r (Offered o) = r
+moved jobs r (Started j i t) = record { phase = Running j i t; before = r .before; seen = r .seen }
+moved jobs r (Final j i t) = closed jobs r t (r .phase)
+moved jobs r (Refused x) = r
 
--- ---- start
+-- ---- a step: its answer, and the run after it
 
--- job i of window j runs from t on
-abbrev pub startedAt : Run → ℕ → ℕ → RunTime → Answered
-startedAt r j i t =
-    record {
-      answer = Started j i t;
-      run =
-          record { phase = Running j i t; «has_previous» = r .«has_previous»; previous = r .previous; present = r .present };
-    }
+-- an answer, and what it makes of the run
+abbrev pub answeredBy : Plan → Run → Answer → Answered
+answeredBy p r a = record { answer = a; run = moved (p .jobs) r a }
 
--- '8 | start outside the offer'
-abbrev pub startedBy : Run → ℕ → ℕ → Offer → Choice → Answered
-startedBy r j i o (At t) =
-    cond (within (o .from .0) (o .to .0) (t .0)) (startedAt r j i t) (refusedWith r refusal.OutsideOffer)
--- '`start=auto` (the offer's lower end)'; '2,0 instead for an auto start outside the range of T'
-startedBy r j i o Auto = cond (isTime (o .from)) (startedAt r j i (o .from)) (refusedWith r outsideLimits)
-
-unfoldable pub started : Run → Choice → Opening → Answered
-started r choice (Open j i o) = startedBy r j i o choice
-started r choice (Shut x) = refusedWith r x
-
--- ---- finish
-
--- the finish of a job is recorded, and the run moves on: to the window's next job, or to the next window, for which this one is the
--- previous window
-unfoldable pub closed : Plan → Run → ℕ → ℕ → Probe → Run
-closed p r j i q =
-    let present = set (r .present) (i - 1) q in
-    cond (ltb i (p .jobs))
-    (record { phase = Waiting j (i + 1); «has_previous» = r .«has_previous»; previous = r .previous; present = present })
-    (record { phase = Waiting (j + 1) 1; «has_previous» = true; previous = present; present = noProbes })
-
--- '9 | finish earlier than start + min or later than start + max'
-unfoldable pub finished : Plan → Run → RunTime → Phase → Answered
-finished p r t (Waiting j i) = refusedWith r refusal.Idle
-finished p r t (Running j i s) =
-    let job = getD (p .job) (i - 1) noJob in
-    cond (within (s .0 +ℤ job .min) (s .0 +ℤ job .max) (t .0))
-    (record { answer = Final j i t; run = closed p r j i (record { start = s; finish = t }) })
-    (refusedWith r refusal.OutsideTimes)
-
--- ---- a step on a run, with a plan, a calendar and times inside their limits
-
--- 'For ask and start: 10, 6, 11, 8 (2,0 instead for an auto start outside the range of T). For finish: 7, 9.'
-unfoldable pub stepped : Plan → Calendar → Run → Step → Answered
-stepped p c r Ask = asked r (opening p c r)
-stepped p c r (Start choice) = started r choice (opening p c r)
-stepped p c r (Finish t) = finished p r t (r .phase)
+abbrev pub stepped : Plan → Calendar → Run → Step → Answered
+stepped p c r st = answeredBy p r (answerOf p c r st)
 
 -- ---- a step on values that are handed over
 
@@ -117,11 +121,14 @@ valuesRefused (some x) inside = some x
 valuesRefused none true = none
 valuesRefused none false = some outsideLimits
 
-unfoldable pub unlessRefused : Run → Option Refusal → Answered → Answered
-unlessRefused r (some x) a = refusedWith r x
-unlessRefused r none a = a
+unfoldable pub unlessRefused : Option Refusal → Answer → Answer
+unlessRefused (some x) a = Refused x
+unlessRefused none a = a
 
-unfoldable pub step : Plan → Calendar → Run → Step → Answered
-step p c r st =
-    let inside = isRun p r && isCalendar p c && isStep st in
-    unlessRefused r (valuesRefused (judgedPlan p) inside) (stepped p c r st)
+-- the answer to a step on values
+unfoldable pub valuesAnswer : Plan → Calendar → Run → Step → Answer
+valuesAnswer p c r st =
+    let inside = isRun p r && isCalendar p c && isStep st in unlessRefused (valuesRefused (judgedPlan p) inside) (answerOf p c r st)
+
+abbrev pub step : Plan → Calendar → Run → Step → Answered
+step p c r st = answeredBy p r (valuesAnswer p c r st)

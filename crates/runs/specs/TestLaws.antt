@@ -1,9 +1,11 @@
 -- Tests joined by "and" and "or": what a joined test says of its parts, and the parts of it.
-use Prim.Native.Nat.{ℕ}
+use Prim.Native.Nat.{ℕ, suc, _≤_}
 use mathlib.Core.Path.{_≡_, refl}
+use mathlib.Core.Logic.{_⊎_, inl, inr}
 use mathlib.Core.Bool.{Bool, true, false, not, _&&_, _||_}
 use native.Mathlib.Omega.{arith}
-use borrow.Author.Tests.{not-false}
+use lib.Dec.{leb}
+use borrow.Author.Tests.{not-false, leb-true, leb-false}
 
 pub true-not-false : _≡_ {A = Bool} true false → ⊥
 true-not-false e = let z : _≡_ {A = ℕ} 0 1 = cc in omega arith
@@ -66,3 +68,11 @@ or-neither-left false b e = refl
 pub or-neither-right : (a b : Bool) → (a || b) ≡ false → b ≡ false
 or-neither-right true b e = let z : _≡_ {A = ℕ} 0 1 = cc in absurd (omega arith)
 or-neither-right false b e = e
+
+-- an event from e on is e, or comes after it
+pub here-or-later : (e k : ℕ) → e ≤ k → (k ≡ e) ⊎ (suc e ≤ k)
+here-or-later e k h = by (leb k e) refl
+  where
+    by : (b : Bool) → leb k e ≡ b → (k ≡ e) ⊎ (suc e ≤ k)
+    by true t = inl (omega (arith, leb-true k e t))
+    by false t = inr (omega (arith, leb-false k e t))

@@ -1,6 +1,5 @@
 -- No two answers meet the promise of a public operation: each promise is an equation, and `only` of the crate `text` says the rest.
 use mathlib.Core.Path.{_≡_}
-use mathlib.Core.Bool.{Bool}
 use mathlib.Core.List.{List}
 use Prim.Native.Nat.{ℕ, _-_}
 use lib.IntN.{ℤ}
@@ -15,14 +14,11 @@ use Rattle.runs.specs.declared.Step.{Step}
 use Rattle.runs.specs.declared.Step.the-variants.{Ask, Start, Finish}
 use Rattle.runs.specs.declared.Answer.{Answer}
 use Rattle.runs.specs.declared.Answered.{Answered}
-use Rattle.runs.specs.declared.Move.{Move}
-use Rattle.runs.specs.declared.Probe.{Probe}
-use Rattle.runs.specs.declared.Due.{Due}
+use Rattle.runs.specs.declared.Turn.{Turn}
+use Rattle.runs.specs.declared.Moved.{Moved}
 use Rattle.runs.specs.ValueLimits.{jobOfPhase}
-use Rattle.runs.specs.Steps.{newRun, stepped, step}
-use Rattle.runs.specs.Due.{duePlan, dueCalendar}
-use Rattle.runs.specs.Seen.{probePut, runOf}
-use Rattle.runs.specs.Moves.{moveOf}
+use Rattle.runs.specs.Steps.{newRun, answerAt, moved, step}
+use Rattle.runs.specs.Inside.{movedOf}
 
 pub new-run-unique : {r q : Run} → r ≡ newRun → q ≡ newRun → r ≡ q
 new-run-unique = only
@@ -50,14 +46,12 @@ module _ (p : Plan) (c : Calendar) (run : Run) where
 pub jobs-done-unique : (f : Phase) {r q : ℕ} → r ≡ jobOfPhase f - 1 → q ≡ jobOfPhase f - 1 → r ≡ q
 jobs-done-unique f = only
 
-pub answer-due-unique : (d : Due) (least most : List ℤ) (f : Phase) (has : Bool) (previous present : List ℤ) (st : Step) {r q : Answer}
-    → r ≡ stepped (duePlan d) (dueCalendar d least most) (runOf f has previous present) st .answer
-    → q ≡ stepped (duePlan d) (dueCalendar d least most) (runOf f has previous present) st .answer
-    → r ≡ q
-answer-due-unique d least most f has previous present st = only
+pub answer-step-unique : (d : Turn) (least most : List ℤ) (run : Run) (st : Step) {r q : Answer}
+    → r ≡ answerAt d least most run st → q ≡ answerAt d least most run st → r ≡ q
+answer-step-unique d least most run st = only
 
-pub move-of-unique : (jobs : ℕ) (f : Phase) (a : Answer) {r q : Move} → r ≡ moveOf jobs f a → q ≡ moveOf jobs f a → r ≡ q
-move-of-unique jobs f a = only
+pub move-run-unique : (jobs : ℕ) (run : Run) (a : Answer) {r q : Moved} → r ≡ movedOf (moved jobs run a) → q ≡ movedOf (moved jobs run a) → r ≡ q
+move-run-unique jobs run a = only
 
-pub put-probe-unique : (ts : List ℤ) (k : ℕ) (p : Probe) {r q : List ℤ} → r ≡ probePut ts k p → q ≡ probePut ts k p → r ≡ q
-put-probe-unique ts k p = only
+pub move-run-seen-unique : (jobs : ℕ) (run : Run) (a : Answer) {s t : List ℤ} → s ≡ moved jobs run a .seen → t ≡ moved jobs run a .seen → s ≡ t
+move-run-seen-unique jobs run a = only

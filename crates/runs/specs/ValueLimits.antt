@@ -5,7 +5,7 @@ use mathlib.Core.Bool.{Bool, true, false, not, cond, _&&_, _||_}
 use mathlib.Core.List.{List, [], _∷_}
 use lib.Dec.{eqb, leb, ltb}
 use lib.IntN.{ℤ, pos}
-use lib.ListN.{getD, take}
+use lib.ListN.{getD}
 use Rattle.text.specs.Numbers.{within}
 use Rattle.clock.specs.declared.RunTime.{RunTime}
 use Rattle.plan.specs.declared.Plan.{Plan}
@@ -16,10 +16,10 @@ use Rattle.calendars.specs.declared.Terms.{Terms}
 use Rattle.calendars.specs.declared.Calendar.{Calendar}
 use Rattle.events.specs.Bits.{hasEvent}
 use Rattle.calendars.specs.Calendars.{eventsBefore, mostEvents, noTerms}
-use Rattle.runs.specs.declared.Probe.{Probe}
 use Rattle.runs.specs.declared.Phase.{Phase}
 use Rattle.runs.specs.declared.Phase.the-variants.{Waiting, Running}
 use Rattle.runs.specs.declared.Run.{Run}
+use Rattle.runs.specs.Seen.{timeAt, firstSeen}
 
 -- ---- 'times are 0..100,000,000,000,000,000'
 
@@ -29,9 +29,10 @@ lastTime = pos 100000000000000000
 abbrev pub isTime : RunTime → Bool
 isTime t = within (pos 0) lastTime (t .0)
 
-unfoldable pub areTimes : List Probe → Bool
-areTimes [] = true
-areTimes (q ∷ qs) = isTime (q .start) && isTime (q .finish) && areTimes qs
+-- those of n events from event e on
+unfoldable pub areTimes : List ℤ → ℕ → ℕ → Bool
+areTimes seen e zero = true
+areTimes seen e (suc n) = isTime (timeAt seen e) && areTimes seen (suc e) n
 
 -- ---- runs
 
@@ -49,12 +50,11 @@ abbrev pub jobOfPhase : Phase → ℕ
 jobOfPhase (Waiting j i) = i
 jobOfPhase (Running j i t) = i
 
--- the phase, and every time that the run has seen
+-- the phase, and every time that the run has seen: up to the start that is due or that is running
 unfoldable pub isRun : Plan → Run → Bool
 isRun p r =
-    isPhase p (r .phase)
-    && cond (r .«has_previous») (areTimes (take (p .jobs) (r .previous))) true
-    && areTimes (take (jobOfPhase (r .phase) - 1) (r .present))
+    let first = firstSeen (p .jobs) (r .before) in
+    isPhase p (r .phase) && areTimes (r .seen) first (eventsBefore p (jobOfPhase (r .phase) - 1) - first)
 
 -- ---- calendars
 

@@ -5,34 +5,25 @@ mod limits;
 mod moves;
 mod offers;
 mod on_values;
+mod seen;
 mod steps;
 
 use calendars::Terms;
 use clock::RunTime;
+use events::MOST_EVENTS;
 pub use limits::jobs_done;
 use lines::Refusal;
-pub use moves::move_of;
+pub use moves::move_run;
 pub use moves::new_run;
-pub use moves::put_probe;
 pub use on_values::ask;
 pub use on_values::finish_at;
 pub use on_values::start_at;
 pub use on_values::start_auto;
 pub use on_values::take_step;
-use plan::MOST_JOBS;
-pub use steps::answer_due;
-
-// The times of one window: a start and a finish for each job.
-pub const MOST_SEEN: usize = 18;
+pub use steps::answer_step;
 
 // The last time that a run or a step can name.
 pub const LAST_TIME: i64 = 100_000_000_000_000_000;
-
-// A probe that has finished: when it started and when it finished.
-pub struct Probe {
-    pub start: RunTime,
-    pub finish: RunTime,
-}
 
 // A run waits for the start of a job, or is running one since some start; windows and jobs are counted from 1. A run that waits in a
 // window past the plan's last one is over.
@@ -48,13 +39,19 @@ pub enum Phase {
     },
 }
 
-// A run: its phase, and the times seen of the previous and of the present window. Without a previous window its places are no part of the
-// run, and neither are those of jobs that the present window has not finished.
+// What is before the present window of a run: nothing, or a window of which every event was seen.
+pub enum Before {
+    Nothing,
+    Window,
+}
+
+// A run: its phase, what is before its present window, and the times that it has seen, on the run's clock. The time of event e of a calendar stands at place e: the
+// previous window's events first, then the present window's. Places of a previous window where there is none, and those of jobs that the present window has not
+// finished, are no part of the run.
 pub struct Run {
-    pub has_previous: bool,
     pub phase: Phase,
-    pub previous: [Probe; MOST_JOBS],
-    pub present: [Probe; MOST_JOBS],
+    pub before: Before,
+    pub seen: [i64; MOST_EVENTS],
 }
 
 // The starts that are on offer: from the greatest lower bound to the least upper bound, both ends included.
@@ -102,20 +99,10 @@ pub enum Answer {
     Refused(Refusal),
 }
 
-// What an answer makes of a run: nothing, or another phase, or a finish recorded and another phase, in this window or in the next one.
-pub enum Move {
-    Stay,
-    Begin(Phase),
-    Next {
-        place: usize,
-        probe: Probe,
-        phase: Phase,
-    },
-    Close {
-        place: usize,
-        probe: Probe,
-        phase: Phase,
-    },
+// What an answer makes of a run, beside the times that it has seen.
+pub struct Moved {
+    pub phase: Phase,
+    pub before: Before,
 }
 
 // The answer to a step and the run after it; where the step is refused, the run as it came in.
@@ -124,8 +111,9 @@ pub struct Answered {
     pub run: Run,
 }
 
-// What a step reads of its plan and its calendar: the plan's window, last and jobs, and the limits and the terms of the job that is due.
-pub struct Due {
+// The job whose turn it is: what its plan says of windows and jobs, and for this job its limits and the terms of its calendar. A step reads nothing else of them but the
+// c of the terms, so that neither is copied from step to step.
+pub struct Turn {
     pub window: i32,
     pub last: u64,
     pub jobs: usize,

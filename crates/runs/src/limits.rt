@@ -2,21 +2,22 @@
 
 use crate::LAST_TIME;
 use crate::Phase;
-use crate::Probe;
 use crate::Run;
 use crate::Step;
+use crate::seen::first_seen;
+use crate::seen::time_at;
 use calendars::Calendar;
-use calendars::MOST_EVENTS;
 use calendars::MOST_TERMS;
 use calendars::Terms;
 use clock::RunTime;
 use events::Events;
-use plan::MOST_JOBS;
+use events::MOST_EVENTS;
 use plan::Plan;
 use plan::is_c;
 ghost use mathlib.Core.Path.{_≡_};
-ghost use Prim.Native.Nat.{_-_, _≤_, _<_};
-ghost use lib.ListN.{take};
+ghost use Prim.Native.Nat.{_+_, _-_, _≤_, _<_};
+ghost use Rattle.plan.specs.Limits.{mostJobs};
+ghost use Rattle.calendars.specs.Calendars.{mostEvents};
 ghost use Rattle.runs.specs.ValueLimits.{isTime, areTimes, isTurn, isPhase, jobOfPhase, isRun, isOut, isSide, areTermsOf, isCalendar};
 ghost use Rattle.runs.specs.Steps.{isStep};
 
@@ -29,25 +30,19 @@ pub fn is_time(t: RunTime) -> bool
     clock::is_between(first, last, t)
 }
 
-// Whether the first count probes have times inside the limits.
-fn are_times(seen: [Probe; MOST_JOBS], count: usize) -> bool
-    ensures { λ r. ⌜ r ≡ areTimes (take count seen) ⌝ }
+// Whether the events from the first one on, before count, have times inside the limits.
+fn are_times(seen: &[i64; MOST_EVENTS], first: usize, count: usize) -> bool
+    requires { ⌜ first ≤ count ⌝ }
+    requires { ⌜ count ≤ mostEvents ⌝ }
+    ensures { λ r. ⌜ r ≡ areTimes (now (seen .entry)) first (count - first) ⌝ }
 {
-    let mut i: usize = 0;
-    while i < count {
-        if MOST_JOBS <= i {
-            return true;
-        }
-        let q = seen[i];
-        let start = q.start;
-        let finish = q.finish;
-        if !is_time(start) {
+    let mut e = first;
+    while e < count {
+        let t = time_at(seen, e);
+        if !is_time(t) {
             return false;
         }
-        if !is_time(finish) {
-            return false;
-        }
-        i += 1;
+        e += 1;
     }
     true
 }
@@ -127,22 +122,20 @@ pub fn jobs_done(phase: Phase) -> usize
 
 // Whether a run is one of the plan's: its phase, and every time that it has seen.
 pub fn is_run(p: Plan, run: Run) -> bool
+    requires { ⌜ p .jobs ≤ mostJobs ⌝ }
     ensures { λ r. ⌜ r ≡ isRun p run ⌝ }
 {
     let phase = run.phase;
-    let present = run.present;
+    let before = run.before;
     if !is_phase(p, phase) {
         return false;
     }
+    let jobs = p.jobs;
     let done = jobs_done(phase);
-    if run.has_previous {
-        let previous = run.previous;
-        if !are_times(previous, p.jobs) {
-            return false;
-        }
-        return are_times(present, done);
-    }
-    are_times(present, done)
+    let places = jobs + done;
+    let ahead = 2 * places;
+    let first = first_seen(jobs, before);
+    are_times(&run.seen, first, ahead)
 }
 
 // Whether the time that a step brings with it is inside the limits.
@@ -176,8 +169,8 @@ fn is_out(set: u64, e: usize, c: i32) -> bool
 
 // Whether one side of the job at place i names events before its start only, each with a c in range.
 fn is_side(p: Plan, i: usize, set: u64, cs: &[i32; MOST_TERMS]) -> bool
-    requires { ⌜ p .jobs ≤ 9 ⌝ }
-    requires { ⌜ i < 9 ⌝ }
+    requires { ⌜ p .jobs ≤ mostJobs ⌝ }
+    requires { ⌜ i < mostJobs ⌝ }
     ensures { λ r. ⌜ r ≡ isSide p i set (now (cs .entry)) ⌝ }
 {
     let places = p.jobs + i;
@@ -207,8 +200,8 @@ fn are_terms(
     least: &[i32; MOST_TERMS],
     most: &[i32; MOST_TERMS],
 ) -> bool
-    requires { ⌜ p .jobs ≤ 9 ⌝ }
-    requires { ⌜ i < 9 ⌝ }
+    requires { ⌜ p .jobs ≤ mostJobs ⌝ }
+    requires { ⌜ i < mostJobs ⌝ }
     ensures { λ r. ⌜ r ≡ areTermsOf p i t (now (least .entry)) (now (most .entry)) ⌝ }
 {
     let low = t.low;
@@ -229,7 +222,7 @@ fn are_terms(
 
 // Whether a calendar is inside the limits, for each job of the plan.
 pub fn is_calendar(p: Plan, c: Calendar) -> bool
-    requires { ⌜ p .jobs ≤ 9 ⌝ }
+    requires { ⌜ p .jobs ≤ mostJobs ⌝ }
     ensures { λ r. ⌜ r ≡ isCalendar p c ⌝ }
 {
     let jobs = p.jobs;

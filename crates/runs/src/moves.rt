@@ -1,180 +1,129 @@
 // What an answer makes of a run.
 
 use crate::Answer;
-use crate::MOST_SEEN;
-use crate::Move;
+use crate::Before;
+use crate::Moved;
 use crate::Phase;
-use crate::Probe;
 use crate::Run;
+use crate::seen::put_job;
+use crate::seen::put_to_front;
 use clock::RunTime;
-use plan::MOST_JOBS;
+use events::MOST_EVENTS;
 ghost use mathlib.Core.Path.{_≡_};
-ghost use Prim.Native.Nat.{_<_};
 ghost use Rattle.runs.specs.Steps as steps;
-ghost use Rattle.runs.specs.Moves as moves;
-ghost use Rattle.runs.specs.Seen.{probesOf, probePut};
-
-// The times of a window of which nothing has been seen.
-fn no_probes() -> [Probe; MOST_JOBS]
-    ensures { λ r. ⌜ r ≡ steps.noProbes ⌝ }
-{
-    let q = Probe {
-        start: RunTime(0),
-        finish: RunTime(0),
-    };
-    [q; MOST_JOBS]
-}
+ghost use Rattle.runs.specs.declared.Phase.the-variants.{Running};
+ghost use Rattle.runs.specs.Inside.{runOf, movedOf, TurnInside, MoveInside};
 
 // A run at its beginning.
 pub fn new_run() -> Run
     ensures { λ r. ⌜ r ≡ steps.newRun ⌝ }
 {
     let phase = Phase::Waiting { window: 1, job: 1 };
-    let none = no_probes();
+    let before = Before::Nothing;
+    let seen = [0i64; MOST_EVENTS];
     Run {
         phase: phase,
-        has_previous: false,
-        previous: none,
-        present: none,
+        before: before,
+        seen: seen,
     }
 }
 
-// A finish at t is recorded, and the run moves on: to the window's next job, or to the next window.
-fn final_move(jobs: usize, t: RunTime, phase: Phase) -> Move
-    requires { ⌜ moves.Moving phase ⌝ }
-    ensures { λ r. ⌜ r ≡ moves.finalMove jobs t phase ⌝ }
+// Job i of window j, which runs since some start, has finished at t: the run moves on to the window's next job, or to the next window.
+fn close(
+    jobs: usize,
+    j: u64,
+    i: usize,
+    start: RunTime,
+    before: Before,
+    seen: &mut [i64; MOST_EVENTS],
+    t: RunTime,
+) -> Moved
+    requires { ⌜ TurnInside jobs j i ⌝ }
+    ensures { λ r. ⌜ runOf (r .phase) (r .before) (now (seen .exit)) ≡ steps.closedSince jobs (runOf (Running j i start) before (now (seen .entry))) j i start t ⌝ }
+{
+    let place = i - 1;
+    put_job(seen, jobs, place, start, t);
+    if i < jobs {
+        let after = i + 1;
+        let next = Phase::Waiting {
+            window: j,
+            job: after,
+        };
+        return Moved {
+            phase: next,
+            before: before,
+        };
+    }
+    let own = 2 * jobs;
+    put_to_front(seen, own);
+    let later = j + 1;
+    let first = Phase::Waiting {
+        window: later,
+        job: 1,
+    };
+    let window = Before::Window;
+    Moved {
+        phase: first,
+        before: window,
+    }
+}
+
+// A finish at t is accepted, in some phase.
+fn close_in(
+    jobs: usize,
+    phase: Phase,
+    before: Before,
+    seen: &mut [i64; MOST_EVENTS],
+    t: RunTime,
+) -> Moved
+    requires { ⌜ MoveInside jobs phase ⌝ }
+    ensures { λ r. ⌜ runOf (r .phase) (r .before) (now (seen .exit)) ≡ steps.closed jobs (runOf phase before (now (seen .entry))) t phase ⌝ }
 {
     match phase {
-        Phase::Waiting { window: _, job: _ } => Move::Stay,
-        Phase::Running { window, job, start } => {
-            let place = job - 1;
-            let q = Probe {
-                start: start,
-                finish: t,
-            };
-            if job < jobs {
-                let after = job + 1;
-                return Move::Next {
-                    place: place,
-                    probe: q,
-                    phase: Phase::Waiting {
-                        window: window,
-                        job: after,
-                    },
-                };
-            }
-            let later = window + 1;
-            Move::Close {
-                place: place,
-                probe: q,
-                phase: Phase::Waiting {
-                    window: later,
-                    job: 1,
-                },
-            }
-        }
+        Phase::Waiting { window: _, job: _ } => Moved {
+            phase: phase,
+            before: before,
+        },
+        Phase::Running { window, job, start } => close(jobs, window, job, start, before, seen, t),
     }
 }
 
-// What an answer makes of a run in some phase: only a start and a finish move it.
-pub fn move_of(jobs: usize, phase: Phase, answer: Answer) -> Move
-    requires { ⌜ moves.Moving phase ⌝ }
-    ensures { λ r. ⌜ r ≡ moves.moveOf jobs phase answer ⌝ }
+// What an answer makes of a run: only a start and a finish move it.
+pub fn move_run(
+    jobs: usize,
+    phase: Phase,
+    before: Before,
+    seen: &mut [i64; MOST_EVENTS],
+    answer: Answer,
+) -> Moved
+    requires { ⌜ MoveInside jobs phase ⌝ }
+    ensures { λ r. ⌜ r ≡ movedOf (steps.moved jobs (runOf phase before (now (seen .entry))) answer) ⌝ }
+    ensures { λ _. ⌜ now (seen .exit) ≡ steps.moved jobs (runOf phase before (now (seen .entry))) answer .seen ⌝ }
 {
+    let behind = before;
+    let same = Moved {
+        phase: phase,
+        before: behind,
+    };
     match answer {
-        Answer::Offered(_) => Move::Stay,
-        Answer::Started { window, job, start } => Move::Begin(Phase::Running {
-            window: window,
-            job: job,
-            start: start,
-        }),
+        Answer::Offered(_) => same,
+        Answer::Started { window, job, start } => {
+            let running = Phase::Running {
+                window: window,
+                job: job,
+                start: start,
+            };
+            let kept = before;
+            Moved {
+                phase: running,
+                before: kept,
+            }
+        }
         Answer::Final {
             window: _,
             job: _,
             finish,
-        } => final_move(jobs, finish, phase),
-        Answer::Refused(_) => Move::Stay,
+        } => close_in(jobs, phase, before, seen, finish),
+        Answer::Refused(_) => same,
     }
-}
-
-// A run in another phase.
-fn in_phase(run: Run, phase: Phase) -> Run
-    ensures { λ r. ⌜ r ≡ moves.inPhase run phase ⌝ }
-{
-    let previous = run.previous;
-    let present = run.present;
-    Run {
-        phase: phase,
-        has_previous: run.has_previous,
-        previous: previous,
-        present: present,
-    }
-}
-
-// A run after a move.
-pub fn moved(run: Run, m: Move) -> Run
-    requires { ⌜ moves.Placed m ⌝ }
-    ensures { λ r. ⌜ r ≡ moves.moved run m ⌝ }
-{
-    match m {
-        Move::Stay => run,
-        Move::Begin(phase) => in_phase(run, phase),
-        Move::Next {
-            place,
-            probe,
-            phase,
-        } => {
-            let previous = run.previous;
-            let mut present = run.present;
-            present[place] = probe;
-            Run {
-                phase: phase,
-                has_previous: run.has_previous,
-                previous: previous,
-                present: present,
-            }
-        }
-        Move::Close {
-            place,
-            probe,
-            phase,
-        } => {
-            let mut ended = run.present;
-            ended[place] = probe;
-            let fresh = no_probes();
-            Run {
-                phase: phase,
-                has_previous: true,
-                previous: ended,
-                present: fresh,
-            }
-        }
-    }
-}
-
-// The two times of a probe, put at the places of its events.
-pub fn put_probe(seen: &mut [i64; MOST_SEEN], place: usize, q: Probe)
-    requires { ⌜ place < 9 ⌝ }
-    ensures { λ _. ⌜ now (seen .exit) ≡ probePut (now (seen .entry)) place q ⌝ }
-{
-    let start = q.start;
-    let finish = q.finish;
-    let s = start.0;
-    let f = finish.0;
-    seen[2 * place] = s;
-    seen[2 * place + 1] = f;
-}
-
-// The times of a window's events, in their order.
-pub fn times_seen(seen: [Probe; MOST_JOBS]) -> [i64; MOST_SEEN]
-    ensures { λ r. ⌜ probesOf r ≡ seen ⌝ }
-{
-    let mut times = [0i64; MOST_SEEN];
-    let mut k = 0;
-    while k < MOST_JOBS {
-        let q = seen[k];
-        put_probe(&mut times, k, q);
-        k += 1;
-    }
-    times
 }

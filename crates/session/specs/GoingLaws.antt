@@ -26,18 +26,20 @@ use Rattle.session.specs.declared.StepAt.the-variants as stepAt
 use Rattle.session.specs.StepRead.{stepLine}
 use Rattle.session.specs.StepAt.{StepEnds}
 use Rattle.session.specs.AnswerText.{answerLine, endsSession}
-use Rattle.session.specs.Sessions.{answers}
-use Rattle.session.specs.SessionLaws.{answers-end, answers-refused, answers-last, answers-more}
+use Rattle.session.specs.Sessions.{Dispatched, dispatched, answers}
+use Rattle.session.specs.SessionLaws.{dispatched-end, dispatched-refused, dispatched-last, dispatched-more, answers-end, answers-refused, answers-last, answers-more}
 
--- what the loop comes to: all answers, written, and a bound of their length from that of the text
-pub record Done (text out₀ : List ℕ) (from at : ℕ) (whole : List ℕ) (out : List ℕ) (end : ℕ) : Type 0 where
-  pub stored : Stored out₀ at whole out end
+-- what the loop comes to: all answers, written, the run after them, and a bound of their length from that of the text
+pub record Done (text out₀ : List ℕ) (from at : ℕ) (whole : Dispatched) (out : List ℕ) (end : ℕ) (run : Run) : Type 0 where
+  pub stored : Stored out₀ at (whole .lines) out end
+  pub left : run ≡ whole .run
   pub short : end + 7 * from ≤ at + 7 * length text + 56
 
 -- where it stands: whatever writes the answers that are left has written all of them
 pub record Going (p : Plan) (c : Calendar) (text out₀ : List ℕ) (from line at : ℕ) (run₀ : Run) (out : List ℕ) (run : Run) (place number end : ℕ) : Type 0 where
   pub left : (o : List ℕ) (e : ℕ) → Stored out end (answers p c run (drop place text) number) o e
       → Stored out₀ at (answers p c run₀ (drop from text) line) o e
+  pub same-run : dispatched p c run (drop place text) number .run ≡ dispatched p c run₀ (drop from text) line .run
   pub same : length out ≡ length out₀
   pub inside : Inside p c run
   pub placed : place ≤ length text
@@ -48,18 +50,19 @@ nothing-stored : (out : List ℕ) (end : ℕ) → Stored out end [] out end
 nothing-stored out end = record { place = sym (add-zero end); slice = sym (put-nil out end) }
 
 module _ (p : Plan) (c : Calendar) (text out₀ : List ℕ) (from line at : ℕ) (run₀ : Run) where
-  abbrev Whole : List ℕ
-  Whole = answers p c run₀ (drop from text) line
+  abbrev Whole : Dispatched
+  Whole = dispatched p c run₀ (drop from text) line
 
   pub going-start : from ≤ length text → Inside p c run₀ → Going p c text out₀ from line at run₀ out₀ run₀ from line at
   going-start h i =
-      record { left = λ o e s. s; same = refl; inside = i; placed = h; numbered = omega arith; near = omega arith }
+      record { left = λ o e s. s; same-run = refl; same = refl; inside = i; placed = h; numbered = omega arith; near = omega arith }
 
   module _ (out : List ℕ) (run : Run) (place number end : ℕ) (g : Going p c text out₀ from line at run₀ out run place number end) where
-    pub going-end : length text ≤ place → Done text out₀ from at Whole out end
+    pub going-end : length text ≤ place → Done text out₀ from at Whole out end run
     going-end h =
         record {
           stored = g .left out end (rw (answers-end p c run text place number h) (nothing-stored out end));
+          left = sym (ap (λ (d : Dispatched). d .run) (dispatched-end p c run text place number h)) ∙ g .same-run;
           short = omega arith;
         }
 
@@ -67,18 +70,22 @@ module _ (p : Plan) (c : Calendar) (text out₀ : List ℕ) (from line at : ℕ)
       some : 0 < length (drop place text)
       some = omega (arith, length-drop place text)
 
-      pub going-refused : (x : Refusal) {part : List ℕ} → stepLine (drop place text) number ≡ refused x part → Stored out end (refusedLine x) o e → Done text out₀ from at Whole o e
+      pub going-refused : (x : Refusal) {part : List ℕ} → stepLine (drop place text) number ≡ refused x part → Stored out end (refusedLine x) o e
+          → Done text out₀ from at Whole o e run
       going-refused x {part} d s =
           record {
             stored = g .left o e (rw (answers-refused p c run (drop place text) number some x part d) s);
+            left = sym (ap (λ (d : Dispatched). d .run) (dispatched-refused p c run (drop place text) number some x part d)) ∙ g .same-run;
             short = omega arith;
           }
 
       module _ (st : Step) (next : ℕ) (a : Answered) (d : stepLine (drop place text) number ≡ read st (drop next text) (number + 1)) (q : a ≡ stepped p c run st) (s : Stored out end (answerLine (a .answer)) o e) where
-        pub going-last : endsSession (a .answer) ≡ true → Done text out₀ from at Whole o e
+        pub going-last : endsSession (a .answer) ≡ true → Done text out₀ from at Whole o e (a .run)
         going-last y =
             record {
               stored = g .left o e (rw (answers-last p c run (drop place text) number some st (drop next text) (number + 1) a d q y) s);
+              left =
+                  sym (ap (λ (d : Dispatched). d .run) (dispatched-last p c run (drop place text) number some st (drop next text) (number + 1) a d q y)) ∙ g .same-run;
               short = omega arith;
             }
 
@@ -89,12 +96,14 @@ module _ (p : Plan) (c : Calendar) (text out₀ : List ℕ) (from line at : ℕ)
             let i = g .inside in
             record {
               left = λ o′ e′ s′. g .left o′ e′ (rw more (stored-append s s′));
+              same-run =
+                  sym (ap (λ (d : Dispatched). d .run) (dispatched-more p c run (drop place text) number some st (drop next text) (number + 1) a d q y)) ∙ g .same-run;
               same = ap length (s .slice) ∙ put-length out end (answerLine (a .answer)) ∙ g .same;
               inside =
                   record {
                     plan = i .plan;
                     calendar = i .calendar;
-                    run = rw q (stepped-keeps p c run (i .run) st (w .timed st next v));
+                    run = rw q (stepped-keeps p run (i .run) c st (w .timed st next v));
                   };
               placed = w .most st next v;
               numbered = omega (arith, w .least st next v);

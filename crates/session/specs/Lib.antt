@@ -12,6 +12,7 @@ pub mod Judged
 pub mod StepReadLaws
 pub mod AnswerTextLaws
 pub mod AnswerJobLaws
+pub mod EndLaws
 pub mod SessionLaws
 pub mod SessionReadLaws
 pub mod GoingLaws

@@ -1,23 +1,24 @@
 -- What `refused=4,K` tells back where the dispatch program prints it: no step is answered by 4 (`stepped-not-four`), and no other line begins like a
 -- refusal, so its text began with a plan whose verdict is 'no strategy', K (`dispatch-told`).
-use Prim.Native.Nat.{ℕ, _-_}
+use Prim.Native.Nat.{ℕ}
 use mathlib.Core.Path.{_≡_, refl, sym, ap, _∙_}
 use mathlib.Core.Bool.{Bool, true, false, cond}
 use mathlib.Core.List.{List, [], _∷_, _++_}
 use native.Mathlib.Omega.{arith}
 use lib.Dec.{ltb}
-use lib.IntN.{_+ℤ_}
+use lib.IntN.{ℤ, _+ℤ_}
 use lib.Signed.{ltZ}
 use lib.ListN.{getD}
 use Rattle.text.specs.Bytes.{bytes}
 use Rattle.text.specs.Numbers.{within}
 use Rattle.clock.specs.declared.RunTime.{RunTime}
+use Rattle.plan.specs.declared.Job.{Job}
 use Rattle.plan.specs.declared.Plan.{Plan}
 use Rattle.lines.specs.declared.Refusal.{Refusal}
 use Rattle.lines.specs.declared.Refusal.the-variants as refusal
 use Rattle.lines.specs.Refusals.{number, refusedLine, outsideLimits}
 use Rattle.lines.specs.Reading.{Reading, read, refused}
-use Rattle.plan.specs.PlanLines.{noJob, planHead}
+use Rattle.plan.specs.PlanLines.{planHead}
 use Rattle.rounds.specs.declared.Verdict.the-variants.{NoStrategy}
 use Rattle.rounds.specs.Rounds.{Outcome, settled, noStrategy, unsettled, outcome, verdictOf}
 use Rattle.calendars.specs.declared.Calendar.{Calendar}
@@ -37,14 +38,14 @@ use Rattle.runs.specs.declared.Step.{Step}
 use Rattle.runs.specs.declared.Step.the-variants.{Ask, Start, Finish}
 use Rattle.runs.specs.declared.Answer.{Answer}
 use Rattle.runs.specs.declared.Answer.the-variants.{Offered, Started, Final, Refused}
-use Rattle.runs.specs.declared.Answered.{Answered}
-use Rattle.runs.specs.ValueLimits.{isTime}
-use Rattle.runs.specs.Offers.{offerOf, openingIn, opening}
-use Rattle.runs.specs.Steps.{newRun, refusedWith, asked, startedAt, started, closed, finished, stepped}
+use Rattle.runs.specs.declared.Turn.{Turn}
+use Rattle.runs.specs.ValueLimits.{isTime, jobOfPhase}
+use Rattle.runs.specs.Offers.{turnOf, offerAt, openingAt}
+use Rattle.runs.specs.Steps.{newRun, asked, started, finished, answerAt, stepped}
 use Rattle.session.specs.StepRead.{stepIn, linedStep, stepLine}
 use Rattle.session.specs.AnswerText.{answerLine}
-use Rattle.session.specs.Sessions.{answers, answersWithin, judgedSession, sessionOf, dispatchOutput}
-use Rattle.session.specs.SessionLaws.{answers-refused, answered}
+use Rattle.session.specs.Sessions.{answers, dispatchedWithin, judgedSession, sessionOf, dispatchOutput}
+use Rattle.session.specs.SessionLaws.{answers-refused, answers-first}
 
 -- ---- no step is answered by 4
 
@@ -58,45 +59,46 @@ abbrev ShutNotFour : Opening → Type 0
 ShutNotFour (Open j i o) = Unit {0}
 ShutNotFour (Shut x) = number x ≡ 4 → ⊥
 
-opening-or : (p : Plan) (c : Calendar) (r : Run) (f : Phase) → ShutNotFour (openingIn p c r f)
-unfolding openingIn
-opening-or p c r (Waiting j i) = by (ltb (p .last) j) (ltZ (offerOf p c r j i .to .0) (offerOf p c r j i .from .0))
-  where
-    by : (b d : Bool) → ShutNotFour (cond b (Shut refusal.Over) (cond d (Shut refusal.EmptyOffer) (Open j i (offerOf p c r j i))))
-    by true d = λ e. omega arith
-    by false true = λ e. omega arith
-    by false false = tt
-opening-or p c r (Running j i t) = λ e. omega arith
+module _ (d : Turn) (cs ds : List ℤ) (r : Run) where
+  opening-or : (f : Phase) → ShutNotFour (openingAt d cs ds r f)
+  unfolding openingAt
+  opening-or (Waiting j i) = by (ltb (d .last) j) (ltZ (offerAt d cs ds r j i .to .0) (offerAt d cs ds r j i .from .0))
+    where
+      by : (b e : Bool) → ShutNotFour (cond b (Shut refusal.Over) (cond e (Shut refusal.EmptyOffer) (Open j i (offerAt d cs ds r j i))))
+      by true e = λ e. omega arith
+      by false true = λ e. omega arith
+      by false false = tt
+  opening-or (Running j i t) = λ e. omega arith
 
-asked-or : (r : Run) (x : Opening) → ShutNotFour x → NotFour (asked r x .answer)
+asked-or : (x : Opening) → ShutNotFour x → NotFour (asked x)
 unfolding asked
-asked-or r (Open j i o) h = tt
-asked-or r (Shut x) h = h
+asked-or (Open j i o) h = tt
+asked-or (Shut x) h = h
 
-unless-refused : (b : Bool) (a : Answered) (r : Run) (x : Refusal) → NotFour (a .answer) → (number x ≡ 4 → ⊥) → NotFour (cond b a (refusedWith r x) .answer)
-unless-refused true a r x h g = h
-unless-refused false a r x h g = g
+unless-refused : (b : Bool) (a : Answer) (x : Refusal) → NotFour a → (number x ≡ 4 → ⊥) → NotFour (cond b a (Refused x))
+unless-refused true a x h g = h
+unless-refused false a x h g = g
 
-started-or : (r : Run) (choice : Choice) (x : Opening) → ShutNotFour x → NotFour (started r choice x .answer)
+started-or : (choice : Choice) (x : Opening) → ShutNotFour x → NotFour (started choice x)
 unfolding started
-started-or r (At t) (Open j i o) h = unless-refused (within (o .from .0) (o .to .0) (t .0)) (startedAt r j i t) r refusal.OutsideOffer tt (λ e. omega arith)
-started-or r Auto (Open j i o) h = unless-refused (isTime (o .from)) (startedAt r j i (o .from)) r outsideLimits tt (λ e. omega arith)
-started-or r choice (Shut x) h = h
+started-or (At t) (Open j i o) h = unless-refused (within (o .from .0) (o .to .0) (t .0)) (Started j i t) refusal.OutsideOffer tt (λ e. omega arith)
+started-or Auto (Open j i o) h = unless-refused (isTime (o .from)) (Started j i (o .from)) outsideLimits tt (λ e. omega arith)
+started-or choice (Shut x) h = h
 
-finished-or : (p : Plan) (r : Run) (t : RunTime) (f : Phase) → NotFour (finished p r t f .answer)
+finished-or : (job : Job) (t : RunTime) (f : Phase) → NotFour (finished job t f)
 unfolding finished
-finished-or p r t (Waiting j i) = λ e. omega arith
-finished-or p r t (Running j i s) =
-    let job = getD (p .job) (i - 1) noJob in
-    unless-refused (within (s .0 +ℤ job .min) (s .0 +ℤ job .max) (t .0)) (record { answer = Final j i t; run = closed p r j i (record { start = s; finish = t }) }) r
-    refusal.OutsideTimes tt
-    (λ e. omega arith)
+finished-or job t (Waiting j i) = λ e. omega arith
+finished-or job t (Running j i s) =
+    unless-refused (within (s .0 +ℤ job .min) (s .0 +ℤ job .max) (t .0)) (Final j i t) refusal.OutsideTimes tt (λ e. omega arith)
+
+answer-or : (d : Turn) (cs ds : List ℤ) (r : Run) (st : Step) → NotFour (answerAt d cs ds r st)
+unfolding answerAt
+answer-or d cs ds r Ask = asked-or (openingAt d cs ds r (r .phase)) (opening-or d cs ds r (r .phase))
+answer-or d cs ds r (Start choice) = started-or choice (openingAt d cs ds r (r .phase)) (opening-or d cs ds r (r .phase))
+answer-or d cs ds r (Finish t) = finished-or (d .job) t (r .phase)
 
 stepped-not-four : (p : Plan) (c : Calendar) (r : Run) (st : Step) → NotFour (stepped p c r st .answer)
-unfolding stepped
-stepped-not-four p c r Ask = asked-or r (opening p c r) (opening-or p c r (r .phase))
-stepped-not-four p c r (Start choice) = started-or r choice (opening p c r) (opening-or p c r (r .phase))
-stepped-not-four p c r (Finish t) = finished-or p r t (r .phase)
+stepped-not-four p c r st = answer-or (turnOf p c (jobOfPhase (r .phase))) (c .«at_least») (c .«at_most») r st
 
 -- ---- nor printed so, whatever follows the answer
 
@@ -113,14 +115,14 @@ line-not-four (Refused x) h s K e = h (refusedLine-same x (refusal.NoStrategy K)
 
 module _ (p : Plan) (c : Calendar) (K : ℕ) where
   answers-not-four : (r : Run) (s : List ℕ) (n : ℕ) → answers p c r s n ≡ refusedLine (refusal.NoStrategy K) → ⊥
-  unfolding answersWithin stepLine
+  unfolding dispatchedWithin stepLine
   answers-not-four r [] n e = let d : _≡_ {A = ℕ} 0 114 = first-is [] (refusal.NoStrategy K) e in omega arith
   answers-not-four r (b ∷ s) n e = by (stepLine (b ∷ s) n) refl (line-form (λ l. linedStep (stepIn l)) (b ∷ s) n)
     where
       by : (m : Reading Step) → stepLine (b ∷ s) n ≡ m → ByForm m → ⊥
       by (read st t k) d h =
-          line-not-four (stepped p c r st .answer) (stepped-not-four p c r st) _ K
-          (sym (answered p c r (b ∷ s) n (omega arith) st t k (stepped p c r st) d refl) ∙ e)
+          let first = answers-first p c r (b ∷ s) n (omega arith) st t k (stepped p c r st) d refl in
+          line-not-four (stepped p c r st .answer) (stepped-not-four p c r st) (first .0) K (sym (first .1) ∙ e)
       by (refused x part) d h =
           let f = sym (answers-refused p c r (b ∷ s) n (omega arith) x part d) ∙ e in
           omega (arith, refusedLine-one x (refusal.NoStrategy K) f .number)

@@ -24,26 +24,33 @@ use Rattle.session.specs.AnswerText.{answerLine, longestAnswer, endsSess
 
 -- ---- steps
 
+-- what the steps of a text come to: their answer lines, and the run after them
+pub record Dispatched : Type 0 where
+  pub lines : List ℕ
+  pub run : Run
+
 -- one step's answer line, and what follows it from the run after the step
-unfoldable pub answeredStep : Answered → (Run → List ℕ) → List ℕ
+unfoldable pub answeredStep : Answered → (Run → Dispatched) → Dispatched
 answeredStep a later =
-    let rest = later (a .run) in
-    answerLine (a .answer) ++ cond (endsSession (a .answer)) [] rest
+    let behind = cond (endsSession (a .answer)) (record { lines = []; run = a .run }) (later (a .run)) in
+    record { lines = answerLine (a .answer) ++ behind .lines; run = behind .run }
 
 -- 'A step refused by 1 or 2 ends the program': a line that is no step is its last
-unfoldable pub afterStep : Plan → Calendar → Run → Reading Step → (Run → List ℕ → ℕ → List ℕ) → List ℕ
+unfoldable pub afterStep : Plan → Calendar → Run → Reading Step → (Run → List ℕ → ℕ → Dispatched) → Dispatched
 afterStep p c r (read st s n) later = answeredStep (stepped p c r st) (λ r′. later r′ s n)
-afterStep p c r (refused x part) later = refusedLine x
+afterStep p c r (refused x part) later = record { lines = refusedLine x; run = r }
 
--- the answers to the steps of a text whose first line has number n. Each step takes a byte at least, so the text's length is more than the
--- count of its steps.
-unfoldable pub answersWithin : Plan → Calendar → ℕ → Run → List ℕ → ℕ → List ℕ
-answersWithin p c zero r s n = []
-answersWithin p c (suc left) r [] n = []
-answersWithin p c (suc left) r (b ∷ s) n = afterStep p c r (stepLine (b ∷ s) n) (answersWithin p c left)
+-- the steps of a text whose first line has number n, from a run on. Each step takes a byte at least, so the text's length is more than the count of its steps.
+unfoldable pub dispatchedWithin : Plan → Calendar → ℕ → Run → List ℕ → ℕ → Dispatched
+dispatchedWithin p c zero r s n = record { lines = []; run = r }
+dispatchedWithin p c (suc left) r [] n = record { lines = []; run = r }
+dispatchedWithin p c (suc left) r (b ∷ s) n = afterStep p c r (stepLine (b ∷ s) n) (dispatchedWithin p c left)
+
+abbrev pub dispatched : Plan → Calendar → Run → List ℕ → ℕ → Dispatched
+dispatched p c r s n = dispatchedWithin p c (length s) r s n
 
 abbrev pub answers : Plan → Calendar → Run → List ℕ → ℕ → List ℕ
-answers p c r s n = answersWithin p c (length s) r s n
+answers p c r s n = dispatched p c r s n .lines
 
 -- ---- the program: from the bytes of the input to those of the output
 

@@ -44,7 +44,11 @@ fn put_session(
 {
     let told = tell_verdict(v);
     match told {
-        VerdictTold::Settled(_) => { put_answers(text, from, line, p, c, out, 0) }
+        VerdictTold::Settled(_) => {
+            let run = runs::new_run();
+            let put = put_answers(text, from, line, p, c, run, out, 0);
+            put.end
+        }
         VerdictTold::Refused(x) => put_refused(out, 0, x),
     }
 }

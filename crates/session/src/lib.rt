@@ -3,6 +3,7 @@
 use lines::Fault;
 use lines::Refusal;
 use lines::TextAnswer;
+use runs::Run;
 use runs::Step;
 
 // No step's answer has more bytes.
@@ -21,6 +22,12 @@ pub enum StepLine {
 enum StepAt {
     Value(Step, usize),
     Bad(Refusal),
+}
+
+// Where the answers to the steps of a text end, and the run after the steps.
+struct SessionPut {
+    end: usize,
+    run: Run,
 }
 
 // What the step lines of a text come to: nothing refused, or the first refusal and where its line begins.

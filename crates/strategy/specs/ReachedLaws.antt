@@ -11,45 +11,44 @@ use native.Mathlib.Omega.{arith}
 use lib.Dec.{ltb}
 use lib.IntN.{ℤ, _+ℤ_, _-ℤ_}
 use lib.Signed.{_≤ℤ_, ltZ}
-use lib.ListN.{length, getD, set, length-set}
-use lib.Seq.{getD-set-same, getD-set-other}
+use lib.ListN.{length, getD}
 use borrow.Author.Tests.{lt-ltb, le-ltb}
 use Rattle.whole.specs.Rules.{wholes}
-use Rattle.text.specs.Numbers.{within}
 use Rattle.clock.specs.declared.RunTime.{RunTime}
 use Rattle.plan.specs.declared.Plan.{Plan}
-use Rattle.lines.specs.declared.Refusal.{Refusal}
 use Rattle.lines.specs.declared.Refusal.the-variants as refusal
 use Rattle.plan.specs.Limits.{mostJobs}
-use Rattle.lines.specs.Refusals.{outsideLimits}
 use Rattle.plan.specs.PlanLines.{noJob}
 use Rattle.bounds.specs.Events.{startNode, finishNode}
 use Rattle.bounds.specs.Tables.{upto, Rows, at}
 use Rattle.bounds.specs.Elimination.{thenSet}
 use Rattle.calendars.specs.declared.Calendar.{Calendar}
 use Rattle.rounds.specs.Rounds.{joined, settled, outcome}
-use Rattle.calendars.specs.Calendars.{thenTables, beforeStarts, calendarOf, calendar}
+use Rattle.calendars.specs.Calendars.{eventsAhead, mostEvents, thenTables, beforeStarts, calendarOf, calendar}
 use Rattle.runs.specs.declared.Phase.the-variants.{Waiting, Running}
-use Rattle.runs.specs.declared.Probe.{Probe}
 use Rattle.runs.specs.declared.Phase.{Phase}
 use Rattle.runs.specs.declared.Run.{Run}
 use Rattle.runs.specs.declared.Offer.{Offer}
 use Rattle.runs.specs.declared.Opening.{Opening}
 use Rattle.runs.specs.declared.Opening.the-variants.{Open, Shut}
-use Rattle.runs.specs.declared.Choice.{Choice}
 use Rattle.runs.specs.declared.Choice.the-variants.{At, Auto}
 use Rattle.runs.specs.declared.Step.{Step}
 use Rattle.runs.specs.declared.Step.the-variants.{Ask, Start, Finish}
+use Rattle.runs.specs.declared.Answer.{Answer}
 use Rattle.runs.specs.declared.Answer.the-variants.{Offered, Started, Final, Refused}
-use Rattle.runs.specs.declared.Answered.{Answered}
-use Rattle.runs.specs.ValueLimits.{isTime}
-use Rattle.runs.specs.Offers.{noProbe, offerOf, opened, openingIn, opening}
-use Rattle.runs.specs.Steps.{newRun, refusedWith, asked, startedAt, started, closed, finished, stepped}
+use Rattle.runs.specs.declared.Before.{Before}
+use Rattle.runs.specs.declared.Before.the-variants.{Nothing, Window}
+use Rattle.runs.specs.Seen.{timeAt, jobSeen, toFront}
+use Rattle.runs.specs.SeenLaws.{jobSeen-start, jobSeen-finish, jobSeen-other, jobSeen-length, toFront-at, toFront-length}
+use Rattle.runs.specs.ValueLimits.{isTime, jobOfPhase}
+use Rattle.runs.specs.Offers.{turnOf, offerOf, opened, openingAt, opening}
+use Rattle.runs.specs.Steps.{newRun, closedSince, stepped}
+use Rattle.runs.specs.StepLaws.{opening-running}
+use Rattle.runs.specs.AnswerLaws.{answer-empty, ask-offered, start-taken, start-refused, start-auto}
 use Rattle.strategy.specs.Histories.{Ran, History, ranFor, turn}
 use Rattle.strategy.specs.Strategies.{ranIn, Kept, StrategyAfter}
-use Rattle.strategy.specs.Reaching.{OnOffer, InTimes, AtTurn, Reached, begun}
-use Rattle.strategy.specs.Reaching as reaching
-use Rattle.strategy.specs.SteppedLaws.{turn-is, within-is, started-running, ask-offered, start-taken, start-refused, finish-inside, final-inside, finish-outside}
+use Rattle.strategy.specs.Reaching.{OnOffer, InTimes, AtTurn, ended, historyAfter, Reached, begun, more}
+use Rattle.strategy.specs.SteppedLaws.{turn-is, runningSince, Ways, same, starts, finishes, step-ways, started-running, finish-final, finish-refused, final-inside}
 use Rattle.strategy.specs.CellLaws.{present}
 use Rattle.strategy.specs.EliminationLaws.{below-or-last}
 use Rattle.plan.specs.Accepted.{Accepted}
@@ -63,7 +62,7 @@ use Rattle.strategy.specs.PlaceLaws.{Tidy}
 use Rattle.strategy.specs.StageLaws.{Stages, before-tidy, length-tables}
 use Rattle.strategy.specs.OfferLaws.{Fitting, offer-fitting, fitting-offer}
 use Rattle.strategy.specs.GameLaws.{Settling, settling, Well, well-begin, WellAfter, well-more, Winning, winning-chosen, chosen-winning, tables, some-winning, AllowedAt, winning-allowed, allowed-winning, later-tidy, later-fits}
-use Rattle.strategy.specs.RunLaws.{probeOf, ShowsPrevious, Shows, later-fitting, fitting-later, first-fitting, fitting-first}
+use Rattle.strategy.specs.RunLaws.{ShowsJob, ShowsPrevious, Shows, later-fitting, fitting-later, first-fitting, fitting-first}
 
 module _ (p : Plan) (sound : Sound p) (m : ℕ) (c : Rows) (s : IsSettled p sound m c) (f : Settling p sound m c s) where
   abbrev ts : List Rows
@@ -151,158 +150,98 @@ module _ (p : Plan) (sound : Sound p) (m : ℕ) (c : Rows) (s : IsSettled p soun
           let b = o .most in
           omega wholes
 
--- ---- accepted starts
-
-record Opens (p : Plan) (c : Calendar) (r : Run) (J I a b : ℕ) (o : Offer) : Type 0 where
-  window : J ≡ a
-  job : I ≡ b
-  offer : offerOf p c r J I ≡ o
-  some : o .from .0 ≤ℤ o .to .0
-
-opened-open : (J I a b : ℕ) (o q : Offer) (t : Bool) → ltZ (o .to .0) (o .from .0) ≡ t → cond t (Shut refusal.EmptyOffer) (Open J I o) ≡ Open a b q
-    → (J ≡ a) × (I ≡ b) × (o ≡ q) × (o .from .0 ≤ℤ o .to .0)
-opened-open J I a b o q true e h = absurd (let z : _≡_ {A = ℕ} 0 1 = cc in omega arith)
-opened-open J I a b o q false e h = (cc, cc, cc, omega wholes)
-
-waiting-open : (p : Plan) (c : Calendar) (r : Run) (J I a b : ℕ) (o q : Offer) (t : Bool) → offerOf p c r J I ≡ o
-    → cond t (Shut refusal.Over) (opened J I o) ≡ Open a b q → Opens p c r J I a b q
-waiting-open p c r J I a b o q true e h = absurd (let z : _≡_ {A = ℕ} 0 1 = cc in omega arith)
-waiting-open p c r J I a b o q false e h =
-    let x = opened-open J I a b o q _ refl h in
-    record { window = x .0; job = x .1; offer = e ∙ x .2; some = subst (λ (o : Offer). o .from .0 ≤ℤ o .to .0) (x .2) (x .3) }
-
-opening-open : (p : Plan) (c : Calendar) (r : Run) (J I a b : ℕ) (o : Offer) → r .phase ≡ Waiting J I → opening p c r ≡ Open a b o → Opens p c r J I a b o
-unfolding openingIn
-opening-open p c r J I a b o e h =
-    waiting-open p c r J I a b (offerOf p c r J I) o (ltb (p .last) J) refl (sym (ap (openingIn p c r) e) ∙ h)
-
-opening-running : (p : Plan) (c : Calendar) (r : Run) (J I : ℕ) (t : RunTime) → r .phase ≡ Running J I t → opening p c r ≡ Shut refusal.Running
-unfolding openingIn
-opening-running p c r J I t e = ap (openingIn p c r) e
-
--- a start that was accepted: the time was on offer, and the run is running since then
-abbrev runningSince : Run → ℕ → ℕ → RunTime → Run
-runningSince r a b t = record { phase = Running a b t; «has_previous» = r .«has_previous»; previous = r .previous; present = r .present }
-
-record Taken (r : Run) (x : Opening) (after : Run) : Type 0 where
-  window : ℕ
-  job : ℕ
-  offer : Offer
-  time : RunTime
-  open-is : x ≡ Open window job offer
-  on : offer .from .0 ≤ℤ offer .to .0 → OnOffer offer (time .0)
-  after-is : after ≡ runningSince r window job time
-
-started-at : (r : Run) (a b : ℕ) (o : Offer) (t : RunTime) (j i : ℕ) (u : RunTime) (x : Bool) → within (o .from .0) (o .to .0) (t .0) ≡ x
-    → cond x (startedAt r a b t) (record { answer = Refused refusal.OutsideOffer; run = r }) .answer ≡ Started j i u
-    → Taken r (Open a b o) (cond x (startedAt r a b t) (record { answer = Refused refusal.OutsideOffer; run = r }) .run)
-started-at r a b o t j i u true e h =
-    let w = within-is (o .from .0) (o .to .0) (t .0) e in
-    record { window = a; job = b; offer = o; time = t; open-is = refl; on = λ s. record { least = w .0; most = w .1 }; after-is = refl }
-started-at r a b o t j i u false e h = absurd (let z : _≡_ {A = ℕ} 0 1 = cc in omega arith)
-
-started-auto : (r : Run) (a b : ℕ) (o : Offer) (j i : ℕ) (u : RunTime) (x : Bool) (q : Refusal)
-    → cond x (startedAt r a b (o .from)) (record { answer = Refused q; run = r }) .answer ≡ Started j i u
-    → Taken r (Open a b o) (cond x (startedAt r a b (o .from)) (record { answer = Refused q; run = r }) .run)
-started-auto r a b o j i u true q h =
-    record { window = a; job = b; offer = o; time = o .from; open-is = refl; on = λ s. record { least = omega wholes; most = s }; after-is = refl }
-started-auto r a b o j i u false q h = absurd (let z : _≡_ {A = ℕ} 0 1 = cc in omega arith)
-
-started-open : (r : Run) (choice : Choice) (x : Opening) (j i : ℕ) (t : RunTime) → started r choice x .answer ≡ Started j i t
-    → Taken r x (started r choice x .run)
-unfolding started
-started-open r (At u) (Open a b o) j i t h = started-at r a b o u j i t _ refl h
-started-open r Auto (Open a b o) j i t h = started-auto r a b o j i t (isTime (o .from)) _ h
-started-open r choice (Shut q) j i t h = absurd (let z : _≡_ {A = ℕ} 0 1 = cc in omega arith)
-
--- ---- accepted finishes
-
-record Ended (p : Plan) (r : Run) (J I : ℕ) (s t : RunTime) (after : Run) : Type 0 where
-  least : (s .0 +ℤ getD (p .job) (I - 1) noJob .min) ≤ℤ t .0
-  most : t .0 ≤ℤ (s .0 +ℤ getD (p .job) (I - 1) noJob .max)
-  after-is : after ≡ closed p r J I (record { start = s; finish = t })
-
-ended-at : (p : Plan) (r : Run) (J I : ℕ) (s t : RunTime) (j i : ℕ) (u : RunTime) (x : Bool)
-    → within (s .0 +ℤ getD (p .job) (I - 1) noJob .min) (s .0 +ℤ getD (p .job) (I - 1) noJob .max) (t .0) ≡ x
-    → cond {A = Answered} x (record { answer = Final J I t; run = closed p r J I (record { start = s; finish = t }) })
-    (record { answer = Refused refusal.OutsideTimes; run = r }) .answer ≡ Final j i u
-    → Ended p r J I s t
-    (cond {A = Answered} x (record { answer = Final J I t; run = closed p r J I (record { start = s; finish = t }) })
-    (record { answer = Refused refusal.OutsideTimes; run = r }) .run)
-ended-at p r J I s t j i u true e h =
-    let w = within-is _ _ (t .0) e in
-    record { least = w .0; most = w .1; after-is = refl }
-ended-at p r J I s t j i u false e h = absurd (let z : _≡_ {A = ℕ} 0 1 = cc in omega arith)
-
-ended : (p : Plan) (r : Run) (J I : ℕ) (s t : RunTime) (j i : ℕ) (u : RunTime) → finished p r t (Running J I s) .answer ≡ Final j i u
-    → Ended p r J I s t (finished p r t (Running J I s) .run)
-unfolding finished
-ended p r J I s t j i u h = ended-at p r J I s t j i u _ refl h
-
 -- ---- what the run shows afterwards
 
 module _ (p : Plan) (r : Run) (h : History) (j i : ℕ) (sh : Shows p r h j i) (few : p .jobs ≤ mostJobs) (low : i < p .jobs) (size : length h ≡ j * p .jobs + i)
-    (q : Ran) where
+    (since finish : RunTime) where
+  abbrev q : Ran
+  q = record { start = since .0; finish = finish .0 }
+
   abbrev h′ : History
   h′ = h ++ (q ∷ [])
+
+  abbrev seen : List ℤ
+  seen = jobSeen (p .jobs) (suc i - 1) since finish (r .seen)
 
   here : suc i - 1 ≡ i
   here = omega arith
 
-  present-more : (k : ℕ) → k < suc i → getD (set (r .present) (suc i - 1) (probeOf q)) k noProbe ≡ probeOf (ranIn h′ (j * p .jobs + k))
+  room : (k : ℕ) → k < p .jobs + p .jobs → 1 + 2 * k < length (r .seen)
+  room k l = omega (arith, sh .places)
+
+  -- the job that has finished
+  shows-new : ShowsJob seen (p .jobs + i) q
+  shows-new =
+      let n : eventsAhead (p .jobs) (suc i - 1) ≡ 2 * (p .jobs + i) = ap (eventsAhead (p .jobs)) here in
+      let m : eventsAhead (p .jobs) (suc i - 1) + 1 ≡ 1 + 2 * (p .jobs + i) = omega arith in
+      let l = room (p .jobs + i) (omega arith) in
+      record {
+        start = ap (λ e. timeAt seen e .0) (sym n) ∙ ap (λ t. t .0) (jobSeen-start (p .jobs) (suc i - 1) since finish (r .seen) (omega arith));
+        finish = ap (λ e. timeAt seen e .0) (sym m) ∙ ap (λ t. t .0) (jobSeen-finish (p .jobs) (suc i - 1) since finish (r .seen) (omega arith));
+      }
+
+  -- another one
+  shows-old : (k : ℕ) (u : Ran) → (k ≡ p .jobs + i → ⊥) → ShowsJob (r .seen) k u → ShowsJob seen k u
+  shows-old k u other s =
+      record {
+        start = ap (λ t. t .0) (jobSeen-other (p .jobs) (suc i - 1) since finish (r .seen) (2 * k) (λ e. other (omega arith)) (λ e. omega arith)) ∙ s .start;
+        finish = ap (λ t. t .0) (jobSeen-other (p .jobs) (suc i - 1) since finish (r .seen) (1 + 2 * k) (λ e. omega arith) (λ e. other (omega arith))) ∙ s .finish;
+      }
+
+  present-more : (k : ℕ) → k < suc i → ShowsJob seen (p .jobs + k) (ranIn h′ (j * p .jobs + k))
   present-more k l =
-      let places = sh .places in
-      ap (λ n. getD (set (r .present) n (probeOf q)) k noProbe) here
-      ∙ ⊎-elim
+      ⊎-elim
       (λ (a : k < i).
-      getD-set-other (r .present) i k (probeOf q) noProbe (λ e. omega arith)
-      ∙ sh .present k a
-      ∙ ap probeOf (sym (ran-old h q (j * p .jobs + k) (omega arith))))
+      shows-old (p .jobs + k) _ (λ e. omega arith)
+      (subst (ShowsJob (r .seen) (p .jobs + k)) (sym (ran-old h q (j * p .jobs + k) (omega arith))) (sh .present k a)))
       (λ (a : k ≡ i).
-      ap (λ k. getD (set (r .present) i (probeOf q)) k noProbe) a
-      ∙ getD-set-same (r .present) i (probeOf q) noProbe (omega arith)
-      ∙ ap probeOf (sym (ran-new h q (j * p .jobs + i) size))
-      ∙ ap (λ k. probeOf (ranIn h′ (j * p .jobs + k))) (sym a))
+      subst (λ k. ShowsJob seen (p .jobs + k) (ranIn h′ (j * p .jobs + k))) (sym a)
+      (subst (ShowsJob seen (p .jobs + i)) (sym (ran-new h q (j * p .jobs + i) size)) shows-new))
       (below-or-last k i l)
 
-  previous-stays : (j′ : ℕ) → j ≡ j′ → ShowsPrevious p r h j′ → ShowsPrevious p r h′ j′
-  previous-stays zero e s = s
-  previous-stays (suc j′) e s = (
+  previous-stays : (f : Phase) (j′ : ℕ) → j ≡ j′ → ShowsPrevious p r h j′ → ShowsPrevious p (record { phase = f; before = r .before; seen = seen }) h′ j′
+  previous-stays f zero e s = s
+  previous-stays f (suc j′) e s = (
     s .0,
     λ k l.
         let b : j * p .jobs ≡ suc j′ * p .jobs = ap (λ j. j * p .jobs) e in
-        s .1 k l ∙ ap probeOf (sym (ran-old h q (j′ * p .jobs + k) (omega arith))),
+        shows-old k _ (λ x. omega arith) (subst (ShowsJob (r .seen) k) (sym (ran-old h q (j′ * p .jobs + k) (omega arith))) (s .1 k l)),
   )
 
   -- the window goes on
-  goes-on : suc i < p .jobs → (closed p r (suc j) (suc i) (probeOf q) .phase ≡ Waiting (suc j) (suc (suc i))) × Shows p (closed p r (suc j) (suc i) (probeOf q)) h′ j (suc i)
-  unfolding closed
+  goes-on : suc i < p .jobs → let after = closedSince (p .jobs) r (suc j) (suc i) since finish in
+      (after .phase ≡ Waiting (suc j) (suc (suc i))) × Shows p after h′ j (suc i)
   goes-on l =
       rw (lt-ltb (suc i) (p .jobs) l) (
         ap (Waiting (suc j)) (add-one (suc i)),
         record {
-          places = length-set (r .present) (suc i - 1) (probeOf q) ∙ sh .places;
+          places = jobSeen-length (p .jobs) (suc i - 1) since finish (r .seen) ∙ sh .places;
           present = present-more;
-          previous = previous-run j refl;
+          previous = previous-stays (Waiting (suc j) (suc i + 1)) j refl (sh .previous);
         },
       )
-    where
-      previous-run : (j′ : ℕ) → j ≡ j′
-          → ShowsPrevious p
-          (record { phase = Waiting (suc j) (suc i + 1); «has_previous» = r .«has_previous»; previous = r .previous; present = set (r .present) (suc i - 1) (probeOf q) }) h′ j′
-      previous-run zero e = previous-stays zero e (subst (ShowsPrevious p r h) e (sh .previous))
-      previous-run (suc j′) e = previous-stays (suc j′) e (subst (ShowsPrevious p r h) e (sh .previous))
+
+  -- the present window's jobs at the places of the previous one
+  shows-front : (k : ℕ) (u : Ran) → k < p .jobs → ShowsJob seen (p .jobs + k) u → ShowsJob (toFront (2 * p .jobs) seen) k u
+  shows-front k u l s =
+      let long : length seen ≡ mostEvents = jobSeen-length (p .jobs) (suc i - 1) since finish (r .seen) ∙ sh .places in
+      let a : 2 * p .jobs + 2 * k ≡ 2 * (p .jobs + k) = omega arith in
+      let b : 2 * p .jobs + (1 + 2 * k) ≡ 1 + 2 * (p .jobs + k) = omega arith in
+      record {
+        start = ap (λ t. t .0) (toFront-at (2 * p .jobs) seen (omega arith) (2 * k) (omega arith) ∙ ap (timeAt seen) a) ∙ s .start;
+        finish = ap (λ t. t .0) (toFront-at (2 * p .jobs) seen (omega arith) (1 + 2 * k) (omega arith) ∙ ap (timeAt seen) b) ∙ s .finish;
+      }
 
   -- the next window begins
-  next-begins : suc i ≡ p .jobs → (closed p r (suc j) (suc i) (probeOf q) .phase ≡ Waiting (suc (suc j)) 1) × Shows p (closed p r (suc j) (suc i) (probeOf q)) h′ (suc j) 0
-  unfolding closed
+  next-begins : suc i ≡ p .jobs → let after = closedSince (p .jobs) r (suc j) (suc i) since finish in
+      (after .phase ≡ Waiting (suc (suc j)) 1) × Shows p after h′ (suc j) 0
   next-begins e =
       rw (le-ltb (suc i) (p .jobs) (omega arith)) (
         ap (λ j. Waiting j 1) (add-one (suc j)),
         record {
-          places = refl;
+          places = toFront-length (2 * p .jobs) seen ∙ jobSeen-length (p .jobs) (suc i - 1) since finish (r .seen) ∙ sh .places;
           present = λ k l. absurd (omega arith);
-          previous = (refl, λ k l. present-more k (omega arith));
+          previous = (refl, λ k l. shows-front k _ l (present-more k (omega arith)));
         },
       )
 
@@ -344,22 +283,24 @@ module _ (p : Plan) (sound : Sound p) (m : ℕ) (c : Rows) (s : IsSettled p soun
   shows-running r h zero i a b t sh = record { places = sh .places; present = sh .present; previous = sh .previous }
   shows-running r h (suc j) i a b t sh = record { places = sh .places; present = sh .present; previous = sh .previous }
 
-  started-runs : (r : Run) (h : History) → Waits r h → (x : Opening) → opening p (calendar p c) r ≡ x → (after : Run) → Taken r x after → Runs after h
-  started-runs r h w x e after t =
-      let o = opening-open p (calendar p c) r (suc (w .j)) (suc (w .i)) (t .window) (t .job) (t .offer) (w .phase) (e ∙ t .open-is) in
-      subst (λ r. Runs r h) (sym (t .after-is))
-      (record {
+  started-runs : (r : Run) (h : History) (w : Waits r h) (j i : ℕ) (t : RunTime) → r .phase ≡ Waiting j i → OnOffer (offerOf p (calendar p c) r j i) (t .0)
+      → Runs (runningSince r j i t) h
+  started-runs r h w j i t e on =
+      let x = w .phase in
+      let same-window : suc (w .j) ≡ j = cc in
+      let same-job : suc (w .i) ≡ i = cc in
+      record {
         j = w .j;
         i = w .i;
         g = w .g;
-        since = t .time;
-        phase = ap₂ (λ a b. Running a b (t .time)) (sym (o .window)) (sym (o .job));
+        since = t;
+        phase = ap₂ (λ a b. Running a b t) (sym same-window) (sym same-job);
         well = w .well;
-        shows = shows-running r h (w .j) (w .i) (t .window) (t .job) (t .time) (w .shows);
+        shows = shows-running r h (w .j) (w .i) j i t (w .shows);
         winning =
-            offer-winning p sound m c s f r h (w .i) (w .g) (w .j) (w .well) (w .shows) (t .time .0)
-            (subst (λ o. OnOffer o (t .time .0)) (sym (o .offer)) (t .on (o .some)));
-      })
+            offer-winning p sound m c s f r h (w .i) (w .g) (w .j) (w .well) (w .shows) (t .0)
+            (subst (λ o. OnOffer o (t .0)) (sym (ap₂ (offerOf p (calendar p c) r) same-window same-job)) on);
+      }
 
   turn-at : (h : History) (j i g : ℕ) → Well p sound m c s f h j i (suc g) → turn p (length h) ≡ getD (p .job) (suc i - 1) noJob
   turn-at h j i g w =
@@ -368,104 +309,71 @@ module _ (p : Plan) (sound : Sound p) (m : ℕ) (c : Rows) (s : IsSettled p soun
       ap (turn p) (w .size) ∙ turn-seen p j i ∙ ap (λ k. getD (p .job) k noJob) (mod-eq-of-lt low ∙ (let e : i ≡ suc i - 1 = omega arith in e))
 
   module _ (r : Run) (h : History) (j i : ℕ) (since finish : RunTime) (sh : Shows p r h j i) where
-    abbrev q : Ran
-    q = record { start = since .0; finish = finish .0 }
+    abbrev ran : Ran
+    ran = record { start = since .0; finish = finish .0 }
 
     abbrev after : Run
-    after = closed p r (suc j) (suc i) (record { start = since; finish = finish })
+    after = closedSince (p .jobs) r (suc j) (suc i) since finish
 
-    moves-on : (g : ℕ) (w : Well p sound m c s f h j i (suc g)) → WellAfter p sound m c s f j i g (h ++ (q ∷ [])) → Waits after (h ++ (q ∷ []))
+    moves-on : (g : ℕ) (w : Well p sound m c s f h j i (suc g)) → WellAfter p sound m c s f j i g (h ++ (ran ∷ [])) → Waits after (h ++ (ran ∷ []))
     moves-on zero w next =
         let a = w .ig in
-        let b = next-begins p r h j i sh (sound .few-jobs) (omega arith) (w .size) q (omega arith) in
+        let b = next-begins p r h j i sh (sound .few-jobs) (omega arith) (w .size) since finish (omega arith) in
         record {
           j = suc j;
           i = 0;
           g = p .jobs - 1;
           phase = b .0;
-          well = subst (Well p sound m c s f (h ++ (q ∷ [])) (suc j) 0) (let k = sound .some-job in let e : p .jobs ≡ suc (p .jobs - 1) = omega arith in e) next;
+          well = subst (Well p sound m c s f (h ++ (ran ∷ [])) (suc j) 0) (let k = sound .some-job in let e : p .jobs ≡ suc (p .jobs - 1) = omega arith in e) next;
           shows = b .1;
         }
     moves-on (suc g) w next =
         let a = w .ig in
-        let b = goes-on p r h j i sh (sound .few-jobs) (omega arith) (w .size) q (omega arith) in
+        let b = goes-on p r h j i sh (sound .few-jobs) (omega arith) (w .size) since finish (omega arith) in
         record { j = j; i = suc i; g = g; phase = b .0; well = next; shows = b .1 }
 
   finish-is : (a b : ℤ) → a +ℤ (b -ℤ a) ≡ b
   finish-is a b = omega wholes
 
-  finished-waits : (r : Run) (h : History) (w : Runs r h) (t : RunTime) (after : Run) → Ended p r (suc (w .j)) (suc (w .i)) (w .since) t after
-      → Waits after (h ++ (record { start = w .since .0; finish = t .0 } ∷ []))
-  finished-waits r h w t after e =
-      let n = turn-at h (w .j) (w .i) (w .g) (w .well) in
-      let lo = e .least in
-      let hi = e .most in
-      let ran = t .0 -ℤ w .since .0 in
-      let lo′ : turn p (length h) .min ≤ℤ (t .0 -ℤ w .since .0) = rw n (omega wholes) in
-      let hi′ : (t .0 -ℤ w .since .0) ≤ℤ turn p (length h) .max = rw n (omega wholes) in
-      let next = well-more p sound m c s f h (w .j) (w .i) (w .g) (w .well) (w .since .0) ran lo′ hi′ (w .winning ran lo′ hi′) in
-      subst (λ r. Waits r (h ++ (record { start = w .since .0; finish = t .0 } ∷ []))) (sym (e .after-is))
-      (moves-on r h (w .j) (w .i) (w .since) t (w .shows) (w .g) (w .well)
-      (subst (λ z. WellAfter p sound m c s f (w .j) (w .i) (w .g) (h ++ (record { start = w .since .0; finish = z } ∷ []))) (finish-is (w .since .0) (t .0)) next))
+  finished-waits : (r : Run) (h : History) (w : Runs r h) (j i : ℕ) (since t : RunTime) → r .phase ≡ Running j i since
+      → InTimes (getD (p .job) (i - 1) noJob) (since .0) (t .0)
+      → Waits (closedSince (p .jobs) r j i since t) (h ++ (record { start = since .0; finish = t .0 } ∷ []))
+  finished-waits r h w j i since t e inside =
+      let x = w .phase in
+      let same-window : suc (w .j) ≡ j = cc in
+      let same-job : suc (w .i) ≡ i = cc in
+      let same-start : w .since ≡ since = cc in
+      let n = turn-at h (w .j) (w .i) (w .g) (w .well) ∙ ap (λ i. getD (p .job) (i - 1) noJob) same-job in
+      let ran = t .0 -ℤ since .0 in
+      let lo = inside .least in
+      let hi = inside .most in
+      let lo′ : turn p (length h) .min ≤ℤ (t .0 -ℤ since .0) = rw n (omega wholes) in
+      let hi′ : (t .0 -ℤ since .0) ≤ℤ turn p (length h) .max = rw n (omega wholes) in
+      let wins = subst (λ s. Winning p sound m c _ f h (w .j) (w .g) (s .0)) same-start (w .winning) in
+      let next = well-more p sound m c s f h (w .j) (w .i) (w .g) (w .well) (since .0) ran lo′ hi′ (wins ran lo′ hi′) in
+      subst (λ j. Waits (closedSince (p .jobs) r j i since t) (h ++ (record { start = since .0; finish = t .0 } ∷ []))) same-window
+      (subst (λ i. Waits (closedSince (p .jobs) r (suc (w .j)) i since t) (h ++ (record { start = since .0; finish = t .0 } ∷ []))) same-job
+      (moves-on r h (w .j) (w .i) since t (w .shows) (w .g) (w .well)
+      (subst (λ z. WellAfter p sound m c s f (w .j) (w .i) (w .g) (h ++ (record { start = since .0; finish = z } ∷ []))) (finish-is (since .0) (t .0)) next)))
 
   not-both : (r : Run) (a b d e : ℕ) (t : RunTime) → r .phase ≡ Waiting a b → r .phase ≡ Running d e t → ⊥
   not-both r a b d e t x y = let z : _≡_ {A = ℕ} 0 1 = cc in omega arith
 
-  same-since : (r : Run) (a b d e : ℕ) (t u : RunTime) → r .phase ≡ Running a b t → r .phase ≡ Running d e u → t ≡ u
-  same-since r a b d e t u x y = cc
+  after-way : {r r′ : Run} {h h′ : History} → Ways p (calendar p c) r h r′ h′ → Waits r h ⊎ Runs r h → Waits r′ h′ ⊎ Runs r′ h′
+  after-way same w = w
+  after-way {r = r} {h = h} (starts j i t e l on) (inl w) = inr (started-runs r h w j i t e on)
+  after-way {r = r} (starts j i t e l on) (inr w) = absurd (not-both r j i _ _ _ e (w .phase))
+  after-way {r = r} (finishes j i since t e inside) (inl w) = absurd (not-both r _ _ j i since (w .phase) e)
+  after-way {r = r} {h = h} (finishes j i since t e inside) (inr w) = inl (finished-waits r h w j i since t e inside)
 
   pub state : {r : Run} {h : History} → Reached p (calendar p c) r h → Waits r h ⊎ Runs r h
-  unfolding stepped
   state begun = inl begun-waits
-  state (reaching.started {r = r} {h = h} before choice j i t e) =
-      ⊎-elim
-      (λ (w : Waits r h). inr (started-runs r h w (opening p (calendar p c) r) refl _ (started-open r choice (opening p (calendar p c) r) j i t e)))
-      (λ (w : Runs r h).
-      let o = opening-running p (calendar p c) r (suc (w .j)) (suc (w .i)) (w .since) (w .phase) in
-      let k = started-open r choice (opening p (calendar p c) r) j i t e in
-      let x = k .open-is in
-      absurd (let z : _≡_ {A = ℕ} 0 1 = cc in omega arith))
-      (state before)
-  state (reaching.finished {r = r} {h = h} before j i since t ph e) =
-      ⊎-elim (λ (w : Waits r h). absurd (not-both r _ _ j i since (w .phase) ph))
-      (λ (w : Runs r h).
-      let x = w .phase in
-      let k = ended p r (suc (w .j)) (suc (w .i)) (w .since) t j i t (subst (λ a. finished p r t a .answer ≡ Final j i t) x e) in
-      inl (subst (λ a. Waits (finished p r t (r .phase) .run) (h ++ (record { start = a .0; finish = t .0 } ∷ []))) (same-since r _ _ j i (w .since) since x ph)
-      (finished-waits r h w t (finished p r t (r .phase) .run) (subst (λ a. Ended p r (suc (w .j)) (suc (w .i)) (w .since) t (finished p r t a .run)) (sym x) k))))
-      (state before)
-
--- ---- where 11 comes from
-
-asked-empty : (r : Run) (x : Opening) → asked r x .answer ≡ Refused refusal.EmptyOffer → x ≡ Shut refusal.EmptyOffer
-unfolding asked
-asked-empty r (Open j i o) e = absurd (let z : _≡_ {A = ℕ} 0 1 = cc in omega arith)
-asked-empty r (Shut x) e = cc
-
-started-or-not : (r : Run) (a b : ℕ) (t : RunTime) (x : Bool) (q : Refusal) → cond x (startedAt r a b t) (refusedWith r q) .answer ≡ Refused refusal.EmptyOffer
-    → q ≡ refusal.EmptyOffer
-started-or-not r a b t true q e = absurd (let z : _≡_ {A = ℕ} 0 1 = cc in omega arith)
-started-or-not r a b t false q e = cc
-
-started-empty : (r : Run) (choice : Choice) (x : Opening) → started r choice x .answer ≡ Refused refusal.EmptyOffer → x ≡ Shut refusal.EmptyOffer
-unfolding started
-started-empty r (At t) (Open j i o) e =
-    let q = started-or-not r j i t (within (o .from .0) (o .to .0) (t .0)) refusal.OutsideOffer e in absurd (let z : _≡_ {A = ℕ} 0 1 = cc in omega arith)
-started-empty r Auto (Open j i o) e =
-    let q = started-or-not r j i (o .from) (isTime (o .from)) outsideLimits e in absurd (let z : _≡_ {A = ℕ} 0 1 = cc in omega arith)
-started-empty r choice (Shut x) e = cc
-
-final-or-not : (p : Plan) (r : Run) (j i : ℕ) (q : Probe) (t : RunTime) (x : Bool)
-    → cond {A = Answered} x (record { answer = Final j i t; run = closed p r j i q }) (refusedWith r refusal.OutsideTimes) .answer ≡ Refused refusal.EmptyOffer → ⊥
-final-or-not p r j i q t true e = let z : _≡_ {A = ℕ} 0 1 = cc in omega arith
-final-or-not p r j i q t false e = let z : _≡_ {A = ℕ} 0 1 = cc in omega arith
-
-finished-empty : (p : Plan) (r : Run) (t : RunTime) (ph : Phase) → finished p r t ph .answer ≡ Refused refusal.EmptyOffer → ⊥
-unfolding finished
-finished-empty p r t (Waiting j i) e = let z : _≡_ {A = ℕ} 0 1 = cc in omega arith
-finished-empty p r t (Running j i since) e = final-or-not p r j i _ t (within (since .0 +ℤ getD (p .job) (i - 1) noJob .min) (since .0 +ℤ getD (p .job) (i - 1) noJob .max) (t .0)) e
+  state (more {r = r} {h = h} before st) = after-way (step-ways p (calendar p c) r h st) (state before)
 
 -- ---- the offers of such a run
+
+abbrev openingIn : Plan → Calendar → Run → Phase → Opening
+openingIn p c r f = openingAt (turnOf p c (jobOfPhase f)) (c .«at_least») (c .«at_most») r f
 
 module _ (p : Plan) (sound : Sound p) (m : ℕ) (c : Rows) (accepted : outcome p ≡ settled m c) where
   abbrev s : IsSettled p sound m c
@@ -561,12 +469,12 @@ module _ (p : Plan) (sound : Sound p) (m : ℕ) (c : Rows) (accepted : outcome p
     shut-waiting J I o false false least e h = let z : _≡_ {A = ℕ} 0 1 = cc in omega arith
 
     never-empty : Waits p sound m c s f r h ⊎ Runs p sound m c s f r h → opening p (calendar p c) r ≡ Shut refusal.EmptyOffer → ⊥
-    unfolding openingIn
+    unfolding openingAt
     never-empty (inl w) e =
         shut-waiting (suc (w .j)) (suc (w .i)) (offerOf p (calendar p c) r (suc (w .j)) (suc (w .i))) (ltb (p .last) (suc (w .j))) _
         (reached-some (suc (w .j)) (suc (w .i)) (w .phase)) refl (sym (ap (openingIn p (calendar p c) r) (w .phase)) ∙ e)
     never-empty (inr w) e =
-        let o = opening-running p (calendar p c) r (suc (w .j)) (suc (w .i)) (w .since) (w .phase) in
+        let o = opening-running (turnOf p (calendar p c) (jobOfPhase (r .phase))) (calendar p c .«at_least») (calendar p c .«at_most») r (r .phase) (suc (w .j)) (suc (w .i)) (w .since) (w .phase) in
         let z : _≡_ {A = ℕ} 0 1 = cc in
         omega arith
 
@@ -574,10 +482,7 @@ module _ (p : Plan) (sound : Sound p) (m : ℕ) (c : Rows) (accepted : outcome p
     reached-never-empty e = never-empty (state p sound m c s f reached) e
 
     pub reached-never-11 : (st : Step) → stepped p (calendar p c) r st .answer ≡ Refused refusal.EmptyOffer → ⊥
-    unfolding stepped
-    reached-never-11 Ask e = reached-never-empty (asked-empty r (opening p (calendar p c) r) e)
-    reached-never-11 (Start choice) e = reached-never-empty (started-empty r choice (opening p (calendar p c) r) e)
-    reached-never-11 (Finish t) e = finished-empty p r t (r .phase) e
+    reached-never-11 st e = reached-never-empty (answer-empty _ _ _ r st e)
 
     -- while the run lasts it is open: an ask is answered by it, and a start is taken exactly if it is on offer
     opened-as : (J I : ℕ) (o : Offer) → o .from .0 ≤ℤ o .to .0 → opened J I o ≡ Open J I o
@@ -589,7 +494,7 @@ module _ (p : Plan) (sound : Sound p) (m : ℕ) (c : Rows) (accepted : outcome p
 
     module _ (J I : ℕ) (phase : r .phase ≡ Waiting J I) (lasts : J ≤ p .last) where
       pub reached-open : opening p (calendar p c) r ≡ Open J I (offerOf p (calendar p c) r J I)
-      unfolding openingIn
+      unfolding openingAt
       reached-open =
           ap (openingIn p (calendar p c) r) phase
           ∙ ap (λ b. cond b (Shut refusal.Over) (opened J I (offerOf p (calendar p c) r J I))) (le-ltb (p .last) J lasts)
@@ -613,21 +518,17 @@ module _ (p : Plan) (sound : Sound p) (m : ℕ) (c : Rows) (accepted : outcome p
           le-self t = omega wholes
 
       pub reached-auto : Accepted p → stepped p (calendar p c) r (Start Auto) .answer ≡ Started J I (offerOf p (calendar p c) r J I .from)
-      unfolding stepped started
-      reached-auto a =
-          let o = offerOf p (calendar p c) r J I in
-          ap (λ x. started r Auto x .answer) reached-open
-          ∙ ap (λ b. cond b (startedAt r J I (o .from)) (refusedWith r outsideLimits) .answer) (reached-time a)
+      reached-auto a = start-auto _ _ _ r J I _ reached-open (reached-time a)
 
       pub reached-ask : stepped p (calendar p c) r Ask .answer ≡ Offered (offerOf p (calendar p c) r J I)
-      reached-ask = ask-offered p (calendar p c) r J I _ reached-open
+      reached-ask = ask-offered _ _ _ r J I _ reached-open
 
       module _ (t : RunTime) where
         pub reached-taken : OnOffer (offerOf p (calendar p c) r J I) (t .0) → stepped p (calendar p c) r (Start (At t)) .answer ≡ Started J I t
-        reached-taken on = start-taken p (calendar p c) r J I _ reached-open t on
+        reached-taken on = start-taken _ _ _ r J I _ reached-open t (on .least) (on .most)
 
         pub reached-refused : (OnOffer (offerOf p (calendar p c) r J I) (t .0) → ⊥) → stepped p (calendar p c) r (Start (At t)) .answer ≡ Refused refusal.OutsideOffer
-        reached-refused off = start-refused p (calendar p c) r J I _ reached-open t off
+        reached-refused off = start-refused _ _ _ r J I _ reached-open t (λ a b. off (record { least = a; most = b }))
 
     -- a finish is final exactly inside its times
     module _ (J I : ℕ) (since : RunTime) (phase : r .phase ≡ Running J I since) (t : RunTime) where
@@ -636,13 +537,13 @@ module _ (p : Plan) (sound : Sound p) (m : ℕ) (c : Rows) (accepted : outcome p
 
       pub reached-final : InTimes (turn p (length h)) (since .0) (t .0) ↔ (stepped p (calendar p c) r (Finish t) .answer ≡ Final J I t)
       reached-final = (
-        λ i. finish-inside p (calendar p c) r J I since phase t (subst (λ x. InTimes x (since .0) (t .0)) job-is i),
+        λ i. finish-final p (calendar p c) r J I since phase t (subst (λ x. InTimes x (since .0) (t .0)) job-is i),
         λ e. subst (λ x. InTimes x (since .0) (t .0)) (sym job-is) (final-inside p (calendar p c) r J I since phase t e),
       )
 
       pub reached-outside : (InTimes (turn p (length h)) (since .0) (t .0) → ⊥) → stepped p (calendar p c) r (Finish t) .answer ≡ Refused refusal.OutsideTimes
       reached-outside o =
-          finish-outside p (calendar p c) r J I since phase t (λ i. o (subst (λ x. InTimes x (since .0) (t .0)) (sym job-is) i))
+          finish-refused p (calendar p c) r J I since phase t (λ i. o (subst (λ x. InTimes x (since .0) (t .0)) (sym job-is) i))
 
   -- ---- a start on offer and a running time between min and max lead on
 
@@ -655,13 +556,20 @@ module _ (p : Plan) (sound : Sound p) (m : ℕ) (c : Rows) (accepted : outcome p
     taken = reached-taken r h reached J I phase lasts t on
 
     begins-reached : Reached p (calendar p c) begins h
-    begins-reached = reaching.started reached (At t) J I t taken
+    unfolding historyAfter
+    begins-reached = subst (λ a. Reached p (calendar p c) begins (historyAfter r a h)) taken (more reached (Start (At t)))
 
     begins-running : begins .phase ≡ Running J I t
     begins-running = started-running p (calendar p c) r (At t) J I t taken
 
     pub reached-on : (e : ℤ) → turn p (length h) .min ≤ℤ e → e ≤ℤ turn p (length h) .max → (r′ : Run) × Reached p (calendar p c) r′ (ranFor h (t .0) e)
+    unfolding historyAfter ended
     reached-on e lo hi =
         let u : RunTime = record { 0 = t .0 +ℤ e } in
         let inside : InTimes (turn p (length h)) (t .0) (t .0 +ℤ e) = record { least = omega wholes; most = omega wholes } in
-        (_, reaching.finished begins-reached J I t u begins-running (reached-final begins h begins-reached J I t begins-running u .0 inside))
+        let final = reached-final begins h begins-reached J I t begins-running u .0 inside in
+        let ends = stepped p (calendar p c) begins (Finish u) .run in (
+          ends,
+          subst (λ f. Reached p (calendar p c) ends (ended f u h)) begins-running
+              (subst (λ a. Reached p (calendar p c) ends (historyAfter begins a h)) final (more begins-reached (Finish u))),
+        )

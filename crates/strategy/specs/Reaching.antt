@@ -1,5 +1,5 @@
--- Offers, and runs that kept to them: those that come from the beginning by starts and finishes that were accepted, with the history of their finished jobs.
--- A step that is refused, and an ask, leave the run as it is.
+-- Offers, and runs that kept to them: a start moves a run only where it was on offer, and a finish only inside its times, so that every run that comes from the beginning
+-- step by step is one.
 use Prim.Native.Nat.{ℕ, _+_, _*_, _-_, _≤_}
 use mathlib.Core.Path.{_≡_}
 use mathlib.Core.List.{List, [], _∷_, _++_}
@@ -10,13 +10,13 @@ use Rattle.clock.specs.declared.RunTime.{RunTime}
 use Rattle.plan.specs.declared.Job.{Job}
 use Rattle.plan.specs.declared.Plan.{Plan}
 use Rattle.calendars.specs.declared.Calendar.{Calendar}
-use Rattle.runs.specs.declared.Phase.the-variants.{Running}
+use Rattle.runs.specs.declared.Phase.{Phase}
+use Rattle.runs.specs.declared.Phase.the-variants.{Waiting, Running}
 use Rattle.runs.specs.declared.Run.{Run}
 use Rattle.runs.specs.declared.Offer.{Offer}
-use Rattle.runs.specs.declared.Choice.{Choice}
 use Rattle.runs.specs.declared.Step.{Step}
-use Rattle.runs.specs.declared.Step.the-variants.{Start, Finish}
-use Rattle.runs.specs.declared.Answer.the-variants.{Started, Final}
+use Rattle.runs.specs.declared.Answer.{Answer}
+use Rattle.runs.specs.declared.Answer.the-variants.{Offered, Started, Final, Refused}
 use Rattle.runs.specs.Steps.{newRun, stepped, step}
 use Rattle.strategy.specs.Histories.{History}
 
@@ -37,15 +37,26 @@ pub record AtTurn (p : Plan) (h : History) (j i : ℕ) : Type 0 where
   pub job-most : i ≤ p .jobs
   pub finished : length h ≡ (j - 1) * p .jobs + (i - 1)
 
+-- ---- what an answer adds to the history
+
+-- the job that runs has finished at t
+unfoldable pub ended : Phase → RunTime → History → History
+ended (Waiting j i) t h = h
+ended (Running j i s) t h = h ++ (record { start = s .0; finish = t .0 } ∷ [])
+
+-- 'A count is final exactly when its finish is accepted.'
+unfoldable pub historyAfter : Run → Answer → History → History
+historyAfter r (Offered o) h = h
+historyAfter r (Started j i t) h = h
+historyAfter r (Final j i t) h = ended (r .phase) t h
+historyAfter r (Refused x) h = h
+
+-- ---- runs that come from the beginning step by step, whatever is answered, each with the history of its finished jobs
+
 pub data Reached (p : Plan) (c : Calendar) : Run → History → Type 0 where
   begun : Reached p c newRun []
-  -- `start=T` or `start=auto`, answered by `started=j,i,t`
-  started : {r : Run} {h : History} → Reached p c r h → (choice : Choice) (j i : ℕ) (t : RunTime)
-      → stepped p c r (Start choice) .answer ≡ Started j i t → Reached p c (stepped p c r (Start choice) .run) h
-  -- `finish=t`, answered by `final=j,i,t`, of a job that runs since s
-  finished : {r : Run} {h : History} → Reached p c r h → (j i : ℕ) (s t : RunTime) → r .phase ≡ Running j i s
-      → stepped p c r (Finish t) .answer ≡ Final j i t
-      → Reached p c (stepped p c r (Finish t) .run) (h ++ (record { start = s .0; finish = t .0 } ∷ []))
+  more : {r : Run} {h : History} → Reached p c r h → (st : Step)
+      → Reached p c (stepped p c r st .run) (historyAfter r (stepped p c r st .answer) h)
 
 -- ---- sessions: 'a plan followed by steps'
 

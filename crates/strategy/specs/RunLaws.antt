@@ -1,13 +1,11 @@
 -- A run value and its history: the times of a run are its history's, so its offer is what the tables allow, in the first window and in later ones.
-use Prim.Native.Nat.{ℕ, zero, suc, _+_, _*_, _-_, _/_, _%_, _≤_, _<_}
+use Prim.Native.Nat.{ℕ, zero, suc, _+_, _*_, _-_, _≤_, _<_}
 use mathlib.Core.Path.{_≡_, refl, sym, ap, ap₂, subst, _∙_}
 use mathlib.Core.Logic.{_⊎_, inl, inr, ⊎-elim}
-use mathlib.Core.Bool.{true, false, or-true}
 use mathlib.Core.List.{List, []}
 use native.Mathlib.Omega.{arith}
 use lib.IntN.{ℤ, pos, _+ℤ_, _-ℤ_, _*ℤ_}
 use lib.ListN.{length, getD}
-use borrow.Author.Tests.{eq-eqb, ne-eqb, lt-ltb, le-ltb, le-leb, leb-true}
 use Rattle.whole.specs.SplitLaws.{split-mul}
 use Rattle.whole.specs.Rules.{wholes}
 use Rattle.whole.specs.Shape.{any, _⊕_, _⊖_, eq}
@@ -18,9 +16,11 @@ use Rattle.bounds.specs.Events.{eventOf, startNode, finishNode}
 use Rattle.bounds.specs.Tables.{plus, Rows, at}
 use Rattle.bounds.specs.BuildLaws.{eventOf-start, eventOf-finish, byNode}
 use Rattle.rounds.specs.Rounds.{ownNodes, moved}
-use Rattle.runs.specs.declared.Probe.{Probe}
+use Rattle.calendars.specs.Calendars.{mostEvents}
+use Rattle.runs.specs.declared.Before.the-variants.{Nothing, Window}
 use Rattle.runs.specs.declared.Run.{Run}
-use Rattle.runs.specs.Offers.{noProbe, timeIn, timeOf, isInForce}
+use Rattle.runs.specs.Seen.{timeAt}
+use Rattle.runs.specs.SeenLaws.{firstSeen-most}
 use Rattle.strategy.specs.Histories.{Ran, History, seenFrom}
 use Rattle.strategy.specs.Strategies.{ranIn}
 use Rattle.strategy.specs.Keeping.{Holds, when}
@@ -33,100 +33,61 @@ use Rattle.strategy.specs.OfferLaws.{InForce, tableBegin, nodeTime, Fitt
 
 -- ---- what a run shows
 
-abbrev pub probeOf : Ran → Probe
-probeOf r = record { start = record { 0 = r .start }; finish = record { 0 = r .finish } }
+-- the job at place k of the previous and the present window has run as the history says
+pub record ShowsJob (seen : List ℤ) (k : ℕ) (q : Ran) : Type 0 where
+  pub start : timeAt seen (2 * k) .0 ≡ q .start
+  pub finish : timeAt seen (1 + 2 * k) .0 ≡ q .finish
 
 -- the previous window, where there is one
 abbrev pub ShowsPrevious : Plan → Run → History → ℕ → Type 0
-ShowsPrevious p r h zero = r .«has_previous» ≡ false
-ShowsPrevious p r h (suc j) =
-    (r .«has_previous» ≡ true) × ((k : ℕ) → k < p .jobs → getD (r .previous) k noProbe ≡ probeOf (ranIn h (j * p .jobs + k)))
+ShowsPrevious p r h zero = r .before ≡ Nothing
+ShowsPrevious p r h (suc j) = (r .before ≡ Window) × ((k : ℕ) → k < p .jobs → ShowsJob (r .seen) k (ranIn h (j * p .jobs + k)))
 
 -- j windows and i jobs of the next one
 pub record Shows (p : Plan) (r : Run) (h : History) (j i : ℕ) : Type 0 where
-  pub places : length (r .present) ≡ mostJobs
-  pub present : (k : ℕ) → k < i → getD (r .present) k noProbe ≡ probeOf (ranIn h (j * p .jobs + k))
+  pub places : length (r .seen) ≡ mostEvents
+  pub present : (k : ℕ) → k < i → ShowsJob (r .seen) (p .jobs + k) (ranIn h (j * p .jobs + k))
   pub previous : ShowsPrevious p r h j
 
 -- ---- the times of its events
 
-time-even : (qs : List Probe) (e k : ℕ) → e ≡ 2 * k → timeIn qs e ≡ getD qs k noProbe .start .0
-time-even qs e k h =
-    let half : e / 2 ≡ k = omega arith in
-    let even : e % 2 ≡ 0 = omega arith in
-    rw (eq-eqb (e % 2) 0 even, half)
-
-time-odd : (qs : List Probe) (e k : ℕ) → e ≡ 1 + 2 * k → timeIn qs e ≡ getD qs k noProbe .finish .0
-time-odd qs e k h =
-    let half : e / 2 ≡ k = omega arith in
-    let odd : e % 2 ≡ 0 → ⊥ = omega arith in
-    rw (ne-eqb (e % 2) 0 odd, half)
-
 module _ (p : Plan) (r : Run) where
-  time-previous : (e : ℕ) → e < 2 * p .jobs → timeOf p r e ≡ timeIn (r .previous) e
-  unfolding timeOf
-  time-previous e h = rw (lt-ltb e (2 * p .jobs) h)
-
-  time-present : (e : ℕ) → 2 * p .jobs ≤ e → timeOf p r e ≡ timeIn (r .present) (e - 2 * p .jobs)
-  unfolding timeOf
-  time-present e h = rw (le-ltb e (2 * p .jobs) h)
-
-  node-time : (J y : ℕ) → 0 < y → nodeTime p r J y ≡ timeOf p r (y - 1) -ℤ tableBegin p J
+  node-time : (J y : ℕ) → 0 < y → nodeTime p r J y ≡ timeAt (r .seen) (y - 1) .0 -ℤ tableBegin p J
   node-time J zero h = absurd (omega arith)
-  node-time J (suc k) h = ap (λ k. timeOf p r k -ℤ tableBegin p J) (let e : k ≡ suc k - 1 = omega arith in e)
+  node-time J (suc k) h = ap (λ k. timeAt (r .seen) k .0 -ℤ tableBegin p J) (let e : k ≡ suc k - 1 = omega arith in e)
 
-  all-force : r .«has_previous» ≡ true → (y : ℕ) → InForce p r y
-  unfolding isInForce
+  all-force : r .before ≡ Window → (y : ℕ) → InForce p r y
   all-force h zero = tt
-  all-force h (suc k) = rw h
+  all-force h (suc k) = rw h (omega arith)
 
   next-force : (y : ℕ) → InForce p r (nextNode p y)
-  unfolding isInForce
   next-force zero = tt
-  next-force (suc y) =
-      rw (next-later p (suc y) (omega arith), suc-of y (ownNodes p)) (rw (le-leb (2 * p .jobs) (y + ownNodes p) (omega arith)) (or-true (r .«has_previous»)))
+  next-force (suc y) = rw (next-later p (suc y) (omega arith), suc-of y (ownNodes p)) (omega (arith, firstSeen-most (p .jobs) (r .before)))
     where
       suc-of : (y n : ℕ) → suc y + n ≡ suc (y + n)
       suc-of y n = omega arith
 
   -- in the first window only the present window's events are in force
-  force-next : r .«has_previous» ≡ false → (y : ℕ) → InForce p r y → (x : ℕ) × (y ≡ nextNode p x) × ((x ≡ 0) ⊎ (x + ownNodes p ≡ y))
-  unfolding isInForce
+  force-next : r .before ≡ Nothing → (y : ℕ) → InForce p r y → (x : ℕ) × (y ≡ nextNode p x) × ((x ≡ 0) ⊎ (x + ownNodes p ≡ y))
   force-next h zero f = (0, refl, inl refl)
   force-next h (suc k) f =
-      let b = leb-true (2 * p .jobs) k (rw h at f) in
+      let b : 2 * p .jobs ≤ k = rw h at f in
       let e : suc k ≡ (suc k - ownNodes p) + ownNodes p = omega arith in
       (suc k - ownNodes p, e ∙ sym (next-later p (suc k - ownNodes p) (omega arith)), inr (sym e))
 
   -- ---- later windows
 
   module _ (h : History) (j i : ℕ) (sh : Shows p r h (suc j) i) (low : i < p .jobs) (size : length h ≡ suc j * p .jobs + i) where
-    probe-at : (k : ℕ) → k < p .jobs + i → Probe
-    probe-at k l = probeOf (ranIn h (j * p .jobs + k))
-
-    present-at : (k : ℕ) → p .jobs ≤ k → k < p .jobs + i → getD (r .present) (k - p .jobs) noProbe ≡ probeOf (ranIn h (j * p .jobs + k))
-    present-at k a b =
-        let e : suc j * p .jobs + (k - p .jobs) ≡ j * p .jobs + k = omega arith in
-        sh .present (k - p .jobs) (omega arith) ∙ ap (λ k. probeOf (ranIn h k)) e
-
-    start-time : (k : ℕ) → k < p .jobs + i → timeOf p r (2 * k) ≡ ranIn h (j * p .jobs + k) .start
-    start-time k l =
+    -- the jobs of both windows
+    shows-job : (k : ℕ) → k < p .jobs + i → ShowsJob (r .seen) k (ranIn h (j * p .jobs + k))
+    shows-job k l =
         ⊎-elim
         (λ (a : p .jobs ≤ k).
-        time-present (2 * k) (omega arith) ∙ time-even (r .present) (2 * k - 2 * p .jobs) (k - p .jobs) (omega arith)
-        ∙ ap (λ q. q .start .0) (present-at k a l))
-        (λ (a : k < p .jobs).
-        time-previous (2 * k) (omega arith) ∙ time-even (r .previous) (2 * k) k refl ∙ ap (λ q. q .start .0) (sh .previous .1 k a))
-        (at-most-or-above (p .jobs) k)
-
-    finish-time : (k : ℕ) → k < p .jobs + i → timeOf p r (1 + 2 * k) ≡ ranIn h (j * p .jobs + k) .finish
-    finish-time k l =
-        ⊎-elim
-        (λ (a : p .jobs ≤ k).
-        time-present (1 + 2 * k) (omega arith) ∙ time-odd (r .present) (1 + 2 * k - 2 * p .jobs) (k - p .jobs) (omega arith)
-        ∙ ap (λ q. q .finish .0) (present-at k a l))
-        (λ (a : k < p .jobs).
-        time-previous (1 + 2 * k) (omega arith) ∙ time-odd (r .previous) (1 + 2 * k) k refl ∙ ap (λ q. q .finish .0) (sh .previous .1 k a))
+        let e : p .jobs + (k - p .jobs) ≡ k = omega arith in
+        let f : suc j * p .jobs + (k - p .jobs) ≡ j * p .jobs + k = omega arith in
+        subst (λ n. ShowsJob (r .seen) n (ranIn h (j * p .jobs + k))) e
+        (subst (λ n. ShowsJob (r .seen) (p .jobs + (k - p .jobs)) (ranIn h n)) f (sh .present (k - p .jobs) (omega arith))))
+        (λ (a : k < p .jobs). sh .previous .1 k a)
         (at-most-or-above (p .jobs) k)
 
     begin-is : tableBegin p (suc j) ≡ pos j *ℤ p .window
@@ -140,29 +101,22 @@ module _ (p : Plan) (r : Run) where
         let low′ : k < p .jobs + i = omega arith in
         let inside : j * p .jobs + k < length h = omega arith in
         node-time (suc j) (startNode k) (omega arith)
-        ∙ ap₂ (λ a b. a -ℤ b) (ap (timeOf p r) (let e : startNode k - 1 ≡ 2 * k = omega arith in e) ∙ start-time k low′) begin-is
+        ∙ ap₂ (λ a b. a -ℤ b) (ap (λ e. timeAt (r .seen) e .0) (let e : startNode k - 1 ≡ 2 * k = omega arith in e) ∙ shows-job k low′ .start) begin-is
         ∙ sym (ap (when (seenFrom p j h)) (eventOf-start k) ∙ ap (λ r. r .start) (ran-seen p j h k inside)))
         (λ k l.
         let low′ : k < p .jobs + i = omega arith in
         let inside : j * p .jobs + k < length h = omega arith in
         node-time (suc j) (finishNode k) (omega arith)
-        ∙ ap₂ (λ a b. a -ℤ b) (ap (timeOf p r) (let e : finishNode k - 1 ≡ 1 + 2 * k = omega arith in e) ∙ finish-time k low′) begin-is
+        ∙ ap₂ (λ a b. a -ℤ b) (ap (λ e. timeAt (r .seen) e .0) (let e : finishNode k - 1 ≡ 1 + 2 * k = omega arith in e) ∙ shows-job k low′ .finish) begin-is
         ∙ sym (ap (when (seenFrom p j h)) (eventOf-finish k) ∙ ap (λ r. r .finish) (ran-seen p j h k inside)))
 
   -- ---- the first window
 
   module _ (h : History) (i : ℕ) (sh : Shows p r h 0 i) where
-    first-start : (k : ℕ) → k < i → timeOf p r (2 * (p .jobs + k)) ≡ ranIn h k .start
-    first-start k l =
-        time-present (2 * (p .jobs + k)) (omega arith) ∙ time-even (r .present) (2 * (p .jobs + k) - 2 * p .jobs) k (omega arith)
-        ∙ ap (λ q. q .start .0) (sh .present k l) ∙ ap (λ k. ranIn h k .start) (let e : 0 * p .jobs + k ≡ k = omega arith in e)
+    first-job : (k : ℕ) → k < i → ShowsJob (r .seen) (p .jobs + k) (ranIn h k)
+    first-job k l = subst (λ n. ShowsJob (r .seen) (p .jobs + k) (ranIn h n)) (let e : 0 * p .jobs + k ≡ k = omega arith in e) (sh .present k l)
 
-    first-finish : (k : ℕ) → k < i → timeOf p r (1 + 2 * (p .jobs + k)) ≡ ranIn h k .finish
-    first-finish k l =
-        time-present (1 + 2 * (p .jobs + k)) (omega arith) ∙ time-odd (r .present) (1 + 2 * (p .jobs + k) - 2 * p .jobs) k (omega arith)
-        ∙ ap (λ q. q .finish .0) (sh .present k l) ∙ ap (λ k. ranIn h k .finish) (let e : 0 * p .jobs + k ≡ k = omega arith in e)
-
-    later-by : (y : ℕ) → 0 < y → nodeTime p r 0 (nextNode p y) ≡ timeOf p r (y + ownNodes p - 1) -ℤ tableBegin p 0
+    later-by : (y : ℕ) → 0 < y → nodeTime p r 0 (nextNode p y) ≡ timeAt (r .seen) (y + ownNodes p - 1) .0 -ℤ tableBegin p 0
     later-by y l =
         ap (nodeTime p r 0) (next-later p y l) ∙ node-time 0 (y + ownNodes p) (omega arith)
 
@@ -176,12 +130,12 @@ module _ (p : Plan) (r : Run) where
         (λ l. refl)
         (λ k l.
         later-by (startNode k) (omega arith)
-        ∙ ap (λ a. a -ℤ tableBegin p 0) (ap (timeOf p r) (let e : startNode k + ownNodes p - 1 ≡ 2 * (p .jobs + k) = omega arith in e) ∙ first-start k (omega arith))
+        ∙ ap (λ a. a -ℤ tableBegin p 0) (ap (λ e. timeAt (r .seen) e .0) (let e : startNode k + ownNodes p - 1 ≡ 2 * (p .jobs + k) = omega arith in e) ∙ first-job k (omega arith) .start)
         ∙ window-later (ranIn h k .start) (p .window)
         ∙ sym (ap₂ (λ e m. when h e +ℤ m) (eventOf-start k) (moved-later p (startNode k) (omega arith))))
         (λ k l.
         later-by (finishNode k) (omega arith)
-        ∙ ap (λ a. a -ℤ tableBegin p 0) (ap (timeOf p r) (let e : finishNode k + ownNodes p - 1 ≡ 1 + 2 * (p .jobs + k) = omega arith in e) ∙ first-finish k (omega arith))
+        ∙ ap (λ a. a -ℤ tableBegin p 0) (ap (λ e. timeAt (r .seen) e .0) (let e : finishNode k + ownNodes p - 1 ≡ 1 + 2 * (p .jobs + k) = omega arith in e) ∙ first-job k (omega arith) .finish)
         ∙ window-later (ranIn h k .finish) (p .window)
         ∙ sym (ap₂ (λ e m. when h e +ℤ m) (eventOf-finish k) (moved-later p (finishNode k) (omega arith))))
 

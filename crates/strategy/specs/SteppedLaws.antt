@@ -1,40 +1,36 @@
--- How a run is answered, of any run with any plan and calendar. A start that is answered leaves the run running since then (`started-running`). A finish is
--- final exactly inside its times (`finish-inside`, `final-inside`, `finish-outside`), and then the run waits for the window's next job (`final-next`) or for the first
--- job of the next window (`final-over`). While an opening is open, a start is taken exactly if it is on offer (`start-taken`, `start-refused`).
+-- How a run is answered, and where it stands then, of any run with any plan and calendar. A start that is answered leaves the run running since then (`started-running`). A
+-- finish is final exactly inside its times (`finish-final`, `final-inside`, `finish-refused`), and then the run waits for the window's next job (`final-next`) or for the first job
+-- of the next window (`final-over`). What an answer does to run and history (`Ways`) is one of three things: nothing, a start on offer, a finish inside its times (`step-ways`).
 use Prim.Native.Nat.{ℕ, _+_, _-_, _≤_, _<_}
-use mathlib.Core.Path.{_≡_, refl, ap, _∙_}
-use mathlib.Core.Bool.{Bool, true, false, cond, _&&_}
+use mathlib.Core.Path.{_≡_, refl, sym, ap, subst, _∙_}
+use mathlib.Core.List.{List, [], _∷_, _++_}
 use native.Mathlib.Nat.{mod-eq-of-lt}
 use native.Mathlib.Omega.{arith}
 use lib.IntN.{ℤ, _+ℤ_}
-use lib.Signed.{_≤ℤ_, leZ}
+use lib.Signed.{_≤ℤ_}
 use lib.ListN.{length, getD}
 use borrow.Author.Tests.{lt-ltb, le-ltb}
-use Rattle.whole.specs.Rules.{wholes}
-use Rattle.text.specs.Numbers.{within}
 use Rattle.clock.specs.declared.RunTime.{RunTime}
 use Rattle.plan.specs.declared.Job.{Job}
 use Rattle.plan.specs.declared.Plan.{Plan}
-use Rattle.lines.specs.declared.Refusal.{Refusal}
 use Rattle.lines.specs.declared.Refusal.the-variants as refusal
-use Rattle.lines.specs.Refusals.{outsideLimits}
 use Rattle.plan.specs.PlanLines.{noJob}
 use Rattle.calendars.specs.declared.Calendar.{Calendar}
+use Rattle.runs.specs.declared.Phase.{Phase}
 use Rattle.runs.specs.declared.Phase.the-variants.{Waiting, Running}
 use Rattle.runs.specs.declared.Run.{Run}
-use Rattle.runs.specs.declared.Offer.{Offer}
-use Rattle.runs.specs.declared.Opening.{Opening}
-use Rattle.runs.specs.declared.Opening.the-variants.{Open, Shut}
+use Rattle.runs.specs.declared.Turn.{Turn}
+use Rattle.runs.specs.declared.Step.{Step}
+use Rattle.runs.specs.declared.Step.the-variants.{Start, Finish}
 use Rattle.runs.specs.declared.Choice.{Choice}
-use Rattle.runs.specs.declared.Choice.the-variants.{At, Auto}
-use Rattle.runs.specs.declared.Step.the-variants.{Ask, Start, Finish}
+use Rattle.runs.specs.declared.Answer.{Answer}
 use Rattle.runs.specs.declared.Answer.the-variants.{Offered, Started, Final, Refused}
-use Rattle.runs.specs.declared.Answered.{Answered}
-use Rattle.runs.specs.ValueLimits.{isTime}
-use Rattle.runs.specs.Offers.{opening}
-use Rattle.runs.specs.Steps.{refusedWith, asked, startedAt, started, closed, finished, stepped}
+use Rattle.runs.specs.ValueLimits.{jobOfPhase}
+use Rattle.runs.specs.Offers.{turnOf, offerAt, offerOf}
+use Rattle.runs.specs.Steps.{closedSince, closed, moved, answerOf, stepped}
+use Rattle.runs.specs.AnswerLaws.{answer-started, answer-final, finish-inside, finish-outside}
 use Rattle.strategy.specs.Histories.{History, turn}
-use Rattle.strategy.specs.Reaching.{OnOffer, InTimes, AtTurn}
+use Rattle.strategy.specs.Reaching.{OnOffer, InTimes, AtTurn, ended, historyAfter}
 use Rattle.strategy.specs.SeenLaws.{turn-seen}
 
 -- ---- whose turn it is
@@ -44,70 +40,45 @@ turn-is p h j i a =
     let low : i - 1 < p .jobs = omega (arith, a .job-least, a .job-most) in
     ap (turn p) (a .finished) ∙ turn-seen p (j - 1) (i - 1) ∙ ap (λ k. getD (p .job) k noJob) (mod-eq-of-lt low)
 
--- ---- between two ends
+-- ---- what an answer does to a run and its history
 
-within-yes : (lo hi z : ℤ) → lo ≤ℤ z → z ≤ℤ hi → within lo hi z ≡ true
-within-yes lo hi z a b = go (leZ lo z) (leZ z hi) refl refl
-  where
-    go : (x y : Bool) → leZ lo z ≡ x → leZ z hi ≡ y → x && y ≡ true
-    go true true e g = refl
-    go true false e g = absurd (omega wholes)
-    go false y e g = absurd (omega wholes)
+-- the run that job i of window j runs in since t
+abbrev pub runningSince : Run → ℕ → ℕ → RunTime → Run
+runningSince r j i t = record { phase = Running j i t; before = r .before; seen = r .seen }
 
-within-no : (lo hi z : ℤ) → (lo ≤ℤ z → z ≤ℤ hi → ⊥) → within lo hi z ≡ false
-within-no lo hi z f = go (leZ lo z) (leZ z hi) refl refl
-  where
-    go : (x y : Bool) → leZ lo z ≡ x → leZ z hi ≡ y → x && y ≡ false
-    go true true e g = absurd (f (omega wholes) (omega wholes))
-    go true false e g = refl
-    go false y e g = refl
-
--- both, from the test
-pub within-is : (lo hi z : ℤ) → within lo hi z ≡ true → (lo ≤ℤ z) × (z ≤ℤ hi)
-within-is lo hi z h = go (leZ lo z) (leZ z hi) refl refl h
-  where
-    go : (x y : Bool) → leZ lo z ≡ x → leZ z hi ≡ y → x && y ≡ true → (lo ≤ℤ z) × (z ≤ℤ hi)
-    go true true e g h = (omega wholes, omega wholes)
-    go true false e g h = absurd (let z : _≡_ {A = ℕ} 0 1 = cc in omega arith)
-    go false y e g h = absurd (let z : _≡_ {A = ℕ} 0 1 = cc in omega arith)
-
--- ---- starts
-
-since-then : (r : Run) (a b j i : ℕ) (t u : RunTime) (q : Refusal) (x : Bool) → cond x (startedAt r a b t) (refusedWith r q) .answer ≡ Started j i u
-    → cond x (startedAt r a b t) (refusedWith r q) .run .phase ≡ Running j i u
-since-then r a b j i t u q true e = cc
-since-then r a b j i t u q false e = absurd (let z : _≡_ {A = ℕ} 0 1 = cc in omega arith)
-
-started-since : (r : Run) (choice : Choice) (x : Opening) (j i : ℕ) (t : RunTime) → started r choice x .answer ≡ Started j i t
-    → started r choice x .run .phase ≡ Running j i t
-unfolding started
-started-since r (At u) (Open a b o) j i t e = since-then r a b j i u t refusal.OutsideOffer (within (o .from .0) (o .to .0) (u .0)) e
-started-since r Auto (Open a b o) j i t e = since-then r a b j i (o .from) t outsideLimits (isTime (o .from)) e
-started-since r choice (Shut q) j i t e = absurd (let z : _≡_ {A = ℕ} 0 1 = cc in omega arith)
+-- nothing; a start that was on offer while the run lasts; a finish of the job that runs, inside its times
+pub data Ways (p : Plan) (c : Calendar) (r : Run) (h : History) : Run → History → Type 0 where
+  same : Ways p c r h r h
+  starts : (j i : ℕ) (t : RunTime) → r .phase ≡ Waiting j i → j ≤ p .last → OnOffer (offerOf p c r j i) (t .0) → Ways p c r h (runningSince r j i t) h
+  finishes : (j i : ℕ) (s t : RunTime) → r .phase ≡ Running j i s → InTimes (getD (p .job) (i - 1) noJob) (s .0) (t .0)
+      → Ways p c r h (closedSince (p .jobs) r j i s t) (h ++ (record { start = s .0; finish = t .0 } ∷ []))
 
 module _ (p : Plan) (c : Calendar) (r : Run) where
+  module _ (h : History) where
+    answer-ways : (st : Step) (a : Answer) → answerOf p c r st ≡ a → Ways p c r h (moved (p .jobs) r a) (historyAfter r a h)
+    unfolding moved historyAfter closed ended
+    answer-ways st (Offered o) e = same
+    answer-ways st (Started j i t) e =
+        let k = answer-started _ _ _ r st j i t e in
+        let w = k .opens .waits in
+        let is : offerOf p c r j i ≡ k .offer =
+        sym (ap (λ (i′ : ℕ). offerAt (turnOf p c i′) (c .«at_least») (c .«at_most») r j i) (ap jobOfPhase w)) ∙ k .opens .offer in
+        starts j i t w (k .opens .lasts) (subst (λ o. OnOffer o (t .0)) (sym is) (record { least = k .least; most = k .most }))
+    answer-ways st (Final j i t) e =
+        let k = answer-final _ _ _ r st j i t e in
+        let limits = ap (λ (i : ℕ). getD (p .job) (i - 1) noJob) (ap jobOfPhase (k .runs)) in
+        let inside : InTimes (getD (p .job) (i - 1) noJob) (k .since .0) (t .0)
+        = subst (λ job. InTimes job (k .since .0) (t .0)) limits (record { least = k .least; most = k .most }) in
+        subst (λ f. Ways p c r h (closed (p .jobs) r t f) (ended f t h)) (sym (k .runs)) (finishes j i (k .since) t (k .runs) inside)
+    answer-ways st (Refused x) e = same
+
+    pub step-ways : (st : Step) → Ways p c r h (stepped p c r st .run) (historyAfter r (stepped p c r st .answer) h)
+    step-ways st = answer-ways st (answerOf p c r st) refl
+
   pub started-running : (choice : Choice) (j i : ℕ) (t : RunTime) → stepped p c r (Start choice) .answer ≡ Started j i t
       → stepped p c r (Start choice) .run .phase ≡ Running j i t
-  unfolding stepped
-  started-running choice j i t e = started-since r choice (opening p c r) j i t e
-
-  module _ (j i : ℕ) (o : Offer) (opens : opening p c r ≡ Open j i o) where
-    pub ask-offered : stepped p c r Ask .answer ≡ Offered o
-    unfolding stepped asked
-    ask-offered = ap (λ x. asked r x .answer) opens
-
-    module _ (t : RunTime) where
-      started-at : (b : Bool) → within (o .from .0) (o .to .0) (t .0) ≡ b
-          → stepped p c r (Start (At t)) ≡ cond b (startedAt r j i t) (refusedWith r refusal.OutsideOffer)
-      unfolding stepped started
-      started-at b e = ap (started r (At t)) opens ∙ ap (λ b. cond b (startedAt r j i t) (refusedWith r refusal.OutsideOffer)) e
-
-      pub start-taken : OnOffer o (t .0) → stepped p c r (Start (At t)) .answer ≡ Started j i t
-      start-taken on = ap (λ a. a .answer) (started-at true (within-yes (o .from .0) (o .to .0) (t .0) (on .least) (on .most)))
-
-      pub start-refused : (OnOffer o (t .0) → ⊥) → stepped p c r (Start (At t)) .answer ≡ Refused refusal.OutsideOffer
-      start-refused off =
-          ap (λ a. a .answer) (started-at false (within-no (o .from .0) (o .to .0) (t .0) (λ a b. off (record { least = a; most = b }))))
+  unfolding moved
+  started-running choice j i t e = ap (λ a. moved (p .jobs) r a .phase) e
 
   -- ---- finishes
 
@@ -115,41 +86,36 @@ module _ (p : Plan) (c : Calendar) (r : Run) where
     abbrev job : Job
     job = getD (p .job) (i - 1) noJob
 
-    abbrev ended : Answered
-    ended = record { answer = Final j i t; run = closed p r j i (record { start = s; finish = t }) }
+    -- the limits that the answer looks at
+    limits : turnOf p c (jobOfPhase (r .phase)) .job ≡ job
+    limits = ap (λ f. getD (p .job) (jobOfPhase f - 1) noJob) runs
 
-    finished-at : (b : Bool) → within (s .0 +ℤ job .min) (s .0 +ℤ job .max) (t .0) ≡ b
-        → stepped p c r (Finish t) ≡ cond b ended (refusedWith r refusal.OutsideTimes)
-    unfolding stepped finished
-    finished-at b e = ap (finished p r t) runs ∙ ap (λ b. cond b ended (refusedWith r refusal.OutsideTimes)) e
+    pub finish-final : InTimes job (s .0) (t .0) → stepped p c r (Finish t) .answer ≡ Final j i t
+    finish-final h =
+        let q = subst (λ job. InTimes job (s .0) (t .0)) (sym limits) h in finish-inside _ _ _ r j i s runs t (q .least) (q .most)
 
-    inside : InTimes job (s .0) (t .0) → stepped p c r (Finish t) ≡ ended
-    inside h = finished-at true (within-yes _ _ (t .0) (h .least) (h .most))
-
-    outside : (InTimes job (s .0) (t .0) → ⊥) → stepped p c r (Finish t) ≡ refusedWith r refusal.OutsideTimes
-    outside h = finished-at false (within-no _ _ (t .0) (λ a b. h (record { least = a; most = b })))
-
-    pub finish-inside : InTimes job (s .0) (t .0) → stepped p c r (Finish t) .answer ≡ Final j i t
-    finish-inside h = ap (λ a. a .answer) (inside h)
-
-    pub finish-outside : (InTimes job (s .0) (t .0) → ⊥) → stepped p c r (Finish t) .answer ≡ Refused refusal.OutsideTimes
-    finish-outside h = ap (λ a. a .answer) (outside h)
-
-    final-times : (b : Bool) → within (s .0 +ℤ job .min) (s .0 +ℤ job .max) (t .0) ≡ b → stepped p c r (Finish t) .answer ≡ Final j i t
-        → InTimes job (s .0) (t .0)
-    final-times true e h = let w = within-is _ _ (t .0) e in record { least = w .0; most = w .1 }
-    final-times false e h = let d = ap (λ a. a .answer) (finished-at false e) in absurd (let z : _≡_ {A = ℕ} 0 1 = cc in omega arith)
+    pub finish-refused : (InTimes job (s .0) (t .0) → ⊥) → stepped p c r (Finish t) .answer ≡ Refused refusal.OutsideTimes
+    finish-refused h =
+        finish-outside _ _ _ r j i s runs t
+        (λ a b. h (subst (λ job. InTimes job (s .0) (t .0)) limits (record { least = a; most = b })))
 
     pub final-inside : stepped p c r (Finish t) .answer ≡ Final j i t → InTimes job (s .0) (t .0)
-    final-inside h = final-times _ refl h
+    final-inside e =
+        let k = answer-final _ _ _ r (Finish t) j i t e in
+        let x = k .runs in
+        let same : k .since ≡ s = cc in
+        subst (λ s. InTimes job (s .0) (t .0)) same
+        (subst (λ job. InTimes job (k .since .0) (t .0)) limits (record { least = k .least; most = k .most }))
 
     -- ---- where the run waits after it
 
     module _ (final : stepped p c r (Finish t) .answer ≡ Final j i t) where
+      closes : stepped p c r (Finish t) .run ≡ closedSince (p .jobs) r j i s t
+      unfolding moved closed
+      closes = ap (moved (p .jobs) r) final ∙ ap (closed (p .jobs) r t) runs
+
       pub final-next : i < p .jobs → stepped p c r (Finish t) .run .phase ≡ Waiting j (i + 1)
-      unfolding closed
-      final-next l = rw (inside (final-inside final), lt-ltb i (p .jobs) l)
+      final-next l = ap (λ r. r .phase) closes ∙ rw (lt-ltb i (p .jobs) l)
 
       pub final-over : p .jobs ≤ i → stepped p c r (Finish t) .run .phase ≡ Waiting (j + 1) 1
-      unfolding closed
-      final-over l = rw (inside (final-inside final), le-ltb i (p .jobs) l)
+      final-over l = ap (λ r. r .phase) closes ∙ rw (le-ltb i (p .jobs) l)

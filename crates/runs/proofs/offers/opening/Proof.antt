@@ -1,13 +1,15 @@
--- `opening` meets its contract, case by case of the phase.
-use mathlib.Core.Path.{sym, ap, subst, _∙_}
+-- `opening`: by the phase, and whether the run is over.
+use borrow.Author.Needs.{needs}
+use Prim.Native.Nat.{ℕ, _≤_}
+use mathlib.Core.Path.{_≡_, refl, sym, ap, subst, _∙_}
+use mathlib.Core.List.{List}
 use denote.Ref.{now}
 use Rattle.runs.specs.declared.Phase.{Phase}
+use Rattle.runs.specs.declared.Phase.the-variants.{Waiting}
 use Rattle.runs.specs.declared.Run.{Run}
-use Rattle.runs.specs.Offers.{offerOf, opened}
-use Rattle.runs.specs.Due.{duePlan, dueCalendar, OfferInside}
-use Rattle.runs.specs.Seen.{runOf}
-use Rattle.runs.specs.DueLaws.{opening-over, opening-waiting, opening-running}
-use borrow.Author.Needs.{needs}
+use Rattle.runs.specs.Offers.{offerAt, opened}
+use Rattle.runs.specs.Inside.{runOf, OfferInside}
+use Rattle.runs.specs.StepLaws.{opening-over, opening-waiting, opening-running}
 use Rattle.runs.proofs.offers.opening.Statement.{statement}
 use Rattle.runs.proofs.offers.opening.Tie as tie
 
@@ -15,21 +17,20 @@ enum-known-phase : tie.Need-enum-known-phase
 enum-known-phase c = search needs
 
 -- the run of what is handed over
-abbrev run-of : tie.Start → Run
-run-of s = runOf (s .args .phase) (s .args .has-previous) (now (s .args .previous)) (now (s .args .present))
+abbrev run-in : tie.Start → Phase → Run
+run-in s f = runOf f (s .args .before) (now (s .args .seen))
 
 returns : tie.Need-returns
 returns c =
     let s = c .before .before .before .before .before in
-    sym (opening-over (duePlan (s .args .d)) _ (run-of s) _ _ (c .before .before .before .phase .given .1) (c .if1 .taken))
+    sym (opening-over (s .args .turn) _ _ (run-in s (s .args .phase)) (s .args .phase) _ _ (c .before .before .before .phase .given .1) (c .if1 .taken))
 
 offer-of-requires : tie.Need-offer-of-requires
 offer-of-requires c κs =
     let s = c .before .before .before .before .before in
-    let e = c .before .before .before .phase .given .1 in
-    subst
-    (λ (f : Phase). OfferInside (s .args .d) (now (s .args .least)) (now (s .args .most)) (runOf f (s .args .has-previous) (now (s .args .previous)) (now (s .args .present))) (c .before .before .before .phase .given .0 .0) (c .before .before .before .phase .given .0 .1 .0))
-    e (s .pre .waiting _ _ e (c .if1 .left))
+    let w = c .before .before .before .phase .given in
+    subst (λ (f : Phase). OfferInside (s .args .turn) (now (s .args .least)) (now (s .args .most)) (run-in s f) (w .0 .0) (w .0 .1 .0)) (w .1)
+    (s .pre .waiting _ _ (w .1) (c .if1 .left))
 
 opened-requires : tie.Need-opened-requires
 opened-requires c κs = search needs
@@ -41,20 +42,17 @@ returns-2 : tie.Need-returns-2
 returns-2 c =
     let s = c .before .before .before .before .before .before .before in
     let a = s .args in
-    let j = c .before .before .before .before .before .phase .given .0 .0 in
-    let i = c .before .before .before .before .before .phase .given .0 .1 .0 in
-    let e = c .before .before .before .before .before .phase .given .1 in
-    c .opened .ensures ∙ ap (opened j i) (c .before .offer-of .ensures)
+    let w = c .before .before .before .before .before .phase .given in
+    c .opened .ensures
+    ∙ ap (opened (w .0 .0) (w .0 .1 .0)) (c .before .offer-of .ensures)
     ∙ sym
-    (opening-waiting (duePlan (a .d)) (dueCalendar (a .d) (now (a .least)) (now (a .most))) (run-of s) j i e (c .before .before .if1 .left)
-    ∙ ap
-    (λ (f : Phase).
-    opened j i (offerOf (duePlan (a .d)) (dueCalendar (a .d) (now (a .least)) (now (a .most))) (runOf f (a .has-previous) (now (a .previous)) (now (a .present))) j i))
-    e)
+    (opening-waiting (a .turn) (now (a .least)) (now (a .most)) (run-in s (a .phase)) (a .phase) (w .0 .0) (w .0 .1 .0) (w .1) (c .before .before .if1 .left)
+    ∙ ap (λ (f : Phase). opened (w .0 .0) (w .0 .1 .0) (offerAt (a .turn) (now (a .least)) (now (a .most)) (run-in s f) (w .0 .0) (w .0 .1 .0))) (w .1))
 
 returns-3 : tie.Need-returns-3
 returns-3 c =
-    let s = c .before .before in sym (opening-running (duePlan (s .args .d)) _ (run-of s) _ _ _ (c .enum-told .given .1))
+    let s = c .before .before in
+    sym (opening-running (s .args .turn) _ _ (run-in s (s .args .phase)) (s .args .phase) _ _ _ (c .enum-told .given .1))
 
 pub opening-spec : {M : Type 1} → statement M
 opening-spec =

@@ -12,11 +12,11 @@ enum-known-at-2 c = search needs
 
 returns : tie.Need-returns
 unfolding asked
-returns c = λ run. rw (c .before .at .given .1)
+returns c = rw (c .before .at .given .1)
 
 returns-2 : tie.Need-returns-2
 unfolding asked
-returns-2 c = λ run. rw (c .before .at2 .given .1)
+returns-2 c = rw (c .before .at2 .given .1)
 
 pub asked-spec : {M : Type 1} → statement M
 asked-spec = tie.close (tie.spec enum-known-at enum-known-at-2 returns returns-2)

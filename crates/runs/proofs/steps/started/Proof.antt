@@ -15,11 +15,11 @@ enum-known-at-2 c = search needs
 
 returns : tie.Need-returns
 unfolding started
-returns c = λ run. rw (c .before .before .at .given .1) (c .started-by .ensures run)
+returns c = rw (c .before .before .at .given .1) (c .started-by .ensures)
 
 returns-2 : tie.Need-returns-2
 unfolding started
-returns-2 c = λ run. rw (c .before .at2 .given .1)
+returns-2 c = rw (c .before .at2 .given .1)
 
 pub started-spec : {M : Type 1} → statement M
 started-spec =

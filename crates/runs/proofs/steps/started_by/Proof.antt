@@ -11,7 +11,7 @@ is-between-requires : tie.Need-is-between-requires
 is-between-requires c κs = search needs
 
 returns : tie.Need-returns
-returns c = λ run. rw (c .before .before .before .choice .given .1, sym (c .before .is-between .ensures) ∙ c .if1 .taken)
+returns c = rw (c .before .before .before .choice .given .1, sym (c .before .is-between .ensures) ∙ c .if1 .taken)
 
 enum-told : tie.Need-enum-told
 enum-told c = search needs
@@ -20,13 +20,13 @@ is-time-requires : tie.Need-is-time-requires
 is-time-requires c κs = search needs
 
 returns-2 : tie.Need-returns-2
-returns-2 c = λ run. rw (c .before .before .enum-told .given .1, sym (c .before .is-time .ensures) ∙ c .if2 .taken)
+returns-2 c = rw (c .before .before .enum-told .given .1, sym (c .before .is-time .ensures) ∙ c .if2 .taken)
 
 returns-3 : tie.Need-returns-3
-returns-3 c = λ run. rw (c .before .before .before .choice .given .1, sym (c .before .is-between .ensures) ∙ c .if1 .left)
+returns-3 c = rw (c .before .before .before .choice .given .1, sym (c .before .is-between .ensures) ∙ c .if1 .left)
 
 returns-4 : tie.Need-returns-4
-returns-4 c = λ run. rw (c .before .before .enum-told .given .1, sym (c .before .is-time .ensures) ∙ c .if2 .left)
+returns-4 c = rw (c .before .before .enum-told .given .1, sym (c .before .is-time .ensures) ∙ c .if2 .left)
 
 pub started-by-spec : {M : Type 1} → statement M
 started-by-spec =

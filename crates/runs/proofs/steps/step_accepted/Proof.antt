@@ -1,13 +1,13 @@
 -- `step_accepted` meets its contract: what is outside its limits is refused before the step, and the rest is inside them.
 use mathlib.Core.Path.{sym, _∙_}
 use borrow.Author.Tests.{not-true, not-false}
-use Rattle.runs.specs.StepLaws.{stepAccepted-run, stepAccepted-calendar, stepAccepted-step, stepAccepted-inside}
+use Rattle.runs.specs.StepLaws.{acceptedStep-run, acceptedStep-calendar, acceptedStep-step, acceptedStep-inside}
 use borrow.Author.Needs.{needs}
 use Rattle.runs.proofs.steps.step_accepted.Statement.{statement}
 use Rattle.runs.proofs.steps.step_accepted.Tie as tie
 
 is-run-requires : tie.Need-is-run-requires
-is-run-requires c κs = search needs
+is-run-requires c κs = c .pre .jobs-most
 
 refused-with-requires : tie.Need-refused-with-requires
 refused-with-requires c κs = search needs
@@ -16,7 +16,7 @@ returns : tie.Need-returns
 returns c =
     let a = c .before .before .before .args in
     c .refused-with .ensures
-    ∙ stepAccepted-run (a .p) (a .c) (a .run) (a .st) (sym (c .before .before .is-run .ensures) ∙ not-true _ (c .before .if1 .taken))
+    ∙ acceptedStep-run (a .p) (a .c) (a .run) (a .st) (sym (c .before .before .is-run .ensures) ∙ not-true _ (c .before .if1 .taken))
 
 is-calendar-requires : tie.Need-is-calendar-requires
 is-calendar-requires c κs = search needs
@@ -29,7 +29,7 @@ returns-2 c =
     let m = c .before .before .before in
     let a = m .before .before .args in
     c .refused-with2 .ensures
-    ∙ stepAccepted-calendar (a .p) (a .c) (a .run) (a .st) (sym (m .before .is-run .ensures) ∙ not-false _ (m .if1 .left))
+    ∙ acceptedStep-calendar (a .p) (a .c) (a .run) (a .st) (sym (m .before .is-run .ensures) ∙ not-false _ (m .if1 .left))
     (sym (c .before .before .is-calendar .ensures) ∙ not-true _ (c .before .if2 .taken))
 
 is-step-requires : tie.Need-is-step-requires
@@ -44,7 +44,7 @@ returns-3 c =
     let m = k .before .before in
     let a = m .before .before .args in
     c .refused-with3 .ensures
-    ∙ stepAccepted-step (a .p) (a .c) (a .run) (a .st) (sym (m .before .is-run .ensures) ∙ not-false _ (m .if1 .left))
+    ∙ acceptedStep-step (a .p) (a .c) (a .run) (a .st) (sym (m .before .is-run .ensures) ∙ not-false _ (m .if1 .left))
     (sym (k .before .is-calendar .ensures) ∙ not-false _ (k .if2 .left)) (sym (c .before .before .is-step .ensures) ∙ not-true _ (c .before .if3 .taken))
 
 step-inside-requires : tie.Need-step-inside-requires
@@ -63,7 +63,7 @@ returns-4 c =
     let m = k .before .before in
     let a = m .before .before .args in
     c .step-inside .ensures
-    ∙ stepAccepted-inside (a .p) (a .c) (a .run) (a .st) (sym (m .before .is-run .ensures) ∙ not-false _ (m .if1 .left))
+    ∙ acceptedStep-inside (a .p) (a .c) (a .run) (a .st) (sym (m .before .is-run .ensures) ∙ not-false _ (m .if1 .left))
     (sym (k .before .is-calendar .ensures) ∙ not-false _ (k .if2 .left)) (sym (c .before .before .is-step .ensures) ∙ not-false _ (c .before .if3 .left))
 
 pub step-accepted-spec : {M : Type 1} → statement M

@@ -1,10 +1,14 @@
--- `put_session`: by how the verdict is told, `judged-settled`, `judged-refused`.
+-- `put_session`: by how the verdict is told, `judged-settled`, `judged-refused`; a session begins with a new run.
+use borrow.Author.Needs.{needs}
+use mathlib.Core.Path.{_≡_, sym, ap, subst, _∙_}
 use native.Mathlib.Omega.{arith}
 use denote.Ref.{now}
 use lib.ListN.{drop}
-use Rattle.session.specs.JudgedLaws.{judged-inside, judged-settled, judged-refused}
 use Rattle.lines.specs.WrittenLaws.{stored-as}
-use borrow.Author.Needs.{needs}
+use Rattle.runs.specs.declared.Run.{Run}
+use Rattle.runs.specs.Inside.{Inside}
+use Rattle.session.specs.Sessions.{answers}
+use Rattle.session.specs.JudgedLaws.{judged-inside, judged-settled, judged-refused}
 use Rattle.session.proofs.judged.put_session.Statement.{statement}
 use Rattle.session.proofs.judged.put_session.Tie as tie
 
@@ -14,22 +18,17 @@ tell-verdict-requires c κs = search needs
 enum-told : tie.Need-enum-told
 enum-told c = search needs
 
+new-run-requires : tie.Need-new-run-requires
+new-run-requires c κs = search needs
+
 put-answers-requires : tie.Need-put-answers-requires
 put-answers-requires c κs =
-    let s = c .before .before .before .before .before .before in
-    let t = c .before .before .before .tell-verdict in
-    let j = s .pre .1 .1 .1 in (
+    let s = c .before .before .before .before .before .before .before in
+    let t = c .before .before .before .before .tell-verdict in
+    let j = s .pre .1 .1 .1 in
+    let inside = judged-inside (s .args .p) (s .args .v) (s .args .c) j (t .result) (t .ensures) _ (c .before .before .enum-told .given .1) in (
       s .pre .0,
-      (
-        s .pre .1 .0,
-        (
-          s .pre .1 .1 .0,
-          (
-            omega arith,
-            judged-inside (s .args .p) (s .args .v) (s .args .c) j (t .result) (t .ensures) _ (c .before .enum-told .given .1),
-          ),
-        ),
-      ),
+      (s .pre .1 .0, (s .pre .1 .1 .0, (omega arith, subst (Inside (s .args .p) (s .args .c)) (sym (c .before .new-run .ensures)) inside))),
     )
 
 enum-known-told : tie.Need-enum-known-told
@@ -43,12 +42,14 @@ same-length c = search needs
 
 returns : tie.Need-returns
 returns c =
-    let s = c .before .before .before .before .before .before .before .before .before in
-    let t = c .before .before .before .before .before .before .tell-verdict in
+    let s = c .before .before .before .before .before .before .before .before .before .before in
+    let t = c .before .before .before .before .before .before .before .tell-verdict in
     let a = s .args in
     let w = c .before .before .put-answers .ensures in
-    let j = judged-settled (a .p) (a .v) (a .c) (s .pre .1 .1 .1) (drop (a .from) (now (a .text))) (a .line) (t .result) (t .ensures) _ (c .before .before .before .before .enum-told .given .1) in
-    (stored-as j (w .0), omega (arith, w .1, s .pre .0))
+    let steps = drop (a .from) (now (a .text)) in
+    let j = judged-settled (a .p) (a .v) (a .c) (s .pre .1 .1 .1) steps (a .line) (t .result) (t .ensures) _ (c .before .before .before .before .before .enum-told .given .1) in
+    let new = ap (λ (r : Run). answers (a .p) (a .c) r steps (a .line)) (c .before .before .before .before .new-run .ensures) in
+    (stored-as (new ∙ j) (w .0), omega (arith, w .1 .1, s .pre .0))
 
 same-length-2 : tie.Need-same-length-2
 same-length-2 c = search needs
@@ -59,7 +60,8 @@ returns-2 c =
     let t = c .before .before .before .before .before .before .before .tell-verdict in
     let a = s .args in
     let w = c .before .before .put-refused .ensures in
-    let j = judged-refused (a .p) (a .v) (a .c) (s .pre .1 .1 .1) (drop (a .from) (now (a .text))) (a .line) (t .result) (t .ensures) _ (c .before .before .before .before .before .told .given .1) in
+    let steps = drop (a .from) (now (a .text)) in
+    let j = judged-refused (a .p) (a .v) (a .c) (s .pre .1 .1 .1) steps (a .line) (t .result) (t .ensures) _ (c .before .before .before .before .before .told .given .1) in
     (stored-as j (w .0), omega (arith, w .1, s .pre .0))
 
 pub put-session-spec : {M : Type 1} → statement M
@@ -68,6 +70,7 @@ put-session-spec =
     (tie.spec
     tell-verdict-requires
     enum-told
+    new-run-requires
     put-answers-requires
     enum-known-told
     put-refused-requires
