@@ -18,7 +18,8 @@ abbrev pub answerValue : TextAnswer → ℕ
 answerValue Accepted = 0
 answerValue (Refused r) = value r
 
--- the part that comes with an answer and its place in the text s: 'A reader of the refusal also gets back the faulty line as a part of the text, without its LF'
+-- the part that comes with an answer and its place in the text s: 'A reader of the refusal also gets back the faulty line as a part of the text, without its
+-- LF'
 abbrev pub partAt : List ℕ → ℕ → TextAnswer → List ℕ
 partAt s at Accepted = []
 partAt s at (Refused r) = before LF (drop at s)

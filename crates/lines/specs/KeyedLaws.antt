@@ -49,11 +49,13 @@ pub stored-ended : {out out′ : List ℕ} {at at′ : ℕ} (b : ℕ) {z : ℤ} 
 stored-ended b f d e = rw e at (stored-told (λ (x : ℤ). decimal x ++ (b ∷ [])) f d)
 
 -- a count
-pub stored-count : {out out′ : List ℕ} {at at′ : ℕ} (n : ℕ) (s : List ℕ) → Stored out at (digits n ++ s) out′ at′ → Stored out at (decimal (pos n) ++ s) out′ at′
+pub stored-count : {out out′ : List ℕ} {at at′ : ℕ} (n : ℕ) (s : List ℕ) → Stored out at (digits n ++ s) out′ at′
+    → Stored out at (decimal (pos n) ++ s) out′ at′
 stored-count n s d = rw (decimal-above (pos n) (omega wholes)) d
 
 -- a text and the byte behind it, before another
-pub stored-behind : {out t o o′ : List ℕ} {at j j′ : ℕ} (s : List ℕ) (b : ℕ) → Stored out at (s ++ (b ∷ [])) o j → Stored o j t o′ j′ → Stored out at (s ++ (b ∷ t)) o′ j′
+pub stored-behind : {out t o o′ : List ℕ} {at j j′ : ℕ} (s : List ℕ) (b : ℕ) → Stored out at (s ++ (b ∷ [])) o j → Stored o j t o′ j′
+    → Stored out at (s ++ (b ∷ t)) o′ j′
 stored-behind {out} {t} {o′ = o′} {at = at} {j′ = j′} s b p q = subst (λ (x : List ℕ). Stored out at x o′ j′) (append-assoc s (b ∷ []) t) (stored-append p q)
 
 -- a line, and the lines behind it

@@ -1,5 +1,6 @@
--- What all texts share, as document 01 has it. In reading order: the refusals with their numbers and printed lines, how a line is read and refused, a line that is
--- a key and a number, what is told of an answer, and what a written slice holds. ReadAt is how the code tells where it reads. These files are definitions alone; the laws stand after them.
+-- What all texts share, as document 01 has it. In reading order: the refusals with their numbers and printed lines, how a line is read and refused, a line
+-- that is a key and a number, what is told of an answer, and what a written slice holds. ReadAt is how the code tells where it reads. These files are
+-- definitions alone; the laws stand after them.
 -- ---- document 01
 pub mod Refusals
 pub mod Reading

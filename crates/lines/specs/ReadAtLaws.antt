@@ -48,7 +48,8 @@ module _ {A : Type 0} (f : List ℕ → Lined A) (s : List ℕ) (at n next : ℕ
   lineTo-bare h = lineAt-bare f s at n (drop at s) (next - 1 - at) refl (lineTo-len s at within end) (omega (arith, length-drop at s))
 
   pub lineTo-fault : {e : Fault} → next ≤ length s → f (take (next - 1 - at) (drop at s)) ≡ bad e → line f (drop at s) n ≡ refused (faultAt n e) (drop at s)
-  lineTo-fault h d = lineAt-fault f s at n (drop at s) (next - 1 - at) refl (lineTo-len s at within end) (omega (arith, length-drop at s, end ∙ nextLine-at s at within)) d
+  lineTo-fault h d = lineAt-fault f s at n (drop at s) (next - 1 - at) refl (lineTo-len s at within end)
+      (omega (arith, length-drop at s, end ∙ nextLine-at s at within)) d
 
   pub lineTo-value : {a : A} → next ≤ length s → f (take (next - 1 - at) (drop at s)) ≡ value a → line f (drop at s) n ≡ read a (drop next s) (n + 1)
   lineTo-value {a} h d =

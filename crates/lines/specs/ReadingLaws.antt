@@ -1,5 +1,6 @@
 -- What a reading that ended well tells: the reading before it ended well (`next-then`), a line had its LF and its value
--- (`line-read`), a number is in its range (`numberLine-then`), and so is a count (`countLine-then`). Each `-then` tells of the first reading and leaves the rest (`Then`).
+-- (`line-read`), a number is in its range (`numberLine-then`), and so is a count (`countLine-then`). Each `-then` tells of the first reading and leaves the
+-- rest (`Then`).
 use mathlib.Core.Path.{_≡_, refl, sym, _∙_, ap}
 use mathlib.Core.Bool.{Bool, true, false, cond}
 use mathlib.Core.List.{List, _∷_, _++_, append-assoc}
@@ -73,7 +74,8 @@ pub record NumberRead (key : List ℕ) (lo hi : ℤ) (s : List ℕ) (z : ℤ) (t
 pub line-written : {A : Type 0} {f : List ℕ → Lined A} {s : List ℕ} {n : ℕ} {a : A} {t : List ℕ} {k : ℕ} → LineRead f s n a t k → s ≡ before LF s ++ (LF ∷ t)
 line-written {s = s} {t = t} l = has-split LF s (l .ended) ∙ ap (λ (r : List ℕ). before LF s ++ (LF ∷ r)) (sym (l .rest))
 
-pub numberLine-read : (key : List ℕ) (lo hi : ℤ) (s : List ℕ) (n : ℕ) {z : ℤ} {t : List ℕ} {k : ℕ} → numberLine key lo hi s n ≡ read z t k → NumberRead key lo hi s z t × (k ≡ suc n)
+pub numberLine-read : (key : List ℕ) (lo hi : ℤ) (s : List ℕ) (n : ℕ) {z : ℤ} {t : List ℕ} {k : ℕ} → numberLine key lo hi s n ≡ read z t k
+    → NumberRead key lo hi s z t × (k ≡ suc n)
 unfolding linedNumber
 numberLine-read key lo hi s n {z} {t} {k} e = (by-number (numberAfter key lo hi (before LF s)) refl (l .held), l .number)
   where
@@ -113,4 +115,11 @@ unfolding next
 countLine-then key lo hi s n f e = do
   all ← next-then (countLine key lo hi s n) f e
   z ← numberLine-then key (pos lo) (pos hi) s n _ (all .told)
-  record { got = natAbs (z .got); left = z .left; line = z .line; told = counted key lo hi s (z .got) (z .left) (z .told); more = next-of f (z .more) (all .more) }
+  record {
+    got = natAbs (z .got);
+    left = z .left;
+    line = z .line;
+    told = counted key lo hi s (z .got) (z .left) (z .told);
+    more = next-of f (z .more)
+        (all .more);
+  }

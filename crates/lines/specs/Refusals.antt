@@ -12,7 +12,20 @@ use Rattle.text.specs.declared.NumberFault.the-variants as numberFault
 use Rattle.lines.specs.declared.Fault.{Fault}
 use Rattle.lines.specs.declared.Fault.the-variants as fault
 use Rattle.lines.specs.declared.Refusal.{Refusal}
-use Rattle.lines.specs.declared.Refusal.the-variants.{Form, Range, Pair, NoStrategy, Unsettled, Running, Idle, OutsideOffer, OutsideTimes, Over, EmptyOffer, NoRoom}
+use Rattle.lines.specs.declared.Refusal.the-variants.{
+  Form,
+  Range,
+  Pair,
+  NoStrategy,
+  Unsettled,
+  Running,
+  Idle,
+  OutsideOffer,
+  OutsideTimes,
+  Over,
+  EmptyOffer,
+  NoRoom,
+}
 
 -- N, 'given exactly when'
 abbrev pub number : Refusal → ℕ

@@ -45,7 +45,8 @@ module _ (s : List ℕ) (a : TextAnswer) (at : ℕ) where
   pub tell-refusal-value-unique : {n m : ℕ} → n ≡ answerValue a → m ≡ answerValue a → n ≡ m
   tell-refusal-value-unique = only
 
-pub put-refused-unique : (x : Refusal) {out o p : List ℕ} {at j k : ℕ} → Stored out at (refusedLine x) o j → Stored out at (refusedLine x) p k → (o ≡ p) × (j ≡ k)
+pub put-refused-unique : (x : Refusal) {out o p : List ℕ} {at j k : ℕ} → Stored out at (refusedLine x) o j → Stored out at (refusedLine x) p k
+    → (o ≡ p) × (j ≡ k)
 put-refused-unique x = stored-unique
 
 pub write-refused-unique : (x : Refusal) (out : List ℕ) {r q : Written} → r ≡ writtenAs (refusedLine x) out → q ≡ writtenAs (refusedLine x) out → r ≡ q
@@ -54,7 +55,8 @@ write-refused-unique x out = only
 pub write-refused-bytes-unique : (x : Refusal) (out : List ℕ) {o u : List ℕ} → o ≡ written (refusedLine x) out → u ≡ written (refusedLine x) out → o ≡ u
 write-refused-bytes-unique x out = only
 
-pub put-line-unique : (key : List ℕ) (z : ℤ) {out o p : List ℕ} {at j k : ℕ} → Stored out at (keyed key z []) o j → Stored out at (keyed key z []) p k → (o ≡ p) × (j ≡ k)
+pub put-line-unique : (key : List ℕ) (z : ℤ) {out o p : List ℕ} {at j k : ℕ} → Stored out at (keyed key z []) o j → Stored out at (keyed key z []) p k
+    → (o ≡ p) × (j ≡ k)
 put-line-unique key z = stored-unique
 
 pub put-count-line-unique : (key : List ℕ) (n : ℕ) {out o p : List ℕ} {at j k : ℕ} → Stored out at (keyed key (pos n) []) o j

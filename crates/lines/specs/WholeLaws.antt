@@ -1,6 +1,6 @@
 -- The laws of a text that has room in a lent slice, whatever it is: its writer answers its length and leaves the text and the bytes past it
--- (`answered-whole`), and no refusal (`answered-never`); and a text that equals it was written so too (`whole-as`), as what is printed for the first bytes of what was
--- read is, where these are all (`whole-cut`).
+-- (`answered-whole`), and no refusal (`answered-never`); and a text that equals it was written so too (`whole-as`), as what is printed for the first bytes of
+-- what was read is, where these are all (`whole-cut`).
 
 use Prim.Native.Nat.{ℕ, _≤_}
 use mathlib.Core.Path.{_≡_, sym, ap, _∙_}

@@ -1,7 +1,7 @@
--- The laws of a whole text in a lent slice: one that has room is written, with its length as the answer (`stored-whole`); one that has none is refused by 12 and
--- leaves every byte (`stored-none`). A text that was measured first, on a part without places, which leaves every byte too, is refused or written by its
--- measure (`measured-none`, `measured-whole`); and it is no longer than where its writer came to (`wrote-within`). A text is stored, and written, as any text that equals it
--- (`stored-as`, `wrote-as`). A length that a writer answers counts bytes of its slice (`written-counts`).
+-- The laws of a whole text in a lent slice: one that has room is written, with its length as the answer (`stored-whole`); one that has none is refused by 12
+-- and leaves every byte (`stored-none`). A text that was measured first, on a part without places, which leaves every byte too, is refused or written by its
+-- measure (`measured-none`, `measured-whole`); and it is no longer than where its writer came to (`wrote-within`). A text is stored, and written, as any text
+-- that equals it (`stored-as`, `wrote-as`). A length that a writer answers counts bytes of its slice (`written-counts`).
 
 use Prim.Native.Nat.{ℕ, _≤_, _<_}
 use mathlib.Core.Path.{_≡_, refl, sym, ap, subst, _∙_}

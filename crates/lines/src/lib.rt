@@ -1,5 +1,5 @@
-// What all texts share: their lines, keys with numbers, the refusals of the whole product and the line that tells one, and what writing into a lent slice comes to.
-// This crate knows nothing of plans.
+// What all texts share: their lines, keys with numbers, the refusals of the whole product and the line that tells one, and what writing into a lent slice
+// comes to. This crate knows nothing of plans.
 
 // The most bytes that a text can have.
 pub const LONGEST_TEXT: usize = 65_536;

@@ -1,5 +1,6 @@
 -- The laws of a bound line as the code takes it apart. A name up to its comma (`nameTo-bare`, `nameTo-read`), at a place in the line (`nameTo-fits`); the
--- two names and the number are the line's parts (`namesIn-parts`); the judgement, test by test (`judgedBound-range`, `-pair`, `-value`), and of the whole line (`boundOf-bare`, `-value`, `-fault`).
+-- two names and the number are the line's parts (`namesIn-parts`); the judgement, test by test (`judgedBound-range`, `-pair`, `-value`), and of the whole
+-- line (`boundOf-bare`, `-value`, `-fault`).
 use mathlib.Core.Path.{_≡_, refl, sym, _∙_, ap, subst}
 use mathlib.Core.Bool.{Bool, true, false, not, cond, _&&_}
 use mathlib.Core.List.{List}
@@ -52,7 +53,8 @@ module _ (l : List ℕ) (at : ℕ) where
   nameTo-bare s i p q h =
       rw (← p) (rw (le-ltb (lenTo comma s) (length s) (omega arith)))
 
-  pub nameTo-read : (s : List ℕ) (i : ℕ) → s ≡ drop at l → i ≡ lenTo comma s → i < length s → (r : NameRead) → r ≡ nameRead (eventName (take i s)) → nameTo l at ≡ readNamed (at + i + 1) r
+  pub nameTo-read : (s : List ℕ) (i : ℕ) → s ≡ drop at l → i ≡ lenTo comma s → i < length s → (r : NameRead) → r ≡ nameRead (eventName (take i s))
+      → nameTo l at ≡ readNamed (at + i + 1) r
   unfolding nameTo
   nameTo-read s i p q h r e =
       rw (← p) (rw (lt-ltb (lenTo comma s) (length s) (omega arith), e, ← q) (read-named (at + i + 1) (eventName (take i s))))
@@ -61,11 +63,13 @@ module _ (l : List ℕ) (at : ℕ) where
   unfolding nameTo
   nameTo-fits h {e} {k} d = by-comma (has comma (drop at l)) refl d
     where
-      by-name : (o : Option EventName) → lenTo comma (drop at l) < length (drop at l) → partNamed (at + lenTo comma (drop at l) + 1) o ≡ namePart.Value e k → k ≤ length l
+      by-name : (o : Option EventName) → lenTo comma (drop at l) < length (drop at l) → partNamed (at + lenTo comma (drop at l) + 1) o ≡ namePart.Value e k
+          → k ≤ length l
       by-name none g d = absurd (let z : _≡_ {A = ℕ} 0 1 = cc in omega arith)
       by-name (some f) g d = let q : at + lenTo comma (drop at l) + 1 ≡ k = cc in omega (arith, length-drop at l)
 
-      by-comma : (b : Bool) → has comma (drop at l) ≡ b → cond b (partNamed (at + lenTo comma (drop at l) + 1) (eventName (before comma (drop at l)))) namePart.Bad ≡ namePart.Value e k → k ≤ length l
+      by-comma : (b : Bool) → has comma (drop at l) ≡ b
+          → cond b (partNamed (at + lenTo comma (drop at l) + 1) (eventName (before comma (drop at l)))) namePart.Bad ≡ namePart.Value e k → k ≤ length l
       by-comma true g d = by-name (eventName (before comma (drop at l))) (ltb-true (lenTo comma (drop at l)) (length (drop at l)) g) d
       by-comma false g d = absurd (let z : _≡_ {A = ℕ} 0 1 = cc in omega arith)
 
@@ -80,12 +84,14 @@ after-drop l at = drop-drop (lenTo comma (drop at l) + 1) at l ∙ ap (λ n. dro
 
 -- the second name, after the first one
 second-parts : (l : List ℕ) (k : ℕ) (a : EventName)
-    → cond (has comma (drop k l)) (partsOf (some a) (eventName (before comma (drop k l))) (after comma (drop k l))) none ≡ partsFrom l (withSecond a (nameTo l k))
+    → cond (has comma (drop k l)) (partsOf (some a) (eventName (before comma (drop k l))) (after comma (drop k l))) none ≡ partsFrom l
+    (withSecond a (nameTo l k))
 unfolding nameTo
 second-parts l k a = by-comma (has comma (drop k l)) (eventName (before comma (drop k l)))
   where
     by-comma : (t : Bool) (o : Option EventName)
-        → cond t (partsOf (some a) o (after comma (drop k l))) none ≡ partsFrom l (withSecond a (cond t (partNamed (k + lenTo comma (drop k l) + 1) o) namePart.Bad))
+        → cond t (partsOf (some a) o (after comma (drop k l))) none ≡ partsFrom l
+        (withSecond a (cond t (partNamed (k + lenTo comma (drop k l) + 1) o) namePart.Bad))
     by-comma true none = refl
     by-comma true (some b) = ap (λ c. partsOf (some a) (some b) c) (after-drop l k)
     by-comma false o = refl
@@ -99,7 +105,8 @@ first-parts l k = by-comma (has comma (drop k l)) (eventName (before comma (drop
     none-parts false = refl
 
     by-comma : (t : Bool) (o : Option EventName)
-        → cond (t && has comma (after comma (drop k l))) (partsOf o (eventName (before comma (after comma (drop k l)))) (after comma (after comma (drop k l)))) none
+        → cond (t && has comma (after comma (drop k l))) (partsOf o (eventName (before comma (after comma (drop k l))))
+        (after comma (after comma (drop k l)))) none
         ≡ partsFrom l (withFirst l (cond t (partNamed (k + lenTo comma (drop k l) + 1) o) namePart.Bad))
     by-comma true none = none-parts (has comma (after comma (drop k l)))
     by-comma true (some a) = rw (after-drop l k) (second-parts l (k + lenTo comma (drop k l) + 1) a)
@@ -109,7 +116,8 @@ namesIn-parts : (l : List ℕ) → boundParts (afterKey (bytes "bound=") l) ≡ 
 unfolding namesIn bytes boundParts
 namesIn-parts l = by-key (hasKey (bytes "bound=") l) refl
   where
-    by-key : (b : Bool) → hasKey (bytes "bound=") l ≡ b → boundParts (afterKey (bytes "bound=") l) ≡ partsFrom l (cond b (withFirst l (nameTo l 6)) boundNames.Bad)
+    by-key : (b : Bool) → hasKey (bytes "bound=") l ≡ b
+        → boundParts (afterKey (bytes "bound=") l) ≡ partsFrom l (cond b (withFirst l (nameTo l 6)) boundNames.Bad)
     by-key true h = ap boundParts (hasKey-true (bytes "bound=") l h) ∙ first-parts l 6
     by-key false h = ap boundParts (hasKey-false (bytes "bound=") l h)
 
@@ -124,13 +132,16 @@ namesIn-key l h = rw h
 -- ---- the judgement
 
 module _ (jobs : ℕ) (isWrong : EventName → EventName → Bool) (d : Bound) where
-  pub judgedBound-range : isJob jobs (d .a .job) && isJob jobs (d .b .job) && within leastC greatestC (d .c) ≡ false → judgedBound jobs isWrong d ≡ boundLine.Bad fault.Range
+  pub judgedBound-range : isJob jobs (d .a .job) && isJob jobs (d .b .job) && within leastC greatestC (d .c) ≡ false
+      → judgedBound jobs isWrong d ≡ boundLine.Bad fault.Range
   judgedBound-range h = rw h
 
-  pub judgedBound-pair : isJob jobs (d .a .job) && isJob jobs (d .b .job) && within leastC greatestC (d .c) ≡ true → isWrong (d .a) (d .b) ≡ true → judgedBound jobs isWrong d ≡ boundLine.Bad fault.Pair
+  pub judgedBound-pair : isJob jobs (d .a .job) && isJob jobs (d .b .job) && within leastC greatestC (d .c) ≡ true → isWrong (d .a) (d .b) ≡ true
+      → judgedBound jobs isWrong d ≡ boundLine.Bad fault.Pair
   judgedBound-pair h w = rw (h, w)
 
-  pub judgedBound-value : isJob jobs (d .a .job) && isJob jobs (d .b .job) && within leastC greatestC (d .c) ≡ true → isWrong (d .a) (d .b) ≡ false → judgedBound jobs isWrong d ≡ boundLine.Value d
+  pub judgedBound-value : isJob jobs (d .a .job) && isJob jobs (d .b .job) && within leastC greatestC (d .c) ≡ true → isWrong (d .a) (d .b) ≡ false
+      → judgedBound jobs isWrong d ≡ boundLine.Value d
   judgedBound-value h w = rw (h, w)
 
 -- ---- the line, way by way
@@ -157,7 +168,8 @@ module _ (jobs : ℕ) (isWrong : EventName → EventName → Bool) (l : List ℕ
   boundOf-bare e = ap (boundOf jobs isWrong) (namesIn-parts l ∙ ap (partsFrom l) e)
 
   module _ {a b : EventName} {at : ℕ} (e : namesIn l ≡ boundNames.Value a b at) where
-    pub boundOf-value : {z : ℤ} → numberIn leastC greatestC (drop at l) ≡ number.Value z → boundOf jobs isWrong (boundParts (afterKey (bytes "bound=") l)) ≡ judgedBound jobs isWrong (record { a = a; b = b; c = z })
+    pub boundOf-value : {z : ℤ} → numberIn leastC greatestC (drop at l) ≡ number.Value z
+        → boundOf jobs isWrong (boundParts (afterKey (bytes "bound=") l)) ≡ judgedBound jobs isWrong (record { a = a; b = b; c = z })
     unfolding boundOf
     boundOf-value {z} d =
         let w = numberIn-value leastC greatestC z (drop at l) d .1 in
@@ -167,7 +179,8 @@ module _ (jobs : ℕ) (isWrong : EventName → EventName → Bool) (l : List ℕ
         formed : partsOf (some a) (some b) (decimal z) ≡ some (record { a = a; b = b; c = decimal z })
         formed = rw (decimal-form z)
 
-    pub boundOf-fault : {f : NumberFault} → numberIn leastC greatestC (drop at l) ≡ number.Bad f → boundOf jobs isWrong (boundParts (afterKey (bytes "bound=") l)) ≡ boundLine.Bad (lineLacks f)
+    pub boundOf-fault : {f : NumberFault} → numberIn leastC greatestC (drop at l) ≡ number.Bad f
+        → boundOf jobs isWrong (boundParts (afterKey (bytes "bound=") l)) ≡ boundLine.Bad (lineLacks f)
     unfolding boundOf numberIn
     boundOf-fault {f} d = ap (boundOf jobs isWrong) (namesIn-parts l ∙ ap (partsFrom l) e) ∙ by-form (isNumber (drop at l)) refl d
       where
@@ -179,10 +192,12 @@ module _ (jobs : ℕ) (isWrong : EventName → EventName → Bool) (l : List ℕ
         none-in true false = refl
         none-in false y = refl
 
-        by-range : (t : Bool) → within leastC greatestC (numberValue c) ≡ t → cond t (number.Value (numberValue c)) (number.Bad numberFault.Range) ≡ number.Bad f
+        by-range : (t : Bool) → within leastC greatestC (numberValue c) ≡ t
+            → cond t (number.Value (numberValue c)) (number.Bad numberFault.Range) ≡ number.Bad f
             → judgedBound jobs isWrong (record { a = a; b = b; c = numberValue c }) ≡ boundLine.Bad (lineLacks f)
         by-range true h g = absurd (let z : _≡_ {A = ℕ} 0 1 = cc in omega arith)
-        by-range false h g = rw (h, none-in (isJob jobs (a .job)) (isJob jobs (b .job))) (ap (λ (f : NumberFault). boundLine.Bad (lineLacks f)) {x = numberFault.Range} {y = f} (cc))
+        by-range false h g = rw (h, none-in (isJob jobs (a .job)) (isJob jobs (b .job)))
+            (ap (λ (f : NumberFault). boundLine.Bad (lineLacks f)) {x = numberFault.Range} {y = f} (cc))
 
         by-form : (t : Bool) → isNumber c ≡ t → cond t (numberWithin leastC greatestC (numberValue c)) (number.Bad numberFault.Form) ≡ number.Bad f
             → boundOf jobs isWrong (cond t (some (record { a = a; b = b; c = c })) none) ≡ boundLine.Bad (lineLacks f)

@@ -1,5 +1,5 @@
--- The loop over the bounds' lines: `BoundsPassed` is what holds after i bounds, at the beginning (`BoundsPassed-start`), after one more (`-past`), at a fault (`-stop`) and
--- at the end (`-end`). The numbers of the pairs given decide as the pairs do (`judgedBound-numbered`, `boundLined-numbered`).
+-- The loop over the bounds' lines: `BoundsPassed` is what holds after i bounds, at the beginning (`BoundsPassed-start`), after one more (`-past`), at a fault
+-- (`-stop`) and at the end (`-end`). The numbers of the pairs given decide as the pairs do (`judgedBound-numbered`, `boundLined-numbered`).
 use mathlib.Core.Path.{_≡_, refl, sym, _∙_, ap, subst}
 use mathlib.Core.Bool.{Bool, true, false, not, cond, _&&_}
 use mathlib.Core.List.{List, [], _∷_, _++_, map}
@@ -39,10 +39,15 @@ module _ (jobs : ℕ) (few : jobs ≤ mostJobs) (given : List Bound) (small : Al
       in-range = within leastC greatestC (d .c)
 
       by-jobs : (x y : Bool) → isJob jobs (d .a .job) ≡ x → isJob jobs (d .b .job) ≡ y
-          → cond (not (x && y && in-range)) (boundLine.Bad fault.Range) (cond (isWrongNumbered (map pairOf given) (d .a) (d .b)) (boundLine.Bad fault.Pair) (boundLine.Value d))
+          → cond (not (x && y && in-range)) (boundLine.Bad fault.Range)
+          (cond (isWrongNumbered (map pairOf given) (d .a) (d .b)) (boundLine.Bad fault.Pair) (boundLine.Value d))
           ≡ cond (not (x && y && in-range)) (boundLine.Bad fault.Range) (cond (isWrongPair (d .a) (d .b) given) (boundLine.Bad fault.Pair) (boundLine.Value d))
       by-jobs true true p r =
-          rw (isWrongNumbered-pair (d .a) (d .b) given (record { a-small = omega (arith, isJob-range jobs (d .a .job) p .1); b-small = omega (arith, isJob-range jobs (d .b .job) r .1) }) small)
+          rw (isWrongNumbered-pair (d .a) (d .b) given (record {
+            a-small = omega (arith, isJob-range jobs (d .a .job) p .1);
+            b-small = omega
+                (arith, isJob-range jobs (d .b .job) r .1);
+          }) small)
       by-jobs true false p r = refl
       by-jobs false y p r = refl
 
@@ -51,7 +56,8 @@ module _ (jobs : ℕ) (few : jobs ≤ mostJobs) (given : List Bound) (small : Al
   boundOf-numbered none = refl
   boundOf-numbered (some q) = judgedBound-numbered (record { a = q .a; b = q .b; c = numberValue (q .c) })
 
-  boundLined-numbered : (s : List ℕ) (n : ℕ) (codes : List ℕ) → codes ≡ map pairOf given → line (boundLined jobs (isWrongNumbered codes)) s n ≡ line (λ l. linedBound (boundOfLine jobs given l)) s n
+  boundLined-numbered : (s : List ℕ) (n : ℕ) (codes : List ℕ) → codes ≡ map pairOf given
+      → line (boundLined jobs (isWrongNumbered codes)) s n ≡ line (λ l. linedBound (boundOfLine jobs given l)) s n
   unfolding line
   boundLined-numbered s n codes e = rw (e, boundOf-numbered (boundParts (afterKey (bytes "bound=") (before LF s))))
 
@@ -71,7 +77,8 @@ pub record BoundsPassed (s : List ℕ) (from number jobs bounds : ℕ) (bound : 
   pub small : All (λ d. Small (d .a) (d .b)) (take i bound)
   pub told : boundsAfter jobs [] bounds (drop from s) number ≡ boundsAfter jobs (take i bound) (bounds - i) (drop at s) n
 
-pub BoundsPassed-start : (s : List ℕ) (from number jobs bounds : ℕ) → from ≤ length s → BoundsPassed s from number jobs bounds (replicate mostBounds noBound) (replicate mostBounds 0) from number 0
+pub BoundsPassed-start : (s : List ℕ) (from number jobs bounds : ℕ) → from ≤ length s
+    → BoundsPassed s from number jobs bounds (replicate mostBounds noBound) (replicate mostBounds 0) from number 0
 BoundsPassed-start s from number jobs bounds h =
     record {
       count = omega arith;
@@ -92,7 +99,8 @@ module _ (s : List ℕ) (from number jobs bounds : ℕ) (bound : List Bound) (gi
   same-line : line (boundLined jobs (isWrongNumbered (take i given))) (drop at s) n ≡ line (λ l. linedBound (boundOfLine jobs (take i bound) l)) (drop at s) n
   same-line = boundLined-numbered jobs few (take i bound) (p .small) (drop at s) n (take i given) (p .coded)
 
-  pub BoundsPassed-stop : i < bounds → (f : FaultyLine) → line (boundLined jobs (isWrongNumbered (take i given))) (drop at s) n ≡ faultyIn s f → boundsAfter jobs [] bounds (drop from s) number ≡ faultyIn s f
+  pub BoundsPassed-stop : i < bounds → (f : FaultyLine) → line (boundLined jobs (isWrongNumbered (take i given))) (drop at s) n ≡ faultyIn s f
+      → boundsAfter jobs [] bounds (drop from s) number ≡ faultyIn s f
   unfolding boundsAfter next
   BoundsPassed-stop h f e = p .told ∙ rw (one-more h, sym same-line ∙ e)
 
@@ -115,7 +123,8 @@ module _ (s : List ℕ) (from number jobs bounds : ℕ) (bound : List Bound) (gi
             ∙ ap (λ (x : List ℕ). x ++ (code ∷ [])) (p .coded)
             ∙ ap (λ (c : ℕ). map pairOf (take i bound) ++ (c ∷ [])) k
             ∙ sym (ap (map pairOf) taken ∙ map-last (take i bound) d);
-        small = rw taken (All-more (λ d. Small (d .a) (d .b)) (take i bound) d (p .small) (record { a-small = omega (arith, accepted .a-most); b-small = omega (arith, accepted .b-most) }));
+        small = rw taken (All-more (λ d. Small (d .a) (d .b)) (take i bound) d (p .small)
+            (record { a-small = omega (arith, accepted .a-most); b-small = omega (arith, accepted .b-most) }));
         told = p .told ∙ step ∙ ap (λ (done : List Bound). boundsAfter jobs done (bounds - (i + 1)) (drop to s) (n + 1)) (sym taken);
       })
     where
@@ -123,7 +132,8 @@ module _ (s : List ℕ) (from number jobs bounds : ℕ) (bound : List Bound) (gi
       taken = rw (add-one i) (take-suc-set bound i d (omega (arith, p .array .places)))
 
       accepted : BoundAccepted jobs d
-      accepted = boundOfLine-read jobs (take i bound) (before LF (drop at s)) (line-read (λ l. linedBound (boundOfLine jobs (take i bound) l)) (drop at s) n (sym same-line ∙ e) .held) .accepted
+      accepted = boundOfLine-read jobs (take i bound) (before LF (drop at s))
+          (line-read (λ l. linedBound (boundOfLine jobs (take i bound) l)) (drop at s) n (sym same-line ∙ e) .held) .accepted
 
       codes-taken : take (i + 1) (set given i code) ≡ take i given ++ (code ∷ [])
       codes-taken = rw (add-one i) (take-suc-set given i code (omega (arith, p .codes)))
@@ -149,7 +159,8 @@ module _ (s : List ℕ) (from number jobs bounds : ℕ) (bound : List Bound) (gi
       last = omega (arith, p .count, p .numbered)
 
   pub BoundsPassed-filled : bounds ≤ i → bounds ≤ mostBounds → bound ≡ filled mostBounds noBound (take bounds bound)
-  BoundsPassed-filled h m = Filling-end mostBounds noBound bound i (p .array) (omega (arith, p .count)) ∙ ap (λ (k : ℕ). filled mostBounds noBound (take k bound)) all
+  BoundsPassed-filled h m = Filling-end mostBounds noBound bound i (p .array) (omega (arith, p .count)) ∙ ap
+      (λ (k : ℕ). filled mostBounds noBound (take k bound)) all
     where
       all : i ≡ bounds
       all = omega (arith, p .count)

@@ -16,7 +16,22 @@ use Rattle.plan.specs.declared.Letter.the-variants.{This, Next}
 use Rattle.plan.specs.declared.Kind.{Kind}
 use Rattle.plan.specs.declared.Kind.the-variants.{Start, Finish}
 use Rattle.plan.specs.declared.EventName.{EventName}
-use Rattle.plan.specs.EventNames.{letterByte, kindByte, nameBytes, letterOf, kindOf, jobOf, nameOf, eventName, sameLetter, sameKind, sameEvent, letterNumber, kindNumber, eventNumber}
+use Rattle.plan.specs.EventNames.{
+  letterByte,
+  kindByte,
+  nameBytes,
+  letterOf,
+  kindOf,
+  jobOf,
+  nameOf,
+  eventName,
+  sameLetter,
+  sameKind,
+  sameEvent,
+  letterNumber,
+  kindNumber,
+  eventNumber,
+}
 
 -- ---- read
 
@@ -78,7 +93,8 @@ eventName-written [] e h = absurd (let z : _≡_ {A = ℕ} 0 1 = cc in omega ari
 eventName-written (a ∷ []) e h = absurd (let z : _≡_ {A = ℕ} 0 1 = cc in omega arith)
 eventName-written (a ∷ b ∷ s) e h = by-parts (letterOf a) (kindOf b) (jobOf s) refl refl refl h
   where
-    by-parts : (l : Option Letter) (k : Option Kind) (i : Option ℕ) → letterOf a ≡ l → kindOf b ≡ k → jobOf s ≡ i → nameOf l k i ≡ some e → a ∷ b ∷ s ≡ nameBytes e
+    by-parts : (l : Option Letter) (k : Option Kind) (i : Option ℕ) → letterOf a ≡ l → kindOf b ≡ k → jobOf s ≡ i → nameOf l k i ≡ some e
+        → a ∷ b ∷ s ≡ nameBytes e
     by-parts none k i p q r d = absurd (let z : _≡_ {A = ℕ} 0 1 = cc in omega arith)
     by-parts (some l) none i p q r d = absurd (let z : _≡_ {A = ℕ} 0 1 = cc in omega arith)
     by-parts (some l) (some k) none p q r d = absurd (let z : _≡_ {A = ℕ} 0 1 = cc in omega arith)
@@ -145,4 +161,5 @@ pub sameEvent-number : (d e : EventName) → sameEvent d e ≡ eqb (eventNumber 
 unfolding sameEvent
 sameEvent-number d e =
     rw (sameLetter-number (d .letter) (e .letter), sameKind-number (d .kind) (e .kind))
-    (all-same (letterNumber (d .letter)) (letterNumber (e .letter)) (kindNumber (d .kind)) (kindNumber (e .kind)) (d .job) (e .job) (letterNumber-fits (d .letter)) (letterNumber-fits (e .letter)) (kindNumber-fits (d .kind)) (kindNumber-fits (e .kind)))
+    (all-same (letterNumber (d .letter)) (letterNumber (e .letter)) (kindNumber (d .kind)) (kindNumber (e .kind)) (d .job) (e .job)
+    (letterNumber-fits (d .letter)) (letterNumber-fits (e .letter)) (kindNumber-fits (d .kind)) (kindNumber-fits (e .kind)))

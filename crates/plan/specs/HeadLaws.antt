@@ -1,6 +1,7 @@
--- The laws by which the reader of a plan is right: the length comes first (`planHead-long`, `planHead-short`), each group of lines ends with its refusal (`planRest-jobs`,
--- `-count`, `-bounds`) or all are read (`planRest-all`), and an answer with a place is the answer that the definition tells (`planRead-refused`, `planRead-accepted`). Back from an
--- answer: the text was read as its plan (`planRead-took`), or refused at its place (`planRead-fault`).
+-- The laws by which the reader of a plan is right: the length comes first (`planHead-long`, `planHead-short`), each group of lines ends with its refusal
+-- (`planRest-jobs`, `-count`, `-bounds`) or all are read (`planRest-all`), and an answer with a place is the answer that the definition tells
+-- (`planRead-refused`, `planRead-accepted`). Back from an answer: the text was read as its plan (`planRead-took`), or refused at its place
+-- (`planRead-fault`).
 use mathlib.Core.Path.{_≡_, refl, sym, _∙_, ap, subst}
 use mathlib.Core.List.{List, [], _∷_}
 use Prim.Native.Nat.{ℕ, _-_, _≤_, _<_}
@@ -45,7 +46,8 @@ module _ (window : ℤ) (rounds last jobs : ℕ) (s : List ℕ) where
   planRest-jobs e = rw e
 
   module _ {js : List Job} {s₁ : List ℕ} {n₁ : ℕ} (e₁ : jobsAfter [] jobs s 5 ≡ read js s₁ n₁) where
-    pub planRest-count : {x : Refusal} {t : List ℕ} → numberLine (bytes "bounds=") (pos 0) (pos mostBounds) s₁ n₁ ≡ refused x t → planRest window rounds last jobs s 5 ≡ refused x t
+    pub planRest-count : {x : Refusal} {t : List ℕ} → numberLine (bytes "bounds=") (pos 0) (pos mostBounds) s₁ n₁ ≡ refused x t
+        → planRest window rounds last jobs s 5 ≡ refused x t
     unfolding next
     planRest-count e = rw (e₁, e)
 
@@ -69,7 +71,8 @@ module _ (s : List ℕ) {m : Reading Plan} where
   unfolding planRead
   planRead-refused f h e = sym (ap (planRead s) e ∙ ap (λ (k : ℕ). refusedRead (record { refusal = f .refusal; at = k })) (place-back s (f .at) h))
 
-  pub planRead-accepted : (p : Plan) (at n : ℕ) → at ≤ length s → m ≡ read p (drop at s) n → planRead s m ≡ record { answer = Accepted; plan = p; at = at; line = n }
+  pub planRead-accepted : (p : Plan) (at n : ℕ) → at ≤ length s → m ≡ read p (drop at s) n
+      → planRead s m ≡ record { answer = Accepted; plan = p; at = at; line = n }
   unfolding planRead
   planRead-accepted p at n h e = ap (planRead s) e ∙ rw (place-back s at h)
 
@@ -111,13 +114,15 @@ module _ (s : List ℕ) where
   alone-refused (read p t n) e = absurd (let z : _≡_ {A = ℕ} 0 1 = cc in omega arith)
   alone-refused (refused r t) e = refl
 
-  pub alone-more : (m : Reading Plan) → planRead s m .answer ≡ Accepted → planRead s m .at < length s → refusedRead (record { refusal = Form (planRead s m .line); at = planRead s m .at }) ≡ planRead s (nothingAfter m)
+  pub alone-more : (m : Reading Plan) → planRead s m .answer ≡ Accepted → planRead s m .at < length s → refusedRead
+      (record { refusal = Form (planRead s m .line); at = planRead s m .at }) ≡ planRead s (nothingAfter m)
   unfolding planRead nothingAfter
   alone-more (read p [] n) e h = absurd (omega arith)
   alone-more (read p (a ∷ t) n) e h = refl
   alone-more (refused r t) e h = absurd (let z : _≡_ {A = ℕ} 0 1 = cc in omega arith)
 
-  pub alone-end : (m : Reading Plan) → ((p : Plan) (t : List ℕ) (n : ℕ) → m ≡ read p t n → length t ≤ length s) → planRead s m .answer ≡ Accepted → length s ≤ planRead s m .at → planRead s m ≡ planRead s (nothingAfter m)
+  pub alone-end : (m : Reading Plan) → ((p : Plan) (t : List ℕ) (n : ℕ) → m ≡ read p t n → length t ≤ length s) → planRead s m .answer ≡ Accepted
+      → length s ≤ planRead s m .at → planRead s m ≡ planRead s (nothingAfter m)
   unfolding planRead nothingAfter
   alone-end (read p [] n) f e h = refl
   alone-end (read p (a ∷ t) n) f e h = absurd (omega (arith, f p (a ∷ t) n refl))

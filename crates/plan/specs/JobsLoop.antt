@@ -1,5 +1,5 @@
--- The loop over the jobs' lines: `JobsPassed` is what holds after i jobs, at the beginning (`JobsPassed-start`), after one more (`-past`), at a fault (`-stop`) and at
--- the end (`-end`).
+-- The loop over the jobs' lines: `JobsPassed` is what holds after i jobs, at the beginning (`JobsPassed-start`), after one more (`-past`), at a fault
+-- (`-stop`) and at the end (`-end`).
 use mathlib.Core.Path.{_≡_, refl, sym, _∙_, ap}
 use mathlib.Core.List.{List, [], _∷_, _++_}
 use Prim.Native.Nat.{ℕ, suc, _+_, _*_, _-_, _≤_, _<_}

@@ -1,5 +1,5 @@
--- Plans, as document 01 has them. In reading order: the limits of the plan's numbers, the names of events, a plan's text read, a plan's text written, and what an
--- accepted plan is. These files are definitions alone; the laws stand after them. Refusals and lines are of the crate `lines`.
+-- Plans, as document 01 has them. In reading order: the limits of the plan's numbers, the names of events, a plan's text read, a plan's text written, and
+-- what an accepted plan is. These files are definitions alone; the laws stand after them. Refusals and lines are of the crate `lines`.
 -- ---- document 01
 pub mod Limits
 pub mod EventNames

@@ -1,5 +1,6 @@
--- The laws of lists that the plan's arrays need: what is told of each element (`All`) is told at each place (`All-at`), and back (`All-of`), and of one more (`All-more`); an
--- array that a list fills has its size, the list's elements at the first places (`filled-at`), and its beginnings (`filled-take`, `filled-all`). `Filling` is such an array while it is being filled.
+-- The laws of lists that the plan's arrays need: what is told of each element (`All`) is told at each place (`All-at`), and back (`All-of`), and of one more
+-- (`All-more`); an array that a list fills has its size, the list's elements at the first places (`filled-at`), and its beginnings (`filled-take`,
+-- `filled-all`). `Filling` is such an array while it is being filled.
 use mathlib.Core.Path.{_≡_, sym, _∙_, ap}
 use mathlib.Core.List.{List, [], _∷_, _++_}
 use Prim.Native.Nat.{ℕ, zero, suc, _+_, _-_, _≤_, _<_}

@@ -1,5 +1,6 @@
--- The laws of pairs as numbers: one turn of the search (`isIn-stop`, `isIn-past`, `isIn-end`; with what was found before, `or-stop`, `or-end`), and that the numbers decide as the pairs do
--- (`isWrongNumbered-pair`) where every job's number is below 256; a pair is judged test by test (`isWrongNumbered-next`, `-same`, `-given`).
+-- The laws of pairs as numbers: one turn of the search (`isIn-stop`, `isIn-past`, `isIn-end`; with what was found before, `or-stop`, `or-end`), and that the
+-- numbers decide as the pairs do (`isWrongNumbered-pair`) where every job's number is below 256; a pair is judged test by test (`isWrongNumbered-next`,
+-- `-same`, `-given`).
 use mathlib.Core.Path.{_≡_, refl, sym}
 use mathlib.Core.Bool.{Bool, true, false, _&&_, _||_}
 use mathlib.Core.List.{List, [], _∷_, map}
@@ -61,12 +62,14 @@ samePair-number a b c d h g =
         by-tests true false p q = sym (ne-eqb (x * 1024 + y) (z * 1024 + w) (λ e. eqb-false y w q (omega (arith, eqb-true x z p))))
         by-tests false t p q = sym (ne-eqb (x * 1024 + y) (z * 1024 + w) (λ e. eqb-false x z p (omega arith)))
 
-isGiven-number : (a b : EventName) (given : List Bound) → Small a b → All (λ d. Small (d .a) (d .b)) given → isGiven a b given ≡ isIn (pairNumber a b) (map pairOf given)
+isGiven-number : (a b : EventName) (given : List Bound) → Small a b → All (λ d. Small (d .a) (d .b)) given
+    → isGiven a b given ≡ isIn (pairNumber a b) (map pairOf given)
 unfolding isGiven isIn
 isGiven-number a b [] h hs = refl
 isGiven-number a b (d ∷ given) h hs = rw (samePair-number a b (d .a) (d .b) h (hs .0), isGiven-number a b given h (hs .1))
 
-pub isWrongNumbered-pair : (a b : EventName) (given : List Bound) → Small a b → All (λ d. Small (d .a) (d .b)) given → isWrongNumbered (map pairOf given) a b ≡ isWrongPair a b given
+pub isWrongNumbered-pair : (a b : EventName) (given : List Bound) → Small a b → All (λ d. Small (d .a) (d .b)) given
+    → isWrongNumbered (map pairOf given) a b ≡ isWrongPair a b given
 unfolding isWrongNumbered isWrongPair
 isWrongNumbered-pair a b given h hs = rw (isGiven-number a b given h hs)
 
@@ -81,6 +84,7 @@ module _ (given : List ℕ) (a b : EventName) where
   unfolding isWrongNumbered
   isWrongNumbered-same h e = rw (h, sameEvent-number a b, eq-eqb (eventNumber a) (eventNumber b) e)
 
-  pub isWrongNumbered-given : isNext (a .letter) && isNext (b .letter) ≡ false → (eventNumber a ≡ eventNumber b → ⊥) → isWrongNumbered given a b ≡ isIn (pairNumber a b) given
+  pub isWrongNumbered-given : isNext (a .letter) && isNext (b .letter) ≡ false → (eventNumber a ≡ eventNumber b → ⊥)
+      → isWrongNumbered given a b ≡ isIn (pairNumber a b) given
   unfolding isWrongNumbered
   isWrongNumbered-given h d = rw (h, sameEvent-number a b, ne-eqb (eventNumber a) (eventNumber b) d)

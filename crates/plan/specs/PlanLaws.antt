@@ -28,7 +28,27 @@ use Rattle.plan.specs.declared.Plan.{Plan}
 use Rattle.lines.specs.Reading.{longestText, value, Reading, read, refused, Reader, next}
 use Rattle.plan.specs.Limits.{mostJobs, mostBounds, leastC, greatestC}
 use Rattle.lines.specs.Refusals.{tooLong}
-use Rattle.plan.specs.PlanLines.{jobLines, jobsAfter, BoundParts, partsOf, boundParts, isJob, isWrongPair, boundOf, linedBound, boundOfLine, boundsAfter, noJob, noBound, filled, planOf, planLines, planHead, nothingAfter, planAlone}
+use Rattle.plan.specs.PlanLines.{
+  jobLines,
+  jobsAfter,
+  BoundParts,
+  partsOf,
+  boundParts,
+  isJob,
+  isWrongPair,
+  boundOf,
+  linedBound,
+  boundOfLine,
+  boundsAfter,
+  noJob,
+  noBound,
+  filled,
+  planOf,
+  planLines,
+  planHead,
+  nothingAfter,
+  planAlone,
+}
 use Rattle.plan.specs.EventNames.{nameBytes, eventName}
 use Rattle.plan.specs.EventNameLaws.{eventName-written}
 use Rattle.lines.specs.Keyed.{keyed}
@@ -84,7 +104,8 @@ pub record JobsRead (left : ℕ) (s : List ℕ) (js : List Job) (t : List ℕ) :
 jobsAfter-then : {B : Type 0} (done : List Job) (left : ℕ) (s : List ℕ) (n : ℕ) (f : List Job → Reader B) {b : B} {t : List ℕ} {k : ℕ}
     → next (jobsAfter done left s n) f ≡ read b t k → Then (λ js r i. JobsRead left s js r) (λ js. f (done ++ js)) b t k
 unfolding jobsAfter next jobsText
-jobsAfter-then done zero s n f e = record { got = []; left = s; line = n; told = record { count = refl; accepted = tt; written = refl }; more = rw append-nil e }
+jobsAfter-then done zero s n f e =
+    record { got = []; left = s; line = n; told = record { count = refl; accepted = tt; written = refl }; more = rw append-nil e }
 jobsAfter-then done (suc left) s n f e = do
   all ← next-then (jobsAfter done (suc left) s n) f e
   job ← jobLines-then s n _ (all .told)
@@ -124,16 +145,19 @@ boundParts-read s {q} e = by-commas (has comma s) (has comma (after comma s)) re
           written =
               has-split comma s p1
               ∙ ap (λ (x : List ℕ). x ++ (comma ∷ t)) (eventName-written (before comma s) a p3)
-              ∙ ap (λ (x : List ℕ). nameBytes a ++ (comma ∷ x)) (has-split comma t p2 ∙ ap (λ (x : List ℕ). x ++ (comma ∷ after comma t)) (eventName-written (before comma t) b p4));
+              ∙ ap (λ (x : List ℕ). nameBytes a ++ (comma ∷ x)) (has-split comma t p2 ∙ ap (λ (x : List ℕ). x ++ (comma ∷ after comma t))
+              (eventName-written (before comma t) b p4));
         })
     by-form a b p1 p2 p3 p4 false h d = absurd (let z : _≡_ {A = ℕ} 0 1 = cc in omega arith)
 
-    by-names : has comma s ≡ true → has comma t ≡ true → (a b : Option EventName) → eventName (before comma s) ≡ a → eventName (before comma t) ≡ b → partsOf a b (after comma t) ≡ some q → PartsRead s q
+    by-names : has comma s ≡ true → has comma t ≡ true → (a b : Option EventName) → eventName (before comma s) ≡ a → eventName (before comma t) ≡ b
+        → partsOf a b (after comma t) ≡ some q → PartsRead s q
     by-names p1 p2 none b p3 p4 d = absurd (let z : _≡_ {A = ℕ} 0 1 = cc in omega arith)
     by-names p1 p2 (some a) none p3 p4 d = absurd (let z : _≡_ {A = ℕ} 0 1 = cc in omega arith)
     by-names p1 p2 (some a) (some b) p3 p4 d = by-form a b p1 p2 p3 p4 (isNumber (after comma t)) refl d
 
-    by-commas : (x y : Bool) → has comma s ≡ x → has comma t ≡ y → cond (x && y) (partsOf (eventName (before comma s)) (eventName (before comma t)) (after comma t)) none ≡ some q → PartsRead s q
+    by-commas : (x y : Bool) → has comma s ≡ x → has comma t ≡ y
+        → cond (x && y) (partsOf (eventName (before comma s)) (eventName (before comma t)) (after comma t)) none ≡ some q → PartsRead s q
     by-commas true true p1 p2 d = by-names p1 p2 (eventName (before comma s)) (eventName (before comma t)) refl refl d
     by-commas true false p1 p2 d = absurd (let z : _≡_ {A = ℕ} 0 1 = cc in omega arith)
     by-commas false y p1 p2 d = absurd (let z : _≡_ {A = ℕ} 0 1 = cc in omega arith)
@@ -155,17 +179,21 @@ pub boundOfLine-read : (jobs : ℕ) (given : List Bound) (l : List ℕ) {d : Bou
 unfolding linedBound boundOf boundParts
 boundOfLine-read jobs given l {d} e = by-parts (boundParts (afterKey (bytes "bound=") l)) refl e
   where
-    by-key : (o : Option (List ℕ)) → afterKey (bytes "bound=") l ≡ o → (q : BoundParts) → boundParts o ≡ some q → l ≡ boundBytes (record { a = q .a; b = q .b; c = numberValue (q .c) }) []
+    by-key : (o : Option (List ℕ)) → afterKey (bytes "bound=") l ≡ o → (q : BoundParts) → boundParts o ≡ some q
+        → l ≡ boundBytes (record { a = q .a; b = q .b; c = numberValue (q .c) }) []
     by-key none p q h = absurd (let z : _≡_ {A = ℕ} 0 1 = cc in omega arith)
     by-key (some t) p q h =
         let r = boundParts-read t h in
         afterKey-split (bytes "bound=") l t p
         ∙ ap (λ (x : List ℕ). bytes "bound=" ++ x) (r .written)
-        ∙ ap (λ (x : List ℕ). bytes "bound=" ++ (nameBytes (q .a) ++ (comma ∷ (nameBytes (q .b) ++ (comma ∷ x))))) (sym (number-back (q .c) (r .form)) ∙ sym (append-nil (decimal (numberValue (q .c)))))
+        ∙ ap (λ (x : List ℕ). bytes "bound=" ++ (nameBytes (q .a) ++ (comma ∷ (nameBytes (q .b) ++ (comma ∷ x)))))
+        (sym (number-back (q .c) (r .form)) ∙ sym (append-nil (decimal (numberValue (q .c)))))
 
-    by-pair : (q : BoundParts) → boundParts (afterKey (bytes "bound=") l) ≡ some q → isJob jobs (q .a .job) ≡ true → isJob jobs (q .b .job) ≡ true → leZ leastC (numberValue (q .c)) ≡ true → leZ (numberValue (q .c)) greatestC ≡ true
+    by-pair : (q : BoundParts) → boundParts (afterKey (bytes "bound=") l) ≡ some q → isJob jobs (q .a .job) ≡ true → isJob jobs (q .b .job) ≡ true
+        → leZ leastC (numberValue (q .c)) ≡ true → leZ (numberValue (q .c)) greatestC ≡ true
         → (t : Bool) → isWrongPair (q .a) (q .b) given ≡ t
-        → linedBound (cond t (boundLine.Bad fault.Pair) (boundLine.Value (record { a = q .a; b = q .b; c = numberValue (q .c) }))) ≡ value d → BoundRead jobs given l d
+        → linedBound (cond t (boundLine.Bad fault.Pair) (boundLine.Value (record { a = q .a; b = q .b; c = numberValue (q .c) }))) ≡ value d
+        → BoundRead jobs given l d
     by-pair q p ja jb cl cm true w e = absurd (let z : _≡_ {A = ℕ} 0 1 = cc in omega arith)
     by-pair q p ja jb cl cm false w e =
         let v : _≡_ {A = Bound} (record { a = q .a; b = q .b; c = numberValue (q .c) }) d = cc in
@@ -178,17 +206,22 @@ boundOfLine-read jobs given l {d} e = by-parts (boundParts (afterKey (bytes "bou
           pair = w;
         })
 
-    by-range : (q : BoundParts) → boundParts (afterKey (bytes "bound=") l) ≡ some q → (ja jb cl cm : Bool) → isJob jobs (q .a .job) ≡ ja → isJob jobs (q .b .job) ≡ jb → leZ leastC (numberValue (q .c)) ≡ cl → leZ (numberValue (q .c)) greatestC ≡ cm
-        → linedBound (cond (not (ja && jb && (cl && cm))) (boundLine.Bad fault.Range) (cond (isWrongPair (q .a) (q .b) given) (boundLine.Bad fault.Pair) (boundLine.Value (record { a = q .a; b = q .b; c = numberValue (q .c) })))) ≡ value d → BoundRead jobs given l d
+    by-range : (q : BoundParts) → boundParts (afterKey (bytes "bound=") l) ≡ some q → (ja jb cl cm : Bool) → isJob jobs (q .a .job) ≡ ja
+        → isJob jobs (q .b .job) ≡ jb → leZ leastC (numberValue (q .c)) ≡ cl → leZ (numberValue (q .c)) greatestC ≡ cm
+        → linedBound (cond (not (ja && jb && (cl && cm))) (boundLine.Bad fault.Range)
+        (cond (isWrongPair (q .a) (q .b) given) (boundLine.Bad fault.Pair) (boundLine.Value (record { a = q .a; b = q .b; c = numberValue (q .c) }))))
+        ≡ value d → BoundRead jobs given l d
     by-range q p true true true true p1 p2 p3 p4 e = by-pair q p p1 p2 p3 p4 (isWrongPair (q .a) (q .b) given) refl e
     by-range q p true true true false p1 p2 p3 p4 e = absurd (let z : _≡_ {A = ℕ} 0 1 = cc in omega arith)
     by-range q p true true false cm p1 p2 p3 p4 e = absurd (let z : _≡_ {A = ℕ} 0 1 = cc in omega arith)
     by-range q p true false cl cm p1 p2 p3 p4 e = absurd (let z : _≡_ {A = ℕ} 0 1 = cc in omega arith)
     by-range q p false jb cl cm p1 p2 p3 p4 e = absurd (let z : _≡_ {A = ℕ} 0 1 = cc in omega arith)
 
-    by-parts : (o : Option BoundParts) → boundParts (afterKey (bytes "bound=") l) ≡ o → linedBound (boundOf jobs (λ a b. isWrongPair a b given) o) ≡ value d → BoundRead jobs given l d
+    by-parts : (o : Option BoundParts) → boundParts (afterKey (bytes "bound=") l) ≡ o → linedBound (boundOf jobs (λ a b. isWrongPair a b given) o) ≡ value d
+        → BoundRead jobs given l d
     by-parts none p e = absurd (let z : _≡_ {A = ℕ} 0 1 = cc in omega arith)
-    by-parts (some q) p e = by-range q p (isJob jobs (q .a .job)) (isJob jobs (q .b .job)) (leZ leastC (numberValue (q .c))) (leZ (numberValue (q .c)) greatestC) refl refl refl refl e
+    by-parts (some q) p e = by-range q p (isJob jobs (q .a .job)) (isJob jobs (q .b .job)) (leZ leastC (numberValue (q .c)))
+        (leZ (numberValue (q .c)) greatestC) refl refl refl refl e
 
 -- each bound in its range, and its pair right after the bounds given before it
 abbrev pub AllBounds : ℕ → List Bound → List Bound → Type 0
@@ -214,7 +247,8 @@ pub record BoundsRead (jobs : ℕ) (given : List Bound) (left : ℕ) (s : List �
 boundsAfter-then : {B : Type 0} (jobs : ℕ) (given : List Bound) (left : ℕ) (s : List ℕ) (n : ℕ) (f : List Bound → Reader B) {b : B} {t : List ℕ} {k : ℕ}
     → next (boundsAfter jobs given left s n) f ≡ read b t k → Then (λ ds r i. BoundsRead jobs given left s ds r) (λ ds. f (given ++ ds)) b t k
 unfolding boundsAfter next boundsText
-boundsAfter-then jobs given zero s n f e = record { got = []; left = s; line = n; told = record { count = refl; accepted = tt; written = refl }; more = rw append-nil e }
+boundsAfter-then jobs given zero s n f e =
+    record { got = []; left = s; line = n; told = record { count = refl; accepted = tt; written = refl }; more = rw append-nil e }
 boundsAfter-then jobs given (suc left) s n f e = do
   all ← next-then (boundsAfter jobs given (suc left) s n) f e
   bound ← next-then _ _ (all .told)
@@ -261,7 +295,8 @@ linesOf window rounds last jobs js bounds s =
     (jobsText js
     (keyed (bytes "bounds=") (pos bounds) s)))))
 
-linesOf-append : (window : ℤ) (rounds last jobs : ℕ) (js : List Job) (bounds : ℕ) (s t : List ℕ) → linesOf window rounds last jobs js bounds s ++ t ≡ linesOf window rounds last jobs js bounds (s ++ t)
+linesOf-append : (window : ℤ) (rounds last jobs : ℕ) (js : List Job) (bounds : ℕ) (s t : List ℕ)
+    → linesOf window rounds last jobs js bounds s ++ t ≡ linesOf window rounds last jobs js bounds (s ++ t)
 linesOf-append window rounds last jobs js bounds s t = simp (append-assoc, jobsText-append)
 
 planLines-read : (s : List ℕ) (n : ℕ) {p : Plan} {t : List ℕ} {k : ℕ} → planLines s n ≡ read p t k → PlanRead s p t
@@ -302,7 +337,11 @@ planLines-read s n {p} {t} {k} e = do
               rw (filled-at mostBounds noBound ds every i (omega (arith, bound .told .count)))
               (AllBounds-at (jobs .got) [] ds i (bound .told .accepted) (omega (arith, bound .told .count)) .0);
           pair-at = λ i l.
-              rw (filled-at mostBounds noBound ds every i (omega (arith, bound .told .count)), filled-take mostBounds noBound ds every i (omega (arith, bound .told .count)))
+              rw (
+                filled-at mostBounds noBound ds every i (omega (arith, bound .told .count)),
+                filled-take mostBounds noBound ds every i
+                    (omega (arith, bound .told .count)),
+              )
               (AllBounds-at (jobs .got) [] ds i (bound .told .accepted) (omega (arith, bound .told .count)) .1);
         };
         written =
@@ -318,7 +357,8 @@ planLines-read s n {p} {t} {k} e = do
             (jobs .told .written
             ∙ ap (keyed (bytes "jobs=") (pos (jobs .got)))
             (job .told .written
-            ∙ ap (jobsText js) (bounds .told .written ∙ ap (keyed (bytes "bounds=") (pos (bounds .got))) (bound .told .written ∙ ap (λ (x : List ℕ). boundsText ds ++ x) (cc)))))))));
+            ∙ ap (jobsText js) (bounds .told .written ∙ ap (keyed (bytes "bounds=") (pos (bounds .got)))
+            (bound .told .written ∙ ap (λ (x : List ℕ). boundsText ds ++ x) (cc)))))))));
         whole = rw (jobs-are, bounds-are);
       })
 
@@ -327,7 +367,8 @@ planHead-read : (s : List ℕ) {p : Plan} {t : List ℕ} {k : ℕ} → planHead 
 unfolding planHead
 planHead-read s {p} {t} {k} e = by-length (leb (length s) longestText) refl e
   where
-    by-length : (b : Bool) → leb (length s) longestText ≡ b → cond b (planLines s 1) (refused tooLong []) ≡ read p t k → PlanRead s p t × (length s ≤ longestText)
+    by-length : (b : Bool) → leb (length s) longestText ≡ b → cond b (planLines s 1) (refused tooLong []) ≡ read p t k
+        → PlanRead s p t × (length s ≤ longestText)
     by-length true h d = (planLines-read s 1 d, leb-true (length s) longestText h)
     by-length false h d = absurd (let z : _≡_ {A = ℕ} 0 1 = cc in omega arith)
 

@@ -24,8 +24,9 @@ use Rattle.plan.specs.declared.Went.{Went}
 use Rattle.plan.specs.declared.Went.the-variants as went
 use Rattle.plan.specs.declared.Jobs.{Jobs}
 use Rattle.plan.specs.Limits.{mostJobs, mostBounds}
+use Rattle.plan.specs.Pairs.{isWrongNumbered}
 use Rattle.plan.specs.PlanLines.{boundParts, boundOf, linedBound, noJob, noBound, filled, planRest}
-use Rattle.lines.specs.Reading.{Lined, Reading}
+use Rattle.lines.specs.Reading.{Lined, Reading, Reader, line}
 use Rattle.lines.specs.ReadAt.{faultyIn, At, goes, stops, atTold, atPlace}
 
 -- the answers of the code
@@ -65,6 +66,10 @@ jobsFilled jobs r = IfOn (r .went) (r .job ≡ filled mostJobs noJob (take jobs 
 -- a bound line by itself, with the pairs that are wrong after the bounds before it
 abbrev pub boundLined : ℕ → (EventName → EventName → Bool) → List ℕ → Lined Bound
 boundLined jobs isWrong l = linedBound (boundOf jobs isWrong (boundParts (afterKey (bytes "bound=") l)))
+
+-- the next bound line, where the pairs of the bounds before it are given by their numbers
+abbrev pub boundNext : ℕ → List ℕ → Reader Bound
+boundNext jobs given = line (boundLined jobs (isWrongNumbered given))
 
 abbrev pub boundsTold : List ℕ → ℕ → ℕ → Bounds → Reading (List Bound)
 boundsTold s n bounds r = atTold s (n + bounds) (wentAt (take bounds (r .bound)) (r .went))

@@ -1,5 +1,5 @@
--- The laws by which the code's readers of groups of lines are right: the fault of a group is the same whatever was read there (`endAt-fault`), and a group ends with the
--- first refusal (`jobLines-first` to `jobLines-fourth`, `planLines-first` to `planLines-fourth`) or is read (`jobLines-all`, `planLines-rest`).
+-- The laws by which the code's readers of groups of lines are right: the fault of a group is the same whatever was read there (`endAt-fault`), and a group
+-- ends with the first refusal (`jobLines-first` to `jobLines-fourth`, `planLines-first` to `planLines-fourth`) or is read (`jobLines-all`, `planLines-rest`).
 use mathlib.Core.Path.{_≡_, refl}
 use mathlib.Core.List.{List}
 use Prim.Native.Nat.{ℕ, _-_}
@@ -37,7 +37,8 @@ module _ (s : List ℕ) (n : ℕ) where
       jobLines-third e = rw (e₁, e₂, e)
 
       module _ {release : ℤ} {s₃ : List ℕ} {n₃ : ℕ} (e₃ : numberLine (bytes "release=") (pos 0) latestDeadline s₂ n₂ ≡ read release s₃ n₃) where
-        pub jobLines-fourth : {x : Refusal} {t : List ℕ} → numberLine (bytes "deadline=") (pos 0) latestDeadline s₃ n₃ ≡ refused x t → jobLines s n ≡ refused x t
+        pub jobLines-fourth : {x : Refusal} {t : List ℕ} → numberLine (bytes "deadline=") (pos 0) latestDeadline s₃ n₃ ≡ refused x t
+            → jobLines s n ≡ refused x t
         unfolding jobLines next
         jobLines-fourth e = rw (e₁, e₂, e₃, e)
 
@@ -64,7 +65,8 @@ module _ (s : List ℕ) where
       planLines-third e = rw (e₁, e₂, e)
 
       module _ {last : ℤ} {s₃ : List ℕ} (e₃ : numberLine (bytes "last=") (pos 1) (pos mostWindows) s₂ 3 ≡ read last s₃ 4) where
-        pub planLines-fourth : (most : ℕ) {x : Refusal} {t : List ℕ} → numberLine (bytes "jobs=") (pos 1) (pos most) s₃ 4 ≡ refused x t → most ≡ mostJobs → planLines s 1 ≡ refused x t
+        pub planLines-fourth : (most : ℕ) {x : Refusal} {t : List ℕ} → numberLine (bytes "jobs=") (pos 1) (pos most) s₃ 4 ≡ refused x t → most ≡ mostJobs
+            → planLines s 1 ≡ refused x t
         unfolding planLines next
         planLines-fourth most {x} {t} e l = let d : numberLine (bytes "jobs=") (pos 1) (pos mostJobs) s₃ 4 ≡ refused x t = rw l at e in rw (e₁, e₂, e₃, d)
 

@@ -19,7 +19,8 @@ use Rattle.plan.specs.PlanAnswers.{planRead}
 pub is-c-unique : (c : ℤ) {r q : Bool} → r ≡ within leastC greatestC c → q ≡ within leastC greatestC c → r ≡ q
 is-c-unique c = only
 
-pub judge-bound-unique : (d : Bound) (jobs : ℕ) (given : List ℕ) {r q : BoundLine} → r ≡ judgedBound jobs (isWrongNumbered given) d → q ≡ judgedBound jobs (isWrongNumbered given) d → r ≡ q
+pub judge-bound-unique : (d : Bound) (jobs : ℕ) (given : List ℕ) {r q : BoundLine} → r ≡ judgedBound jobs (isWrongNumbered given) d
+    → q ≡ judgedBound jobs (isWrongNumbered given) d → r ≡ q
 judge-bound-unique d jobs given = only
 
 pub pair-number-unique : (a b : EventName) {n m : ℕ} → n ≡ pairNumber a b → m ≡ pairNumber a b → n ≡ m

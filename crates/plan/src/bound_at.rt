@@ -10,9 +10,7 @@ ghost use mathlib.Core.Path.{_≡_};
 ghost use Prim.Native.Nat.{_+_, _≤_};
 ghost use lib.ListN.{length, take, drop};
 ghost use Rattle.plan.specs.Limits.{mostBounds};
-ghost use Rattle.lines.specs.Reading.{line};
-ghost use Rattle.plan.specs.Pairs.{isWrongNumbered};
-ghost use Rattle.plan.specs.ReadAt.{boundLined, boundLineAt};
+ghost use Rattle.plan.specs.ReadAt.{boundNext, boundLineAt};
 ghost use Rattle.lines.specs.ReadAt.{atTold, atPlace, atFault};
 
 // The bound of the line that begins at a place, and where the next line begins.
@@ -25,7 +23,7 @@ pub fn read_bound_at(
     n: usize,
 ) -> BoundRead
     requires { ⌜ (at ≤ length (now s)) × ((n ≤ mostBounds) × (n ≤ length (now given))) ⌝ }
-    ensures { λ r. ⌜ line (boundLined jobs (isWrongNumbered (take n (now (given .entry))))) (drop at (now (s .entry))) number ≡ atTold (now (s .entry)) (number + 1) (boundLineAt r) ⌝ }
+    ensures { λ r. ⌜ boundNext jobs (take n (now (given .entry))) (drop at (now (s .entry))) number ≡ atTold (now (s .entry)) (number + 1) (boundLineAt r) ⌝ }
     ensures { λ r. ⌜ atPlace (boundLineAt r) ≤ length (now (s .entry)) ⌝ }
 {
     let next = text::next_line(s, at);

@@ -72,7 +72,8 @@ digits-length-one n h = ap length (digits-one n h)
 pub digits-length-more : (n : ℕ) → 10 ≤ n → length (digits n) ≡ length (digits (n / 10)) + 1
 digits-length-more n h = ap length (digits-more n h) ∙ length-append (digits (n / 10)) ((zeroDigit + n % 10) ∷ [])
 
-module _ (P : ℕ → List ℕ → Type 0) (one : (n : ℕ) → n < 10 → P n ((zeroDigit + n) ∷ [])) (more : (n : ℕ) (s : List ℕ) → 10 ≤ n → P (n / 10) s → P n (s ++ ((zeroDigit + n % 10) ∷ []))) where
+module _ (P : ℕ → List ℕ → Type 0) (one : (n : ℕ) → n < 10 → P n ((zeroDigit + n) ∷ []))
+    (more : (n : ℕ) (s : List ℕ) → 10 ≤ n → P (n / 10) s → P n (s ++ ((zeroDigit + n % 10) ∷ []))) where
   each-below : (k n : ℕ) → n ≤ k → P n (digits n)
   each-below zero n h = rw (digits-one n (omega arith)) (one n (omega arith))
   each-below (suc k) n h = of (ltb n 10) refl (λ large. each-below k (n / 10) (omega arith))
@@ -125,7 +126,8 @@ unfolding allDigits
 allDigits-last [] b h e = rw e
 allDigits-last (a ∷ s) b h e = of (isDigit a) h (λ g. allDigits-last s b g e)
   where
-    of : (t : Bool) → cond t (allDigits s) false ≡ true → (allDigits s ≡ true → allDigits (s ++ (b ∷ [])) ≡ true) → cond t (allDigits (s ++ (b ∷ []))) false ≡ true
+    of : (t : Bool) → cond t (allDigits s) false ≡ true → (allDigits s ≡ true → allDigits (s ++ (b ∷ [])) ≡ true)
+        → cond t (allDigits (s ++ (b ∷ []))) false ≡ true
     of true h more = more h
     of false h more = h
 
@@ -150,7 +152,8 @@ digits-all n = digits-each (λ n s. allDigits s ≡ true) one (λ n s h g. allDi
 
 pub digits-positive : (n : ℕ) → 0 < n → isPositive (digits n) ≡ true
 unfolding isPositive allDigits
-digits-positive n = digits-each (λ n s. 0 < n → isPositive s ≡ true) one (λ n s h g p. isPositive-last s (zeroDigit + n % 10) (g (omega arith)) (last-digit n)) n
+digits-positive n = digits-each (λ n s. 0 < n → isPositive s ≡ true) one
+    (λ n s h g p. isPositive-last s (zeroDigit + n % 10) (g (omega arith)) (last-digit n)) n
   where
     one : (n : ℕ) → n < 10 → 0 < n → isPositive ((zeroDigit + n) ∷ []) ≡ true
     one n h p = rw (ne-eqb (zeroDigit + n) zeroDigit (omega arith), isDigit-of n h)
@@ -162,7 +165,8 @@ digits-some n = digits-each (λ n s. 0 < length s) (λ n h. omega arith) (λ n s
 pub digits-fits : (n k : ℕ) → n < 10 ^ suc k → length (digits n) ≤ suc k
 digits-fits n = digits-each (λ n s. (k : ℕ) → n < 10 ^ suc k → length s ≤ suc k) (λ n h k g. omega arith) more n
   where
-    more : (n : ℕ) (s : List ℕ) → 10 ≤ n → ((k : ℕ) → n / 10 < 10 ^ suc k → length s ≤ suc k) → (k : ℕ) → n < 10 ^ suc k → length (s ++ ((zeroDigit + n % 10) ∷ [])) ≤ suc k
+    more : (n : ℕ) (s : List ℕ) → 10 ≤ n → ((k : ℕ) → n / 10 < 10 ^ suc k → length s ≤ suc k) → (k : ℕ) → n < 10 ^ suc k
+        → length (s ++ ((zeroDigit + n % 10) ∷ [])) ≤ suc k
     more n s h before zero g = absurd (omega arith)
     more n s h before (suc k) g =
         let tenth : n / 10 < 10 ^ suc k = omega (arith, pow-suc 10 (suc k)) in

@@ -65,10 +65,12 @@ module _ (s : List ℕ) (i n : ℕ) (h : i < length s) where
   pub digitsRead-above : nineDigit < getD s i 0 → digitsRead n (drop i s) ≡ Bad
   digitsRead-above g = rw (drop-cons s i 0 h) (digitsRead-other n (getD s i 0) (drop (suc i) s) (isDigit-above (getD s i 0) g))
 
-  pub digitsRead-past : zeroDigit ≤ getD s i 0 → getD s i 0 ≤ nineDigit → digitsRead n (drop i s) ≡ digitsRead (n * 10 + (getD s i 0 - zeroDigit)) (drop (i + 1) s)
+  pub digitsRead-past : zeroDigit ≤ getD s i 0 → getD s i 0 ≤ nineDigit
+      → digitsRead n (drop i s) ≡ digitsRead (n * 10 + (getD s i 0 - zeroDigit)) (drop (i + 1) s)
   digitsRead-past g k = rw (add-one, drop-cons s i 0 h) (digitsRead-more n (getD s i 0) (drop (suc i) s) g k)
 
-  pub digitsRead-cut : zeroDigit ≤ getD s i 0 → getD s i 0 ≤ nineDigit → 1000000000000000000 ≤ n → digitsRead n (drop i s) ≡ digitsRead tooLarge (drop (i + 1) s)
+  pub digitsRead-cut : zeroDigit ≤ getD s i 0 → getD s i 0 ≤ nineDigit → 1000000000000000000 ≤ n
+      → digitsRead n (drop i s) ≡ digitsRead tooLarge (drop (i + 1) s)
   digitsRead-cut g k large = digitsRead-past g k ∙ digitsRead-large (n * 10 + (getD s i 0 - zeroDigit)) tooLarge (drop (i + 1) s) (omega arith) (omega arith)
 
 pub digitsRead-end : (s : List ℕ) (i n : ℕ) → length s ≤ i → n ≤ tooLarge → digitsRead n (drop i s) ≡ Value n
@@ -144,19 +146,22 @@ module _ (lo hi : ℤ) where
   numberIn-zero-led (b ∷ []) h e = absurd (h refl)
   numberIn-zero-led (b ∷ c ∷ s) h e = rw e
 
-  pub numberIn-positive : (s : List ℕ) (n : ℕ) → SFits w64 hi → (getD s 0 0 ≡ minus → ⊥) → (getD s 0 0 ≡ zeroDigit → ⊥) → positiveRead s ≡ Value n → numberIn lo hi s ≡ numberWithin lo hi (pos n)
+  pub numberIn-positive : (s : List ℕ) (n : ℕ) → SFits w64 hi → (getD s 0 0 ≡ minus → ⊥) → (getD s 0 0 ≡ zeroDigit → ⊥) → positiveRead s ≡ Value n
+      → numberIn lo hi s ≡ numberWithin lo hi (pos n)
   unfolding numberIn isNumber numberValue
   numberIn-positive [] n f m z e = absurd (false≢true (sym isPositive-nil ∙ positiveRead-value [] n e .0))
   numberIn-positive (b ∷ s) n f m z e =
       let read = positiveRead-value (b ∷ s) n e in
-      rw (ne-eqb b minus m, ne-eqb b zeroDigit z, read .0) (sym (numberWithin-capped (digitsValue 0 (b ∷ s)) f) ∙ ap (λ (k : ℕ). numberWithin lo hi (pos k)) (read .1))
+      rw (ne-eqb b minus m, ne-eqb b zeroDigit z, read .0)
+      (sym (numberWithin-capped (digitsValue 0 (b ∷ s)) f) ∙ ap (λ (k : ℕ). numberWithin lo hi (pos k)) (read .1))
 
   pub numberIn-positive-bad : (s : List ℕ) → (getD s 0 0 ≡ minus → ⊥) → (getD s 0 0 ≡ zeroDigit → ⊥) → positiveRead s ≡ Bad → numberIn lo hi s ≡ number.Bad Form
   unfolding numberIn isNumber
   numberIn-positive-bad [] m z e = refl
   numberIn-positive-bad (b ∷ s) m z e = rw (ne-eqb b minus m, ne-eqb b zeroDigit z, positiveRead-bad (b ∷ s) e)
 
-  pub numberIn-negative : (s : List ℕ) (n : ℕ) → SFits w64 lo → getD s 0 0 ≡ minus → positiveRead (drop 1 s) ≡ Value n → numberIn lo hi s ≡ numberWithin lo hi (negℤ (pos n))
+  pub numberIn-negative : (s : List ℕ) (n : ℕ) → SFits w64 lo → getD s 0 0 ≡ minus → positiveRead (drop 1 s) ≡ Value n
+      → numberIn lo hi s ≡ numberWithin lo hi (negℤ (pos n))
   unfolding numberIn isNumber numberValue
   numberIn-negative [] n f m e = absurd (false≢true (sym isPositive-nil ∙ positiveRead-value [] n e .0))
   numberIn-negative (b ∷ s) n f m e =

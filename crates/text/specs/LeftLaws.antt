@@ -43,10 +43,12 @@ module _ {A : Type 0} (text : List A → List ℕ) (xs : List A) (n : ℕ) where
 
   module _ (nil : text [] ≡ []) {out s o : List ℕ} {at j i : ℕ} (l : Left out at s o j (leftFrom i)) where
     pub left-stop : n ≤ i → Stored out at s o j
-    left-stop h = let none : n - i ≡ 0 = omega arith in left-end (subst (λ (t : List ℕ). Left out at s o j t) (ap (λ (k : ℕ). text (take k (drop i xs))) none ∙ nil) l)
+    left-stop h = let none : n - i ≡ 0 = omega arith in left-end
+        (subst (λ (t : List ℕ). Left out at s o j t) (ap (λ (k : ℕ). text (take k (drop i xs))) none ∙ nil) l)
 
     pub left-out : length xs ≤ i → Stored out at s o j
-    left-out h = left-end (subst (λ (t : List ℕ). Left out at s o j t) (ap (λ (ys : List A). text (take (n - i) ys)) (drop-of-length-le xs h) ∙ take-none (n - i) ∙ nil) l)
+    left-out h = left-end (subst (λ (t : List ℕ). Left out at s o j t)
+        (ap (λ (ys : List A). text (take (n - i) ys)) (drop-of-length-le xs h) ∙ take-none (n - i) ∙ nil) l)
       where
         take-none : (k : ℕ) → text (take k []) ≡ text []
         take-none zero = refl

@@ -80,7 +80,8 @@ put-last out at (a ∷ s) b =
     ∙ ap (λ (k : ℕ). put (set (set out at a) k b) (suc at) s) (suc-add at (length s) ∙ sym (add-suc at (length s)))
     ∙ ap (λ (o : List ℕ). put o (suc at) s) (set-comm out at (at + suc (length s)) a b (omega arith))
 
-pub put-past : (out : List ℕ) (at : ℕ) (s : List ℕ) (i : ℕ) → i < length s → put out (at + i) (drop i s) ≡ put (set out (at + i) (getD s i 0)) (at + (i + 1)) (drop (i + 1) s)
+pub put-past : (out : List ℕ) (at : ℕ) (s : List ℕ) (i : ℕ) → i < length s
+    → put out (at + i) (drop i s) ≡ put (set out (at + i) (getD s i 0)) (at + (i + 1)) (drop (i + 1) s)
 unfolding put
 put-past out at s i h = let e : suc (at + i) ≡ at + (i + 1) = omega arith in rw (← e, add-one, drop-cons s i 0 h)
 
@@ -89,7 +90,8 @@ unfolding put
 put-end out at s i h = rw (drop-of-length-le s h)
 
 -- digits from the last one on
-pub put-digits-more : (out : List ℕ) (at n last : ℕ) → 10 ≤ n → last + 1 ≡ at + length (digits n) → put out at (digits n) ≡ put (set out last (zeroDigit + n % 10)) at (digits (n / 10))
+pub put-digits-more : (out : List ℕ) (at n last : ℕ) → 10 ≤ n → last + 1 ≡ at + length (digits n)
+    → put out at (digits n) ≡ put (set out last (zeroDigit + n % 10)) at (digits (n / 10))
 put-digits-more out at n last h e =
     let place : at + length (digits (n / 10)) ≡ last = omega (arith, digits-length-more n h) in
     ap (put out at) (digits-more n h)
@@ -105,7 +107,8 @@ put-digits-one out at n last h e =
 -- ---- for callers
 
 -- a signed argument is handed over as its bits
-pub stored-number : {out out′ : List ℕ} {at at′ : ℕ} {z : ℤ} → SFits w64 z → Stored out at (decimal (toZ w64 (ofZ w64 z))) out′ at′ → Stored out at (decimal z) out′ at′
+pub stored-number : {out out′ : List ℕ} {at at′ : ℕ} {z : ℤ} → SFits w64 z → Stored out at (decimal (toZ w64 (ofZ w64 z))) out′ at′
+    → Stored out at (decimal z) out′ at′
 stored-number f p = rw (toZ-ofZ f) at p
 
 -- how far a number moves the place

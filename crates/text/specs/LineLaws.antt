@@ -58,7 +58,8 @@ unfolding lenTo
 lenTo-over b [] t e = sym (zero-add (lenTo b t))
 lenTo-over b (a ∷ s) t e = at-head (eqb a b) (λ h. lenTo-over b s t h) e
   where
-    at-head : (q : Bool) → (lenTo b s ≡ length s → lenTo b (s ++ t) ≡ length s + lenTo b t) → cond q 0 (suc (lenTo b s)) ≡ suc (length s) → cond q 0 (suc (lenTo b (s ++ t))) ≡ suc (length s) + lenTo b t
+    at-head : (q : Bool) → (lenTo b s ≡ length s → lenTo b (s ++ t) ≡ length s + lenTo b t) → cond q 0 (suc (lenTo b s)) ≡ suc (length s)
+        → cond q 0 (suc (lenTo b (s ++ t))) ≡ suc (length s) + lenTo b t
     at-head true more e = absurd (omega arith)
     at-head false more e = omega (arith, more (omega arith))
 
@@ -82,7 +83,8 @@ unfolding lenTo
 lenTo-found b [] h = absurd (omega arith)
 lenTo-found b (a ∷ s) h = at-head (eqb a b) refl h (λ g. lenTo-found b s g)
   where
-    at-head : (t : Bool) → eqb a b ≡ t → cond t 0 (suc (lenTo b s)) < suc (length s) → (lenTo b s < length s → getD s (lenTo b s) 0 ≡ b) → getD (a ∷ s) (cond t 0 (suc (lenTo b s))) 0 ≡ b
+    at-head : (t : Bool) → eqb a b ≡ t → cond t 0 (suc (lenTo b s)) < suc (length s) → (lenTo b s < length s → getD s (lenTo b s) 0 ≡ b)
+        → getD (a ∷ s) (cond t 0 (suc (lenTo b s))) 0 ≡ b
     at-head true e h more = eqb-true a b e
     at-head false e h more = more (omega arith)
 
@@ -129,7 +131,8 @@ afterKey-split (k ∷ key) (b ∷ s) t e = at-head (eqb b k) refl e (λ g. after
     at-head false q e more = let z : _≡_ {A = ℕ} 0 1 = cc in absurd (omega arith)
 
 module _ (key s : List ℕ) (i : ℕ) where
-  pub afterKey-same : i < length key → i < length s → getD s i 0 ≡ getD key i 0 → afterKey (drop i key) (drop i s) ≡ afterKey (drop (i + 1) key) (drop (i + 1) s)
+  pub afterKey-same : i < length key → i < length s → getD s i 0 ≡ getD key i 0
+      → afterKey (drop i key) (drop i s) ≡ afterKey (drop (i + 1) key) (drop (i + 1) s)
   unfolding afterKey
   afterKey-same h g e = rw (add-one, drop-cons key i 0 h, drop-cons s i 0 g, eq-eqb (getD s i 0) (getD key i 0) e)
 

@@ -26,8 +26,35 @@ use Rattle.text.specs.declared.NumberFault.the-variants.{Form, Range}
 use Rattle.text.specs.declared.Number.the-variants.{Value, Bad}
 use Rattle.text.specs.Lines.{LF, lenTo, afterKey, hasKey}
 use Rattle.text.specs.LineLaws.{lenTo-other, free-append, afterKey-back, afterKey-split, hasKey-true, hasKey-false}
-use Rattle.text.specs.Numbers.{minus, zeroDigit, isDigit, isPositive, isEmpty, isNumber, digitsValue, numberValue, numberWithin, numberIn, numberOf, numberAfter, digitsBefore, digits, decimal}
-use Rattle.text.specs.DigitLaws.{digits-all, digits-positive, digits-some, digits-fits, digits-free, digits-back, isPositive-nil, isPositive-more, positive-back, positive-value}
+use Rattle.text.specs.Numbers.{
+  minus,
+  zeroDigit,
+  isDigit,
+  isPositive,
+  isEmpty,
+  isNumber,
+  digitsValue,
+  numberValue,
+  numberWithin,
+  numberIn,
+  numberOf,
+  numberAfter,
+  digitsBefore,
+  digits,
+  decimal,
+}
+use Rattle.text.specs.DigitLaws.{
+  digits-all,
+  digits-positive,
+  digits-some,
+  digits-fits,
+  digits-free,
+  digits-back,
+  isPositive-nil,
+  isPositive-more,
+  positive-back,
+  positive-value,
+}
 
 -- ---- written
 
@@ -102,7 +129,8 @@ unfolding isNumber numberValue
 number-back [] h = absurd (false≢true h)
 number-back (b ∷ s) h = of (eqb b minus) (eqb b zeroDigit) refl refl h
   where
-    of : (t q : Bool) → eqb b minus ≡ t → eqb b zeroDigit ≡ q → cond t (isPositive s) (cond q (isEmpty s) (isPositive (b ∷ s))) ≡ true → decimal (cond t (negℤ (pos (digitsValue 0 s))) (pos (digitsValue 0 (b ∷ s)))) ≡ b ∷ s
+    of : (t q : Bool) → eqb b minus ≡ t → eqb b zeroDigit ≡ q → cond t (isPositive s) (cond q (isEmpty s) (isPositive (b ∷ s))) ≡ true
+        → decimal (cond t (negℤ (pos (digitsValue 0 s))) (pos (digitsValue 0 (b ∷ s)))) ≡ b ∷ s
     of true q e f h =
         decimal-neg (digitsValue 0 s) (positive-value s h)
         ∙ ap (λ (l : List ℕ). minus ∷ l) (positive-back s h)
@@ -146,7 +174,8 @@ numberIn-value lo hi z s h = of (isNumber s) (leZ lo v) (leZ v hi) refl refl ref
     v : ℤ
     v = numberValue s
 
-    of : (t p q : Bool) → isNumber s ≡ t → leZ lo v ≡ p → leZ v hi ≡ q → cond t (cond (p && q) (Value v) (Bad Range)) (Bad Form) ≡ Value z → NumberWithin lo hi z × (s ≡ decimal z)
+    of : (t p q : Bool) → isNumber s ≡ t → leZ lo v ≡ p → leZ v hi ≡ q → cond t (cond (p && q) (Value v) (Bad Range)) (Bad Form) ≡ Value z
+        → NumberWithin lo hi z × (s ≡ decimal z)
     of true true true e l g h =
         let same : v ≡ z = cc in
         (record { least = omega wholes; greatest = omega wholes }, sym (number-back s e) ∙ ap decimal same)

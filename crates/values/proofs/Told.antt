@@ -50,12 +50,17 @@ plan-fits p vss h =
     let js = h .1 .1 .1 .1 .0 in
     let ds = h .1 .1 .1 .1 .1 .1 .0 in
     record {
-      placed = record { job-places = sym (length-map (p .job) (job.the-type .to)) ∙ js .1 .0 .1; bound-places = sym (length-map (p .bound) (bound.the-type .to)) ∙ ds .1 .0 .1 };
+      placed = record {
+        job-places = sym (length-map (p .job) (job.the-type .to)) ∙ js .1 .0 .1;
+        bound-places = sym
+            (length-map (p .bound) (bound.the-type .to)) ∙ ds .1 .0 .1;
+      };
       window = i32-wide (record { sfits = h .0 .1 });
       rounds = h .1 .0 .1;
       last = h .1 .1 .0 .1;
       jobs = h .1 .1 .1 .0 .1;
       bounds = h .1 .1 .1 .1 .1 .0 .1;
       job-fits = All-take JobFits (p .jobs) (p .job) (each-told (job.the-field .row) (job.the-type .to) JobFits job-fits (p .job) (js .0) (js .1 .1));
-      bound-fits = All-take BoundFits (p .bounds) (p .bound) (each-told (bound.the-field .row) (bound.the-type .to) BoundFits bound-fits (p .bound) (ds .0) (ds .1 .1));
+      bound-fits = All-take BoundFits (p .bounds) (p .bound)
+          (each-told (bound.the-field .row) (bound.the-type .to) BoundFits bound-fits (p .bound) (ds .0) (ds .1 .1));
     }

@@ -1,5 +1,5 @@
--- A plan as a value that is accepted, written out and read again, is the same plan, but for the places beyond its jobs and bounds, which hold zeros then (`accepted-again`). Of a plan that came from a text,
--- whose places hold zeros already, `planAlone-again` of the crate `plan` says it.
+-- A plan as a value that is accepted, written out and read again, is the same plan, but for the places beyond its jobs and bounds, which hold zeros then
+-- (`accepted-again`). Of a plan that came from a text, whose places hold zeros already, `planAlone-again` of the crate `plan` says it.
 use mathlib.Core.Path.{_≡_, refl, _∙_, ap}
 use mathlib.Core.List.{List, []}
 use Prim.Native.Nat.{ℕ, _+_, _*_}
@@ -34,7 +34,8 @@ unfolding nothingAfter
 accepted-again p a =
     ap nothingAfter
     (planHead-short (planText p) (planText-short p f)
-    ∙ bared-read (planLines (planText p) 1) (planLines-judged p (f .placed) bare bared (λ r s. refl) ∙ ap (λ (x : TextAnswer). onward bare x (read (trimmed p) [] n)) (accepted-byLines p a)))
+    ∙ bared-read (planLines (planText p) 1) (planLines-judged p (f .placed) bare bared (λ r s. refl) ∙ ap
+    (λ (x : TextAnswer). onward bare x (read (trimmed p) [] n)) (accepted-byLines p a)))
   where
     n : ℕ
     n = 6 + 4 * p .jobs + p .bounds

@@ -1,5 +1,6 @@
--- A plan as a value is judged good exactly where it is accepted: `judgedPlan-accepted` (of the answer `judgedAnswer-accepted`) and `accepted-judged`, by way of the judgement line by line
--- (`judgedByLines-accepted`, `accepted-byLines`). That this is the judgement of the text stands in `JudgedLines`, and the text's length in `JudgedLength`.
+-- A plan as a value is judged good exactly where it is accepted: `judgedPlan-accepted` (of the answer `judgedAnswer-accepted`) and `accepted-judged`, by way
+-- of the judgement line by line (`judgedByLines-accepted`, `accepted-byLines`). That this is the judgement of the text stands in `JudgedLines`, and the
+-- text's length in `JudgedLength`.
 use mathlib.Core.Path.{_≡_, refl, sym, _∙_, ap}
 use mathlib.Core.Bool.{Bool, true, false, not, cond, _&&_}
 use mathlib.Core.List.{List, [], _∷_, _++_, append-nil, append-assoc}
@@ -27,7 +28,18 @@ use Rattle.lines.specs.Reading.{longestText, Reading, read, refused}
 use Rattle.plan.specs.Limits.{longestWindow, mostRounds, mostWindows, mostJobs, longestRunning, latestDeadline, mostBounds, leastC, greatestC}
 use Rattle.plan.specs.PlanLines.{isJob, isWrongPair, noJob, noBound, planAlone}
 use Rattle.plan.specs.PlanWritten.{jobsOf, boundsOf, planText, refusalOf, judgedPlan}
-use Rattle.values.specs.PlanJudged.{judgedAnswer, andThen, numberJudged, jobJudged, jobsJudged, isOneDigit, lineJudged, boundJudged, boundsJudged, judgedByLines}
+use Rattle.values.specs.PlanJudged.{
+  judgedAnswer,
+  andThen,
+  numberJudged,
+  jobJudged,
+  jobsJudged,
+  isOneDigit,
+  lineJudged,
+  boundJudged,
+  boundsJudged,
+  judgedByLines,
+}
 use Rattle.plan.specs.Accepted.{JobAccepted, BoundAccepted, Accepted}
 use Rattle.plan.specs.ListLaws.{All, All-at, All-of, All-map}
 use Rattle.plan.specs.PlanLaws.{isJob-range, AllBounds, AllBounds-at, planAlone-fits}
@@ -60,13 +72,17 @@ jobsJudged-accepted n (j ∷ js) e =
     (jobJudged-accepted n j (q .0), jobsJudged-accepted (n + 4) js (q .1))
 
 module _ (jobs : ℕ) (given : List Bound) (n : ℕ) (d : Bound) where
-  pub boundJudged-accepted : boundJudged jobs (λ a b. isWrongPair a b given) n d ≡ answer.Accepted → BoundAccepted jobs d × (isWrongPair (d .a) (d .b) given ≡ false)
+  pub boundJudged-accepted : boundJudged jobs (λ a b. isWrongPair a b given) n d ≡ answer.Accepted
+      → BoundAccepted jobs d × (isWrongPair (d .a) (d .b) given ≡ false)
   unfolding boundJudged
   boundJudged-accepted e =
-      by-tests (isOneDigit (d .a .job) && isOneDigit (d .b .job)) (isJob jobs (d .a .job)) (isJob jobs (d .b .job)) (leZ leastC (d .c)) (leZ (d .c) greatestC) (isWrongPair (d .a) (d .b) given) refl refl refl refl refl e
+      by-tests (isOneDigit (d .a .job) && isOneDigit (d .b .job)) (isJob jobs (d .a .job)) (isJob jobs (d .b .job)) (leZ leastC (d .c))
+      (leZ (d .c) greatestC) (isWrongPair (d .a) (d .b) given) refl refl refl refl refl e
     where
-      by-tests : (x p q l m w : Bool) → isJob jobs (d .a .job) ≡ p → isJob jobs (d .b .job) ≡ q → leZ leastC (d .c) ≡ l → leZ (d .c) greatestC ≡ m → isWrongPair (d .a) (d .b) given ≡ w
-          → cond x (lineJudged n (cond (not (p && q && (l && m))) (boundLine.Bad fault.Range) (cond w (boundLine.Bad fault.Pair) (boundLine.Value d)))) (answer.Refused (Form n)) ≡ answer.Accepted
+      by-tests : (x p q l m w : Bool) → isJob jobs (d .a .job) ≡ p → isJob jobs (d .b .job) ≡ q → leZ leastC (d .c) ≡ l → leZ (d .c) greatestC ≡ m
+          → isWrongPair (d .a) (d .b) given ≡ w
+          → cond x (lineJudged n (cond (not (p && q && (l && m))) (boundLine.Bad fault.Range) (cond w (boundLine.Bad fault.Pair) (boundLine.Value d))))
+          (answer.Refused (Form n)) ≡ answer.Accepted
           → BoundAccepted jobs d × (isWrongPair (d .a) (d .b) given ≡ false)
       by-tests true true true true true false hp hq hl hm hw e =
           let ra = isJob-range jobs (d .a .job) hp in
@@ -117,8 +133,10 @@ judgedByLines-accepted p l e =
       bounds-most = few-bounds;
       job-places = l .job-places;
       bound-places = l .bound-places;
-      job-at = λ i h. rw (getD-take (p .jobs) (p .job) i noJob h) at (All-at JobAccepted (jobsOf p) noJob i js (omega (arith, length-take (p .jobs) (p .job), l .job-places)));
-      bound-at = λ i h. rw (getD-take (p .bounds) (p .bound) i noBound h) at (AllBounds-at (p .jobs) [] (boundsOf p) i ds (omega (arith, length-take (p .bounds) (p .bound), l .bound-places)) .0);
+      job-at = λ i h. rw (getD-take (p .jobs) (p .job) i noJob h) at
+          (All-at JobAccepted (jobsOf p) noJob i js (omega (arith, length-take (p .jobs) (p .job), l .job-places)));
+      bound-at = λ i h. rw (getD-take (p .bounds) (p .bound) i noBound h) at
+          (AllBounds-at (p .jobs) [] (boundsOf p) i ds (omega (arith, length-take (p .bounds) (p .bound), l .bound-places)) .0);
       pair-at = λ i h.
           rw (getD-take (p .bounds) (p .bound) i noBound h, take-take i (p .bounds) (p .bound) (omega arith))
           at (AllBounds-at (p .jobs) [] (boundsOf p) i ds (omega (arith, length-take (p .bounds) (p .bound), l .bound-places)) .1);
@@ -164,7 +182,8 @@ accepted-jobsJudged n [] a = refl
 accepted-jobsJudged n (j ∷ js) a = rw (accepted-jobJudged n j (a .0)) (accepted-jobsJudged (n + 4) js (a .1))
 
 module _ (jobs : ℕ) (few : jobs ≤ mostJobs) where
-  accepted-boundJudged : (given : List Bound) (n : ℕ) (d : Bound) → BoundAccepted jobs d → isWrongPair (d .a) (d .b) given ≡ false → boundJudged jobs (λ a b. isWrongPair a b given) n d ≡ answer.Accepted
+  accepted-boundJudged : (given : List Bound) (n : ℕ) (d : Bound) → BoundAccepted jobs d → isWrongPair (d .a) (d .b) given ≡ false
+      → boundJudged jobs (λ a b. isWrongPair a b given) n d ≡ answer.Accepted
   unfolding boundJudged
   accepted-boundJudged given n d a w =
       let cl : leZ leastC (d .c) ≡ true = omega (whole, a .c-least) in
@@ -187,7 +206,9 @@ module _ (jobs : ℕ) (few : jobs ≤ mostJobs) where
   accepted-boundsJudged given n (d ∷ ds) a = rw (accepted-boundJudged given n d (a .0) (a .1)) (accepted-boundsJudged (given ++ (d ∷ [])) (n + 1) ds (a .2))
 
 -- what is told at each place is told of all
-AllBounds-of : (jobs : ℕ) (given ds : List Bound) → ((i : ℕ) → i < length ds → BoundAccepted jobs (getD ds i noBound) × (isWrongPair (getD ds i noBound .a) (getD ds i noBound .b) (given ++ take i ds) ≡ false)) → AllBounds jobs given ds
+AllBounds-of : (jobs : ℕ) (given ds : List Bound) →
+    ((i : ℕ) → i < length ds → BoundAccepted jobs (getD ds i noBound) ×
+    (isWrongPair (getD ds i noBound .a) (getD ds i noBound .b) (given ++ take i ds) ≡ false)) → AllBounds jobs given ds
 AllBounds-of jobs given [] f = tt
 AllBounds-of jobs given (d ∷ ds) f =
     let q = f 0 (omega arith) in
@@ -201,8 +222,11 @@ module _ (p : Plan) (a : Accepted p) where
   bounds-accepted =
       AllBounds-of (p .jobs) [] (boundsOf p)
       (λ i h.
-      let l : i < p .bounds = omega (arith, length-take (p .bounds) (p .bound)) in
-      (rw (getD-take (p .bounds) (p .bound) i noBound l) (a .bound-at i l), rw (getD-take (p .bounds) (p .bound) i noBound l, take-take i (p .bounds) (p .bound) (omega arith)) (a .pair-at i l)))
+      let l : i < p .bounds = omega (arith, length-take (p .bounds) (p .bound)) in (
+        rw (getD-take (p .bounds) (p .bound) i noBound l) (a .bound-at i l),
+        rw
+            (getD-take (p .bounds) (p .bound) i noBound l, take-take i (p .bounds) (p .bound) (omega arith)) (a .pair-at i l),
+      ))
 
   pub accepted-byLines : judgedByLines p ≡ answer.Accepted
   unfolding judgedByLines
@@ -227,7 +251,8 @@ module _ (p : Plan) (a : Accepted p) where
         jobs = omega (arith, a .jobs-most);
         bounds = omega (arith, a .bounds-most);
         job-fits = All-map job-fits (jobsOf p) jobs-accepted;
-        bound-fits = All-map bound-fits (boundsOf p) (All-of (BoundAccepted (p .jobs)) (p .bound) noBound (p .bounds) (omega (arith, a .bounds-most, a .bound-places)) (a .bound-at));
+        bound-fits = All-map bound-fits (boundsOf p) (All-of (BoundAccepted (p .jobs)) (p .bound) noBound (p .bounds)
+            (omega (arith, a .bounds-most, a .bound-places)) (a .bound-at));
       }
     where
       fits : (z : ℤ) → leastC ≤ℤ z → z ≤ℤ greatestC → SFits w64 z

@@ -54,9 +54,12 @@ jobsText-length (j ∷ js) s h =
     let f = h .0 in
     omega (
       arith,
-      keyed-length (bytes "min=") (keys .min) (j .min) (decimal-short (j .min) (f .min)) (keyed (bytes "max=") (j .max) (keyed (bytes "release=") (j .release) (keyed (bytes "deadline=") (j .deadline) (jobsText js s)))),
-      keyed-length (bytes "max=") (keys .max) (j .max) (decimal-short (j .max) (f .max)) (keyed (bytes "release=") (j .release) (keyed (bytes "deadline=") (j .deadline) (jobsText js s))),
-      keyed-length (bytes "release=") (keys .release) (j .release) (decimal-short (j .release) (f .release)) (keyed (bytes "deadline=") (j .deadline) (jobsText js s)),
+      keyed-length (bytes "min=") (keys .min) (j .min) (decimal-short (j .min) (f .min))
+          (keyed (bytes "max=") (j .max) (keyed (bytes "release=") (j .release) (keyed (bytes "deadline=") (j .deadline) (jobsText js s)))),
+      keyed-length (bytes "max=") (keys .max) (j .max) (decimal-short (j .max) (f .max))
+          (keyed (bytes "release=") (j .release) (keyed (bytes "deadline=") (j .deadline) (jobsText js s))),
+      keyed-length (bytes "release=") (keys .release) (j .release) (decimal-short (j .release) (f .release))
+          (keyed (bytes "deadline=") (j .deadline) (jobsText js s)),
       keyed-length (bytes "deadline=") (keys .deadline) (j .deadline) (decimal-short (j .deadline) (f .deadline)) (jobsText js s),
       jobsText-length js s (h .1),
     )

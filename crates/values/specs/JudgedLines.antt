@@ -1,6 +1,7 @@
--- A plan judged as a value is judged as its text would be (`judgedPlan-is`). One line: `numberLine-judged`, `countLine-judged`, `boundLine-judged`; the groups: `jobLines-judged`, `jobsAfter-judged`, `boundsAfter-judged`.
--- A law is stated of what is made of a reading that ends with its refusal (`Ending`), so that it serves at any place of the plan. What is made of it may be the answer (`judgedPlan-is`) or the plan that was
--- read (`accepted-again` in `AgainLaws`): `planLines-judged` tells both.
+-- A plan judged as a value is judged as its text would be (`judgedPlan-is`). One line: `numberLine-judged`, `countLine-judged`, `boundLine-judged`; the
+-- groups: `jobLines-judged`, `jobsAfter-judged`, `boundsAfter-judged`. A law is stated of what is made of a reading that ends with its refusal (`Ending`), so
+-- that it serves at any place of the plan. What is made of it may be the answer (`judgedPlan-is`) or the plan that was read (`accepted-again` in
+-- `AgainLaws`): `planLines-judged` tells both.
 use mathlib.Core.Path.{_≡_, refl, sym, _∙_, ap}
 use mathlib.Core.Bool.{Bool, true, false, not, cond, _&&_}
 use mathlib.Core.List.{List, [], _∷_, _++_, append-assoc, append-nil}
@@ -39,12 +40,39 @@ use Rattle.lines.specs.Reading.{longestText, Lined, Reading, read, refused, Rea
 use Rattle.plan.specs.Limits.{longestWindow, mostRounds, mostWindows, mostJobs, longestRunning, latestDeadline, mostBounds, leastC, greatestC}
 use Rattle.plan.specs.EventNames.{letterByte, kindByte, nameBytes, eventName}
 use Rattle.plan.specs.EventNameLaws.{eventName-back, eventName-long}
-use Rattle.plan.specs.PlanLines.{jobLines, jobsAfter, partsOf, boundParts, isJob, isWrongPair, judgedBound, boundOf, linedBound, boundOfLine, boundsAfter, planOf, planRest, planLines, nothingAfter}
+use Rattle.plan.specs.PlanLines.{
+  jobLines,
+  jobsAfter,
+  partsOf,
+  boundParts,
+  isJob,
+  isWrongPair,
+  judgedBound,
+  boundOf,
+  linedBound,
+  boundOfLine,
+  boundsAfter,
+  planOf,
+  planRest,
+  planLines,
+  nothingAfter,
+}
 use Rattle.lines.specs.Keyed.{longestKey, keyed}
 use Rattle.plan.specs.PlanWritten.{jobsText, boundBytes, boundsText, jobsOf, boundsOf, trimmed, planText, refusalOf, judgedPlan}
 use Rattle.plan.specs.HeadLaws.{planHead-short}
 use Rattle.plan.specs.PlanLaws.{boundBytes-append}
-use Rattle.values.specs.PlanJudged.{judgedAnswer, andThen, numberJudged, jobJudged, jobsJudged, isOneDigit, lineJudged, boundJudged, boundsJudged, judgedByLines}
+use Rattle.values.specs.PlanJudged.{
+  judgedAnswer,
+  andThen,
+  numberJudged,
+  jobJudged,
+  jobsJudged,
+  isOneDigit,
+  lineJudged,
+  boundJudged,
+  boundsJudged,
+  judgedByLines,
+}
 
 -- ---- one answer after another
 
@@ -54,7 +82,8 @@ onward stop Accepted c = c
 onward stop (Refused r) c = stop r
 
 -- an answer x and then an answer v: what follows x matters only where x accepts
-onward-more : {C : Type 0} (stop : Refusal → C) (x v : TextAnswer) (c : C) {w : C} → (x ≡ Accepted → w ≡ onward stop v c) → onward stop x w ≡ onward stop (andThen x v) c
+onward-more : {C : Type 0} (stop : Refusal → C) (x v : TextAnswer) (c : C) {w : C} → (x ≡ Accepted → w ≡ onward stop v c)
+    → onward stop x w ≡ onward stop (andThen x v) c
 onward-more stop Accepted v c f = f refl
 onward-more stop (Refused r) v c f = refl
 
@@ -162,12 +191,14 @@ module _ (key : List ℕ) (bare : lenTo LF key ≡ length key) (lo hi z : ℤ) (
   unfolding next
   numberLine-judged {B} {C} stop k ends f = ap (λ m. k (next m f)) numberLine-back ∙ by-range (within lo hi z)
     where
-      by-range : (b : Bool) → k (next (cond b (read z s (suc n)) (refused (Range n) (keyed key z s))) f) ≡ onward stop (cond b Accepted (Refused (Range n))) (k (f z s (suc n)))
+      by-range : (b : Bool)
+          → k (next (cond b (read z s (suc n)) (refused (Range n) (keyed key z s))) f) ≡ onward stop (cond b Accepted (Refused (Range n))) (k (f z s (suc n)))
       by-range true = refl
       by-range false = ends (Range n) (keyed key z s)
 
 -- a line that is a key and a count
-countLine-judged : (key : List ℕ) → lenTo LF key ≡ length key → (lo hi z : ℕ) (s : List ℕ) (n : ℕ) {B C : Type 0} (stop : Refusal → C) (k : Reading B → C) → Ending stop k → (f : ℕ → Reader B)
+countLine-judged : (key : List ℕ) → lenTo LF key ≡ length key → (lo hi z : ℕ) (s : List ℕ) (n : ℕ) {B C : Type 0} (stop : Refusal → C) (k : Reading B → C)
+    → Ending stop k → (f : ℕ → Reader B)
     → k (next (countLine key lo hi (keyed key (pos z) s) n) f) ≡ onward stop (numberJudged (pos lo) (pos hi) (pos z) n) (k (f z s (suc n)))
 unfolding next
 countLine-judged key bare lo hi z s n stop k ends f =
@@ -203,7 +234,8 @@ jobsAfter-judged done (j ∷ js) s n stop k ends =
     rw e
     (jobLines-judged j (jobsText js s) n stop (λ m. k (next m (λ job. jobsAfter (done ++ (job ∷ [])) (length js)))) ends
     ∙ onward-more stop (jobJudged n j) _ _
-    (λ h. jobsAfter-judged (done ++ (j ∷ [])) js s (n + 4) stop k ends ∙ ap (λ (l : List Job). onward stop (jobsJudged (n + 4) js) (k (read l s (n + 4 + 4 * length js)))) (append-assoc done (j ∷ []) js)))
+    (λ h. jobsAfter-judged (done ++ (j ∷ [])) js s (n + 4) stop k ends ∙ ap
+    (λ (l : List Job). onward stop (jobsJudged (n + 4) js) (k (read l s (n + 4 + 4 * length js)))) (append-assoc done (j ∷ []) js)))
 
 -- ---- bounds
 
@@ -222,26 +254,43 @@ nameBytes-free b q h e =
     ∙ ap suc (lenTo-other b _ (λ d. omega (arith, kindByte-over (e .kind))) ∙ ap suc (digits-free b (digits (e .job)) q (digits-all (e .job))))
 
 -- two names and a number, with a comma after each name
-boundParts-back : (a b : EventName) (s : List ℕ) → boundParts (some (nameBytes a ++ (comma ∷ (nameBytes b ++ (comma ∷ s))))) ≡ partsOf (eventName (nameBytes a)) (eventName (nameBytes b)) s
+boundParts-back : (a b : EventName) (s : List ℕ)
+    → boundParts (some (nameBytes a ++ (comma ∷ (nameBytes b ++ (comma ∷ s))))) ≡ partsOf (eventName (nameBytes a)) (eventName (nameBytes b)) s
 unfolding boundParts
 boundParts-back a b s =
     let fa = nameBytes-free comma refl (omega arith) a in
     let fb = nameBytes-free comma refl (omega arith) b in
-    rw (has-back comma (nameBytes a) (nameBytes b ++ (comma ∷ s)) fa, before-back comma (nameBytes a) (nameBytes b ++ (comma ∷ s)) fa, after-back comma (nameBytes a) (nameBytes b ++ (comma ∷ s)) fa)
+    rw (
+      has-back comma (nameBytes a) (nameBytes b ++ (comma ∷ s)) fa,
+      before-back comma (nameBytes a) (nameBytes b ++ (comma ∷ s)) fa,
+      after-back comma
+          (nameBytes a) (nameBytes b ++ (comma ∷ s)) fa,
+    )
     (rw (has-back comma (nameBytes b) s fb, before-back comma (nameBytes b) s fb, after-back comma (nameBytes b) s fb))
 
 module _ (jobs : ℕ) (given : List Bound) (d : Bound) where
   -- a bound's line has its form where both names have one job digit
-  boundOfLine-back : boundOfLine jobs given (boundBytes d []) ≡ cond (isOneDigit (d .a .job) && isOneDigit (d .b .job)) (judgedBound jobs (λ a b. isWrongPair a b given) d) (boundLine.Bad fault.Form)
+  boundOfLine-back : boundOfLine jobs given (boundBytes d []) ≡ cond (isOneDigit (d .a .job) && isOneDigit (d .b .job))
+      (judgedBound jobs (λ a b. isWrongPair a b given) d) (boundLine.Bad fault.Form)
   unfolding boundOf
   boundOfLine-back =
-      rw (append-nil (decimal (d .c)), afterKey-back (bytes "bound=") (nameBytes (d .a) ++ (comma ∷ (nameBytes (d .b) ++ (comma ∷ decimal (d .c))))), boundParts-back (d .a) (d .b) (decimal (d .c)))
+      rw (
+        append-nil (decimal (d .c)),
+        afterKey-back (bytes "bound=")
+            (nameBytes (d .a) ++ (comma ∷ (nameBytes (d .b) ++ (comma ∷ decimal (d .c))))),
+        boundParts-back (d .a) (d .b) (decimal (d .c)),
+      )
       (by-digits (ltb (d .a .job) 10) (ltb (d .b .job) 10) refl refl)
     where
       by-digits : (x y : Bool) → ltb (d .a .job) 10 ≡ x → ltb (d .b .job) 10 ≡ y
           → boundOf jobs (λ a b. isWrongPair a b given) (partsOf (eventName (nameBytes (d .a))) (eventName (nameBytes (d .b))) (decimal (d .c)))
           ≡ cond (x && y) (judgedBound jobs (λ a b. isWrongPair a b given) d) (boundLine.Bad fault.Form)
-      by-digits true true p q = rw (eventName-back (d .a) (ltb-true (d .a .job) 10 p), eventName-back (d .b) (ltb-true (d .b .job) 10 q), decimal-form (d .c)) (rw (decimal-back (d .c)))
+      by-digits true true p q = rw (
+        eventName-back (d .a) (ltb-true (d .a .job) 10 p),
+        eventName-back (d .b) (ltb-true (d .b .job) 10 q),
+        decimal-form
+            (d .c),
+      ) (rw (decimal-back (d .c)))
       by-digits true false p q = rw (eventName-back (d .a) (ltb-true (d .a .job) 10 p), eventName-long (d .b) (ltb-false (d .b .job) 10 q))
       by-digits false y p q = rw (eventName-long (d .a) (ltb-false (d .a .job) 10 p))
 
@@ -255,19 +304,23 @@ module _ (jobs : ℕ) (given : List Bound) (d : Bound) where
       (ap suc (free-append LF (decimal (d .c)) [] (decimal-free LF refl (omega arith) (d .c)) refl)))))
 
   boundLine-judged : (s : List ℕ) (n : ℕ) {B C : Type 0} (stop : Refusal → C) (k : Reading B → C) → Ending stop k → (f : Bound → Reader B)
-      → k (next (line (λ l. linedBound (boundOfLine jobs given l)) (boundBytes d (LF ∷ s)) n) f) ≡ onward stop (boundJudged jobs (λ a b. isWrongPair a b given) n d) (k (f d s (suc n)))
+      → k (next (line (λ l. linedBound (boundOfLine jobs given l)) (boundBytes d (LF ∷ s)) n) f) ≡ onward stop
+      (boundJudged jobs (λ a b. isWrongPair a b given) n d) (k (f d s (suc n)))
   unfolding next lined linedBound boundJudged
   boundLine-judged s n {B} {C} stop k ends f =
       ap (λ t. k (next (line (λ l. linedBound (boundOfLine jobs given l)) t n) f)) (sym (boundBytes-append d [] (LF ∷ s)))
       ∙ ap (λ m. k (next m f)) (line-back (λ l. linedBound (boundOfLine jobs given l)) (boundBytes d []) s n boundBytes-free)
       ∙ ap (λ x. k (next (lined (linedBound x) t n) f)) boundOfLine-back
-      ∙ by-tests (isOneDigit (d .a .job) && isOneDigit (d .b .job)) (not (isJob jobs (d .a .job) && isJob jobs (d .b .job) && within leastC greatestC (d .c))) (isWrongPair (d .a) (d .b) given)
+      ∙ by-tests (isOneDigit (d .a .job) && isOneDigit (d .b .job))
+      (not (isJob jobs (d .a .job) && isJob jobs (d .b .job) && within leastC greatestC (d .c))) (isWrongPair (d .a) (d .b) given)
     where
       t : List ℕ
       t = boundBytes d [] ++ (LF ∷ s)
 
-      by-tests : (x y z : Bool) → k (next (lined (linedBound (cond x (cond y (boundLine.Bad fault.Range) (cond z (boundLine.Bad fault.Pair) (boundLine.Value d))) (boundLine.Bad fault.Form))) t n) f)
-          ≡ onward stop (cond x (lineJudged n (cond y (boundLine.Bad fault.Range) (cond z (boundLine.Bad fault.Pair) (boundLine.Value d)))) (Refused (Form n))) (k (f d s (suc n)))
+      by-tests : (x y z : Bool) → k (next (lined (linedBound
+          (cond x (cond y (boundLine.Bad fault.Range) (cond z (boundLine.Bad fault.Pair) (boundLine.Value d))) (boundLine.Bad fault.Form))) t n) f)
+          ≡ onward stop (cond x (lineJudged n (cond y (boundLine.Bad fault.Range) (cond z (boundLine.Bad fault.Pair) (boundLine.Value d))))
+          (Refused (Form n))) (k (f d s (suc n)))
       by-tests false y z = ends (Form n) t
       by-tests true true z = ends (Range n) t
       by-tests true false true = ends (Pair n) t
@@ -286,12 +339,14 @@ boundsAfter-judged jobs given (d ∷ ds) n stop k ends =
     (λ h.
     ap (λ (m : ℕ). k (boundsAfter jobs (given ++ (d ∷ [])) (length ds) (boundsText ds) m)) e1
     ∙ boundsAfter-judged jobs (given ++ (d ∷ [])) ds (n + 1) stop k ends
-    ∙ ap (λ (l : List Bound). onward stop (boundsJudged jobs (given ++ (d ∷ [])) (n + 1) ds) (k (read l [] (n + 1 + length ds)))) (append-assoc given (d ∷ []) ds)))
+    ∙ ap (λ (l : List Bound). onward stop (boundsJudged jobs (given ++ (d ∷ [])) (n + 1) ds) (k (read l [] (n + 1 + length ds))))
+    (append-assoc given (d ∷ []) ds)))
 
 -- ---- the plan
 
 -- the lines after the first four
-planRest-judged : {C : Type 0} (window : ℤ) (rounds last : ℕ) (js : List Job) (bounds : ℕ) (ds : List Bound) → (bounds ≤ mostBounds → bounds ≡ length ds) → (stop : Refusal → C) (k : Reading Plan → C) → Ending stop k
+planRest-judged : {C : Type 0} (window : ℤ) (rounds last : ℕ) (js : List Job) (bounds : ℕ) (ds : List Bound) → (bounds ≤ mostBounds → bounds ≡ length ds)
+    → (stop : Refusal → C) (k : Reading Plan → C) → Ending stop k
     → k (planRest window rounds last (length js) (jobsText js (keyed (bytes "bounds=") (pos bounds) (boundsText ds))) 5)
     ≡ onward stop
     (andThen (jobsJudged 5 js)
@@ -311,7 +366,8 @@ planRest-judged {C} window rounds last js bounds ds all stop k ends =
     ap (λ (b : ℕ). k (next (boundsAfter (length js) [] b (boundsText ds) (suc n)) (last-of js bounds))) count
     ∙ ap (λ (i : ℕ). k (next (boundsAfter (length js) [] (length ds) (boundsText ds) i) (last-of js bounds))) e
     ∙ boundsAfter-judged (length js) [] ds (6 + 4 * length js) stop (λ m. k (next m (last-of js bounds))) ends
-    ∙ ap (λ (b : ℕ). onward stop (boundsJudged (length js) [] (6 + 4 * length js) ds) (k (read (planOf window rounds last (length js) js bounds ds) [] (6 + 4 * length js + b)))) (sym count)))
+    ∙ ap (λ (b : ℕ). onward stop (boundsJudged (length js) [] (6 + 4 * length js) ds)
+    (k (read (planOf window rounds last (length js) js bounds ds) [] (6 + 4 * length js + b)))) (sym count)))
   where
     n : ℕ
     n = 5 + 4 * length js
@@ -358,12 +414,15 @@ planLines-judged {C} p q stop k ends =
     ∙ onward-more stop (numberJudged (pos 1) (pos mostJobs) (pos (p .jobs)) 4) _ _
     (λ ok.
     let count : p .jobs ≡ length (jobsOf p) = jobsOf-count p q (omega (whole, numberJudged-range (pos 1) (pos mostJobs) (pos (p .jobs)) 4 ok .1)) in
-    ap (λ (jobs : ℕ). k (planRest (p .window) (p .rounds) (p .last) jobs (jobsText (jobsOf p) (keyed (bytes "bounds=") (pos (p .bounds)) (boundsText (boundsOf p)))) 5)) count
+    ap (λ (jobs : ℕ). k (planRest (p .window) (p .rounds) (p .last) jobs
+    (jobsText (jobsOf p) (keyed (bytes "bounds=") (pos (p .bounds)) (boundsText (boundsOf p)))) 5)) count
     ∙ planRest-judged (p .window) (p .rounds) (p .last) (jobsOf p) (p .bounds) (boundsOf p) (boundsOf-count p q) stop k ends
-    ∙ ap (λ (jobs : ℕ). onward stop (lines jobs) (k (read (planOf (p .window) (p .rounds) (p .last) jobs (jobsOf p) (p .bounds) (boundsOf p)) [] (6 + 4 * jobs + p .bounds)))) (sym count)))))
+    ∙ ap (λ (jobs : ℕ). onward stop (lines jobs) (k (read (planOf (p .window) (p .rounds) (p .last) jobs (jobsOf p) (p .bounds) (boundsOf p)) []
+    (6 + 4 * jobs + p .bounds)))) (sym count)))))
   where
     lines : ℕ → TextAnswer
-    lines jobs = andThen (jobsJudged 5 (jobsOf p)) (andThen (numberJudged (pos 0) (pos mostBounds) (pos (p .bounds)) (5 + 4 * jobs)) (boundsJudged jobs [] (6 + 4 * jobs) (boundsOf p)))
+    lines jobs = andThen (jobsJudged 5 (jobsOf p)) (andThen (numberJudged (pos 0) (pos mostBounds) (pos (p .bounds)) (5 + 4 * jobs))
+        (boundsJudged jobs [] (6 + 4 * jobs) (boundsOf p)))
 
 -- what is made of a plan that is read alone
 abbrev alone : Reading Plan → TextAnswer

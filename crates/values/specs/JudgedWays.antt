@@ -1,5 +1,6 @@
--- The laws by which the judging of a value is right, way by way: of a job (`jobJudged-min`, `-max`, `-release`, `-deadline`), of the loop over the jobs (`JobsHeld`), of a bound (`boundJudged-bare`, `-formed`), of the loop over the bounds
--- (`BoundsHeld`), and of the plan's lines (`planJudged-lines`, `lines-stop`, `lines-pass`). An answer a to a line is what that line was judged, and it refuses or accepts.
+-- The laws by which the judging of a value is right, way by way: of a job (`jobJudged-min`, `-max`, `-release`, `-deadline`), of the loop over the jobs
+-- (`JobsHeld`), of a bound (`boundJudged-bare`, `-formed`), of the loop over the bounds (`BoundsHeld`), and of the plan's lines (`planJudged-lines`,
+-- `lines-stop`, `lines-pass`). An answer a to a line is what that line was judged, and it refuses or accepts.
 use mathlib.Core.Path.{_≡_, refl, sym, _∙_, ap}
 use mathlib.Core.Bool.{Bool, true, false, _&&_}
 use mathlib.Core.List.{List, [], _∷_, _++_, map}
@@ -61,7 +62,8 @@ module _ (n : ℕ) (j : Job) where
 
         pub jobJudged-deadline : c ≡ Accepted → (x : TextAnswer) → x ≡ numberJudged (pos 0) latestDeadline (j .deadline) (n + 3) → x ≡ jobJudged n j
         unfolding jobJudged
-        jobJudged-deadline d₃ x e₄ = e₄ ∙ andThen-pass release-judged deadline-judged c e₃ d₃ ∙ andThen-pass max-judged _ b e₂ d₂ ∙ andThen-pass min-judged _ a e d
+        jobJudged-deadline d₃ x e₄ = e₄ ∙ andThen-pass release-judged deadline-judged c e₃ d₃ ∙ andThen-pass max-judged _ b e₂ d₂
+            ∙ andThen-pass min-judged _ a e d
 
 -- ---- the loop over the jobs: what is left is judged as the whole
 
@@ -111,7 +113,8 @@ module _ (jobs : ℕ) (isWrong : EventName → EventName → Bool) (n : ℕ) (d 
   boundJudged-formed h = rw h
 
 -- the pairs given, by their numbers
-boundJudged-numbered : (jobs : ℕ) → jobs ≤ mostJobs → (given : List Bound) → All (λ d. Small (d .a) (d .b)) given → (codes : List ℕ) → codes ≡ map pairOf given → (n : ℕ) (d : Bound)
+boundJudged-numbered : (jobs : ℕ) → jobs ≤ mostJobs → (given : List Bound) → All (λ d. Small (d .a) (d .b)) given → (codes : List ℕ)
+    → codes ≡ map pairOf given → (n : ℕ) (d : Bound)
     → boundJudged jobs (isWrongNumbered codes) n d ≡ boundJudged jobs (λ a b. isWrongPair a b given) n d
 unfolding boundJudged
 boundJudged-numbered jobs few given small codes e n d = rw (e, judgedBound-numbered jobs few given small d)
@@ -129,7 +132,8 @@ pub record BoundsHeld (p : Plan) (given : List ℕ) (n i : ℕ) : Type 0 where
 pub BoundsHeld-start : (p : Plan) → BoundsHeld p (replicate mostBounds 0) (6 + 4 * p .jobs) 0
 BoundsHeld-start p = record { count = omega arith; number = omega arith; codes = refl; coded = refl; small = tt; left = refl }
 
-module _ (p : Plan) (q : HasPlaces p) (few : p .jobs ≤ mostJobs) (few-bounds : p .bounds ≤ mostBounds) (given : List ℕ) (n i : ℕ) (h : BoundsHeld p given n i) where
+module _ (p : Plan) (q : HasPlaces p) (few : p .jobs ≤ mostJobs) (few-bounds : p .bounds ≤ mostBounds) (given : List ℕ) (n i : ℕ)
+    (h : BoundsHeld p given n i) where
   next-bound : i < p .bounds → drop i (boundsOf p) ≡ getD (p .bound) i noBound ∷ drop (i + 1) (boundsOf p)
   next-bound l =
       drop-cons (boundsOf p) i noBound (omega (arith, length-take (p .bounds) (p .bound), q .bound-places))
@@ -149,7 +153,8 @@ module _ (p : Plan) (q : HasPlaces p) (few : p .jobs ≤ mostJobs) (few-bounds :
     is-judged = e ∙ same-bound (getD (p .bound) i noBound)
 
     pub BoundsHeld-stop : {r : Refusal} → a ≡ Refused r → a ≡ boundsJudged (p .jobs) [] (6 + 4 * p .jobs) (boundsOf p)
-    BoundsHeld-stop d = andThen-stop (boundJudged (p .jobs) (λ a b. isWrongPair a b (take i (p .bound))) n (getD (p .bound) i noBound)) _ a is-judged d ∙ sym (one-bound l)
+    BoundsHeld-stop d = andThen-stop (boundJudged (p .jobs) (λ a b. isWrongPair a b (take i (p .bound))) n (getD (p .bound) i noBound)) _ a is-judged d
+        ∙ sym (one-bound l)
 
     pub BoundsHeld-past : a ≡ Accepted → (code : ℕ) → code ≡ pairOf (getD (p .bound) i noBound) → BoundsHeld p (set given i code) (n + 1) (i + 1)
     BoundsHeld-past d code k =
@@ -162,7 +167,8 @@ module _ (p : Plan) (q : HasPlaces p) (few : p .jobs ≤ mostJobs) (few-bounds :
               ∙ ap (λ (x : List ℕ). x ++ (code ∷ [])) (h .coded)
               ∙ ap (λ (c : ℕ). map pairOf (take i (p .bound)) ++ (c ∷ [])) k
               ∙ sym (ap (map pairOf) taken ∙ map-last (take i (p .bound)) (getD (p .bound) i noBound));
-          small = rw taken (All-more (λ d. Small (d .a) (d .b)) (take i (p .bound)) (getD (p .bound) i noBound) (h .small) (record { a-small = omega (arith, accepted .a-most); b-small = omega (arith, accepted .b-most) }));
+          small = rw taken (All-more (λ d. Small (d .a) (d .b)) (take i (p .bound)) (getD (p .bound) i noBound) (h .small)
+              (record { a-small = omega (arith, accepted .a-most); b-small = omega (arith, accepted .b-most) }));
           left =
               one-bound l
               ∙ sym (andThen-pass (boundJudged (p .jobs) (λ a b. isWrongPair a b (take i (p .bound))) n (getD (p .bound) i noBound)) _ a is-judged d)
@@ -180,7 +186,8 @@ module _ (p : Plan) (q : HasPlaces p) (few : p .jobs ≤ mostJobs) (few-bounds :
 
   pub BoundsHeld-end : p .bounds ≤ i → Accepted ≡ boundsJudged (p .jobs) [] (6 + 4 * p .jobs) (boundsOf p)
   unfolding boundsJudged
-  BoundsHeld-end l = sym (h .left ∙ ap (boundsJudged (p .jobs) (take i (p .bound)) n) (drop-of-length-le (boundsOf p) {i = i} (omega (arith, length-take (p .bounds) (p .bound)))))
+  BoundsHeld-end l = sym (h .left ∙ ap (boundsJudged (p .jobs) (take i (p .bound)) n)
+      (drop-of-length-le (boundsOf p) {i = i} (omega (arith, length-take (p .bounds) (p .bound)))))
 
 -- ---- the plan: the lines that are left are judged as the whole
 

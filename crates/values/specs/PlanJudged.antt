@@ -1,5 +1,5 @@
--- A plan handed over as a value, judged line by line without its text (document 01, 'Plan text': 'A plan handed over as a value is judged as its text would be').
--- That it is judged as its text would be is `judgedPlan-is` in `JudgedLines`.
+-- A plan handed over as a value, judged line by line without its text (document 01, 'Plan text': 'A plan handed over as a value is judged as its text would
+-- be'). That it is judged as its text would be is `judgedPlan-is` in `JudgedLines`.
 use Prim.Native.Nat.{ℕ, _+_, _*_}
 use mathlib.Core.Bool.{Bool, cond, _&&_}
 use mathlib.Core.List.{List, [], _∷_, _++_}
@@ -36,7 +36,8 @@ andThen (Refused r) rest = Refused r
 abbrev pub numberJudged : ℤ → ℤ → ℤ → ℕ → TextAnswer
 numberJudged lo hi z n = cond (within lo hi z) Accepted (Refused (Range n))
 
--- a job whose first line has the number n: 'A fault in min <= max is a number out of range on the `max` line.' 'A release above its deadline is no fault of form'
+-- a job whose first line has the number n: 'A fault in min <= max is a number out of range on the `max` line.' 'A release above its deadline is no fault of
+-- form'
 unfoldable pub jobJudged : ℕ → Job → TextAnswer
 jobJudged n j =
     andThen (numberJudged (pos 0) longestRunning (j .min) n)

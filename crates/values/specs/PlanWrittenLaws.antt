@@ -1,6 +1,6 @@
 -- The laws by which the writer of a plan is right.
--- The lines of jobs (`jobsText-more`) and of bounds (`boundsText-more`) stand before what follows them. What writers did: a name, a bound's line (`stored-name`,
--- `stored-bound`), the jobs, and the lines behind them (`stored-jobs`).
+-- The lines of jobs (`jobsText-more`) and of bounds (`boundsText-more`) stand before what follows them. What writers did: a name, a bound's line
+-- (`stored-name`, `stored-bound`), the jobs, and the lines behind them (`stored-jobs`).
 use Prim.Native.Nat.{ℕ, _+_, _-_}
 use mathlib.Core.Path.{_≡_, refl}
 use mathlib.Core.List.{List, [], _∷_, _++_, append-assoc}
@@ -47,7 +47,8 @@ boundsText-more d ds = simp append-assoc
 
 -- a name by its parts, and the byte behind it
 pub stored-name : {out o o′ o″ : List ℕ} {at j j′ j″ letter kind : ℕ} (e : EventName) (b : ℕ) → letter ≡ letterByte (e .letter) → kind ≡ kindByte (e .kind)
-    → Stored out at (letter ∷ []) o j → Stored o j (kind ∷ []) o′ j′ → Stored o′ j′ (digits (e .job) ++ (b ∷ [])) o″ j″ → Stored out at (nameBytes e ++ (b ∷ [])) o″ j″
+    → Stored out at (letter ∷ []) o j → Stored o j (kind ∷ []) o′ j′ → Stored o′ j′ (digits (e .job) ++ (b ∷ [])) o″ j″
+    → Stored out at (nameBytes e ++ (b ∷ [])) o″ j″
 stored-name e b f g p q r = rw (← f, ← g) (stored-append (stored-append p q) r)
 
 -- a bound's line by its parts

@@ -1,5 +1,5 @@
--- The laws by which a plan as a value is written: one that is judged bad is refused by its own refusal and leaves every byte (`writtenPlan-refused`), and one that is judged
--- good is written as its text is (`writtenPlan-accepted`). Here a is the answer to the plan.
+-- The laws by which a plan as a value is written: one that is judged bad is refused by its own refusal and leaves every byte (`writtenPlan-refused`), and one
+-- that is judged good is written as its text is (`writtenPlan-accepted`). Here a is the answer to the plan.
 use mathlib.Core.Path.{_≡_, sym, _∙_, ap}
 use mathlib.Core.List.{List}
 use mathlib.Core.Option.{Option, none, some}
@@ -24,8 +24,12 @@ module _ (p : Plan) (out : List ℕ) (a : TextAnswer) (d : a ≡ judgedAnswer (j
       let bad : judgedPlan p ≡ some x = judgedAnswer-some (judgedPlan p) x (sym d ∙ e) in
       (sym (ap (λ (o : Option Refusal). writtenWhere o (planText p) out) bad), sym (ap (λ (o : Option Refusal). bytesWhere o (planText p) out) bad))
 
-  pub writtenPlan-accepted : a ≡ answer.Accepted → {r : Written} {o : List ℕ} → (r ≡ writtenAs (planText p) out) × (o ≡ written (planText p) out) → (r ≡ writtenPlan p out) × (o ≡ planBytes p out)
+  pub writtenPlan-accepted : a ≡ answer.Accepted → {r : Written} {o : List ℕ} → (r ≡ writtenAs (planText p) out) × (o ≡ written (planText p) out)
+      → (r ≡ writtenPlan p out) × (o ≡ planBytes p out)
   unfolding writtenPlan planBytes writtenWhere bytesWhere
   writtenPlan-accepted e w =
-      let good : judgedPlan p ≡ none = judgedAnswer-none (judgedPlan p) (sym d ∙ e) in
-      (w .0 ∙ sym (ap (λ (o : Option Refusal). writtenWhere o (planText p) out) good), w .1 ∙ sym (ap (λ (o : Option Refusal). bytesWhere o (planText p) out) good))
+      let good : judgedPlan p ≡ none = judgedAnswer-none (judgedPlan p) (sym d ∙ e) in (
+        w .0 ∙ sym (ap (λ (o : Option Refusal). writtenWhere o (planText p) out) good),
+        w .1 ∙ sym
+            (ap (λ (o : Option Refusal). bytesWhere o (planText p) out) good),
+      )

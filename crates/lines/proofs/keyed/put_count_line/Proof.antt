@@ -19,9 +19,11 @@ same-length c = search needs
 
 returns : tie.Need-returns
 returns c =
-    let key = c .before .before .before .before .before .before .put-bytes .ensures in
+    let at-put-bytes = c .before .before .before .before .before .before in
+    let start = at-put-bytes .before .before .before .before in
+    let key = at-put-bytes .put-bytes .ensures in
     let count = c .before .before .put-ended-count .ensures in
-    (stored-append key (stored-count (c .before .before .before .before .before .before .before .before .before .before .args .n) (LF ∷ []) (count .0)), omega arith)
+    (stored-append key (stored-count (start .args .n) (LF ∷ []) (count .0)), omega arith)
 
 pub put-count-line-spec : {M : Type 1} → statement M
 put-count-line-spec = tie.close (tie.spec put-bytes-requires put-ended-count-requires same-length returns)

@@ -17,9 +17,11 @@ same-length c = search needs
 
 returns : tie.Need-returns
 returns c =
-    let key = c .before .before .before .before .before .before .put-bytes .ensures in
+    let at-put-bytes = c .before .before .before .before .before .before in
+    let start = at-put-bytes .before .before .before .before in
+    let key = at-put-bytes .put-bytes .ensures in
     let number = c .before .before .put-ended-number .ensures in
-    (stored-append key (stored-ended _ (c .before .before .before .before .before .before .before .before .before .before .fits .z) (number .0) (omega arith)), omega arith)
+    (stored-append key (stored-ended _ (start .fits .z) (number .0) (omega arith)), omega arith)
 
 pub put-line-spec : {M : Type 1} → statement M
 put-line-spec = tie.close (tie.spec put-bytes-requires put-ended-number-requires same-length returns)

@@ -32,8 +32,10 @@ line-at-requires c κs = search needs
 
 returns-2 : tie.Need-returns-2
 returns-2 c =
-    let a = c .before .before .before .before .before .before .before .args in
-    let e = sym (c .before .before .before .before .answer .given .1) in (
+    let at-answer = c .before .before .before .before in
+    let start = at-answer .before .before .before in
+    let a = start .args in
+    let e = sym (at-answer .answer .given .1) in (
       c .line-at .ensures ∙ ap (partAt (now (a .s)) (a .at)) e,
       (c .before .before .number .ensures ∙ ap answerNumber e, c .before .value .ensures ∙ ap answerValue e),
     )

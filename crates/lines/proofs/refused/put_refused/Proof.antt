@@ -31,11 +31,16 @@ same-length c = search needs
 returns : tie.Need-returns
 unfolding bytes
 returns c =
-    let a = c .before .before .before .before .before .before .before .before .before .before .before .before .before .before .before .before .args in
-    let key = c .before .before .before .before .before .before .before .before .before .before .put-bytes .ensures in
-    let first = c .before .before .before .before .before .before .put-ended-count .ensures in
+    let at-put-ended-count = c .before .before .before .before .before .before in
+    let at-put-bytes = at-put-ended-count .before .before .before .before in
+    let at-value = at-put-bytes .before .before .before in
+    let at-number = at-value .before in
+    let start = at-number .before .before in
+    let a = start .args in
+    let key = at-put-bytes .put-bytes .ensures in
+    let first = at-put-ended-count .put-ended-count .ensures in
     let second = c .before .before .put-ended-count2 .ensures in (
-      refusedLine-stored (a .x) (c .before .before .before .before .before .before .before .before .before .before .before .before .before .before .number .ensures) (c .before .before .before .before .before .before .before .before .before .before .before .before .before .value .ensures) key (first .0) (second .0),
+      refusedLine-stored (a .x) (at-number .number .ensures) (at-value .value .ensures) key (first .0) (second .0),
       omega (arith, key .place, first .1, second .1),
     )
 

@@ -30,9 +30,11 @@ same-length-2 c = search needs
 
 returns-2 : tie.Need-returns-2
 returns-2 c =
+    let at-if1 = c .before .before .before .before in
+    let at-put-refused = at-if1 .before .before .before in
     let line = c .before .before .put-refused2 .ensures in
-    let measured = c .before .before .before .before .before .before .before .put-refused .ensures in
-    wrote-within (line .0) (line .1) (measured-whole (measured .0) refl (c .before .before .before .before .if1 .left) (line .0))
+    let measured = at-put-refused .put-refused .ensures in
+    wrote-within (line .0) (line .1) (measured-whole (measured .0) refl (at-if1 .if1 .left) (line .0))
 
 pub write-refused-spec : {M : Type 1} → statement M
 write-refused-spec =

@@ -20,7 +20,8 @@ returns : tie.Need-returns
 returns c =
     let b = c .before .before .before in
     let a = b .args in (
-      lineTo-bare (boundLined (a .jobs) (isWrongNumbered (take (a .n) (now (a .given))))) (now (a .s)) (a .at) (a .number) (c .before .next-line .result) (b .pre .0) (c .before .next-line .ensures) (omega arith),
+      lineTo-bare (boundLined (a .jobs) (isWrongNumbered (take (a .n) (now (a .given))))) (now (a .s)) (a .at) (a .number) (c .before .next-line .result)
+          (b .pre .0) (c .before .next-line .ensures) (omega arith),
       b .pre .0,
     )
 
@@ -61,7 +62,8 @@ returns-2 c =
     let n = m .before .before .before in
     let b = n .before .before in
     let a = b .args in (
-      lineTo-value (boundLined (a .jobs) (isWrongNumbered (take (a .n) (now (a .given))))) (now (a .s)) (a .at) (a .number) (n .next-line .result) (b .pre .0) (n .next-line .ensures) (omega arith) (ap linedBound (sym (m .read-bound .ensures) ∙ c .before .found .given .1)),
+      lineTo-value (boundLined (a .jobs) (isWrongNumbered (take (a .n) (now (a .given))))) (now (a .s)) (a .at) (a .number) (n .next-line .result)
+          (b .pre .0) (n .next-line .ensures) (omega arith) (ap linedBound (sym (m .read-bound .ensures) ∙ c .before .found .given .1)),
       omega arith,
     )
 
@@ -72,7 +74,8 @@ returns-3 c =
     let n = m .before .before .before in
     let b = n .before .before in
     let a = b .args in (
-      lineTo-fault (boundLined (a .jobs) (isWrongNumbered (take (a .n) (now (a .given))))) (now (a .s)) (a .at) (a .number) (n .next-line .result) (b .pre .0) (n .next-line .ensures) (omega arith) (ap linedBound (sym (m .read-bound .ensures) ∙ c .before .before .found2 .given .1))
+      lineTo-fault (boundLined (a .jobs) (isWrongNumbered (take (a .n) (now (a .given))))) (now (a .s)) (a .at) (a .number) (n .next-line .result)
+          (b .pre .0) (n .next-line .ensures) (omega arith) (ap linedBound (sym (m .read-bound .ensures) ∙ c .before .before .found2 .given .1))
           ∙ ap (λ r. refused r (drop (a .at) (now (a .s)))) (sym (c .fault-at .ensures)),
       b .pre .0,
     )

@@ -25,7 +25,9 @@ returns-2 c =
     )
 
 cast-c : tie.Need-cast-c
-cast-c c = cast-wide tt (told-fits w32 (c .before .before .before .before .before .before .before .before .args .d .c) (c .struct-told .given .1 .1 .0 .1))
+cast-c c =
+    let start = c .before .before .before .before .before .before .before .before in
+    cast-wide tt (told-fits w32 (start .args .d .c) (c .struct-told .given .1 .1 .0 .1))
 
 is-c-requires : tie.Need-is-c-requires
 is-c-requires c κs = tt

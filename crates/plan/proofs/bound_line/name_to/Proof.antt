@@ -24,9 +24,11 @@ len-to-requires c κs = tt
 
 returns : tie.Need-returns
 returns c =
-    let a = c .before .before .before .before .args in
+    let start = c .before .before .before .before in
+    let a = start .args in
     let l = now (a .line) in
-    sym (nameTo-bare l (a .at) (take (length l - a .at) (drop (a .at) l)) (c .before .len-to .result) (drop-rest (a .at) l) (c .before .len-to .ensures) (simp (length-take, length-drop) (omega arith)))
+    sym (nameTo-bare l (a .at) (take (length l - a .at) (drop (a .at) l)) (c .before .len-to .result) (drop-rest (a .at) l) (c .before .len-to .ensures)
+    (simp (length-take, length-drop) (omega arith)))
 
 slice-aggregate-event-name : tie.Need-slice-aggregate-event-name
 slice-aggregate-event-name c = simp (length-take, length-drop) (omega arith)
@@ -53,7 +55,8 @@ returns-2 c =
     let a = n .before .before .before .args in
     let l = now (a .line) in
     sym
-    (nameTo-read l (a .at) (take (length l - a .at) (drop (a .at) l)) (n .len-to .result) (drop-rest (a .at) l) (n .len-to .ensures) (simp (length-take, length-drop) (omega arith)) (e .event-name .result) (e .event-name .ensures)
+    (nameTo-read l (a .at) (take (length l - a .at) (drop (a .at) l)) (n .len-to .result) (drop-rest (a .at) l) (n .len-to .ensures)
+    (simp (length-take, length-drop) (omega arith)) (e .event-name .result) (e .event-name .ensures)
     ∙ ap (readNamed (a .at + n .len-to .result + 1)) (c .before .name .given .1))
 
 returns-3 : tie.Need-returns-3
@@ -63,7 +66,8 @@ returns-3 c =
     let a = n .before .before .before .args in
     let l = now (a .line) in
     sym
-    (nameTo-read l (a .at) (take (length l - a .at) (drop (a .at) l)) (n .len-to .result) (drop-rest (a .at) l) (n .len-to .ensures) (simp (length-take, length-drop) (omega arith)) (e .event-name .result) (e .event-name .ensures)
+    (nameTo-read l (a .at) (take (length l - a .at) (drop (a .at) l)) (n .len-to .result) (drop-rest (a .at) l) (n .len-to .ensures)
+    (simp (length-take, length-drop) (omega arith)) (e .event-name .result) (e .event-name .ensures)
     ∙ ap (readNamed (a .at + n .len-to .result + 1)) (c .enum-told .given .1))
 
 pub name-to-spec : {M : Type 1} → statement M

@@ -33,11 +33,14 @@ enum-told c = search needs
 
 returns : tie.Need-returns
 returns c =
-    let a = c .before .before .before .before .args in
-    sym (boundOf-bare (a .jobs) (isWrongNumbered (take (a .n) (now (a .given)))) (now (a .line)) (sym (c .before .before .bound-names .ensures) ∙ c .enum-told .given .1))
+    let start = c .before .before .before .before in
+    let a = start .args in
+    sym (boundOf-bare (a .jobs) (isWrongNumbered (take (a .n) (now (a .given)))) (now (a .line))
+    (sym (c .before .before .bound-names .ensures) ∙ c .enum-told .given .1))
 
 -- the two names of the line, and where its number begins
-named : (c : tie.After-known-told) → namesIn (now (c .before .before .before .before .before .args .line)) ≡ boundNames.Value (c .before .a .given .0 .0) (c .before .a .given .0 .1 .0) (c .before .a .given .0 .1 .1 .0)
+named : (c : tie.After-known-told) → namesIn (now (c .before .before .before .before .before .args .line)) ≡ boundNames.Value (c .before .a .given .0 .0)
+    (c .before .a .given .0 .1 .0) (c .before .a .given .0 .1 .1 .0)
 named c = sym (c .before .before .before .bound-names .ensures) ∙ c .before .a .given .1
 
 sub-read-number : tie.Need-sub-read-number
@@ -56,10 +59,14 @@ enum-known-number : tie.Need-enum-known-number
 enum-known-number c = search needs
 
 -- the number that was read
-told : (c : tie.After-known-told2) → numberIn leastC greatestC (drop (c .before .before .before .before .before .before .a .given .0 .1 .1 .0) (now (c .before .before .before .before .before .before .before .before .before .before .args .line))) ≡ number.Value (c .before .number .given .0 .0)
+told : (c : tie.After-known-told2) → numberIn leastC greatestC
+    (drop (c .before .before .before .before .before .before .a .given .0 .1 .1 .0)
+    (now (c .before .before .before .before .before .before .before .before .before .before .args .line))) ≡ number.Value (c .before .number .given .0 .0)
 told c =
-    let l = now (c .before .before .before .before .before .before .before .before .before .before .args .line) in
-    let at = c .before .before .before .before .before .before .a .given .0 .1 .1 .0 in
+    let at-a = c .before .before .before .before .before .before in
+    let start = at-a .before .before .before .before in
+    let l = now (start .args .line) in
+    let at = at-a .a .given .0 .1 .1 .0 in
     ap (numberIn leastC greatestC) (sym (drop-rest at l)) ∙ sym (c .before .before .before .read-number .ensures) ∙ c .before .number .given .1
 
 z-back : (c : tie.After-known-told2) → toZ w64 (ofZ w64 (c .before .number .given .0 .0)) ≡ c .before .number .given .0 .0

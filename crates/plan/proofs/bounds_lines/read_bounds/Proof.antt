@@ -37,12 +37,14 @@ bound-fault-requires c κs = tt
 
 returns : tie.Need-returns Inv-loop μ-loop
 returns c =
-    let l = c .before .before .before .before .before .before in
+    let at-loop-test = c .before .before .before .before .before in
+    let l = at-loop-test .before in
     let a = l .before .before .args in
     let v = l .loop in
     let s = now (a .s) in
     let r = c .before .before .before .read-bound-at in (
-      BoundsPassed-stop s (a .from) (a .number) (a .jobs) (a .bounds) (v .bound) (v .given) (v .at) (v .line) (v .i) (l .before .before .pre .1 .1 .0) (v .inv) (c .before .before .before .before .before .loop-test .taken) (c .bound-fault .result)
+      BoundsPassed-stop s (a .from) (a .number) (a .jobs) (a .bounds) (v .bound) (v .given) (v .at) (v .line) (v .i) (l .before .before .pre .1 .1 .0)
+          (v .inv) (at-loop-test .loop-test .taken) (c .bound-fault .result)
           (atTold-stops s (v .line + 1) (boundLineAt (r .result)) (r .ensures .0) (ap boundLineAt (c .before .enum-told .given .1)) (c .bound-fault .ensures)),
       (atPlace-stops (boundLineAt (r .result)) (length s) (r .ensures .1) (ap boundLineAt (c .before .enum-told .given .1)) (c .bound-fault .ensures), tt),
     )
@@ -51,25 +53,51 @@ pair-number-requires : tie.Need-pair-number-requires Inv-loop μ-loop
 pair-number-requires c κs = tt
 
 mul-given : tie.Need-mul-given Inv-loop μ-loop
-mul-given c = omega (arith, c .before .before .before .before .before .before .before .before .loop-test .taken, c .before .before .before .before .before .before .before .before .before .before .before .pre .1 .1 .1, c .before .before .before .before .before .before .before .before .before .before .before .pre .1 .0, c .before .before .before .before .before .before .before .before .before .loop .inv .numbered)
+mul-given c =
+    let at-loop-test = c .before .before .before .before .before .before .before .before in
+    let at-loop = at-loop-test .before in
+    let start = at-loop .before .before in
+    omega (arith, at-loop-test .loop-test .taken, start .pre .1 .1 .1, start .pre .1 .0, at-loop .loop .inv .numbered)
 
 array-write-given : tie.Need-array-write-given Inv-loop μ-loop
-array-write-given c = omega (arith, c .before .before .before .before .before .before .before .before .loop-test .taken, c .before .before .before .before .before .before .before .before .before .before .before .pre .1 .1 .1, c .before .before .before .before .before .before .before .before .before .before .before .pre .1 .0, c .before .before .before .before .before .before .before .before .before .loop .inv .numbered)
+array-write-given c =
+    let at-loop-test = c .before .before .before .before .before .before .before .before in
+    let at-loop = at-loop-test .before in
+    let start = at-loop .before .before in
+    omega (arith, at-loop-test .loop-test .taken, start .pre .1 .1 .1, start .pre .1 .0, at-loop .loop .inv .numbered)
 
 mul-bound : tie.Need-mul-bound Inv-loop μ-loop
-mul-bound c = omega (arith, c .before .before .before .before .before .before .before .before .loop-test .taken, c .before .before .before .before .before .before .before .before .before .before .before .pre .1 .1 .1, c .before .before .before .before .before .before .before .before .before .before .before .pre .1 .0, c .before .before .before .before .before .before .before .before .before .loop .inv .numbered)
+mul-bound c =
+    let at-loop-test = c .before .before .before .before .before .before .before .before in
+    let at-loop = at-loop-test .before in
+    let start = at-loop .before .before in
+    omega (arith, at-loop-test .loop-test .taken, start .pre .1 .1 .1, start .pre .1 .0, at-loop .loop .inv .numbered)
 
 array-set-from-bound : tie.Need-array-set-from-bound Inv-loop μ-loop
-array-set-from-bound c = omega (arith, c .before .before .before .before .before .before .before .before .loop-test .taken, c .before .before .before .before .before .before .before .before .before .before .before .pre .1 .1 .1, c .before .before .before .before .before .before .before .before .before .before .before .pre .1 .0, c .before .before .before .before .before .before .before .before .before .loop .inv .numbered)
+array-set-from-bound c =
+    let at-loop-test = c .before .before .before .before .before .before .before .before in
+    let at-loop = at-loop-test .before in
+    let start = at-loop .before .before in
+    omega (arith, at-loop-test .loop-test .taken, start .pre .1 .1 .1, start .pre .1 .0, at-loop .loop .inv .numbered)
 
 add-line : tie.Need-add-line Inv-loop μ-loop
-add-line c = omega (arith, c .before .before .before .before .before .before .before .before .loop-test .taken, c .before .before .before .before .before .before .before .before .before .before .before .pre .1 .1 .1, c .before .before .before .before .before .before .before .before .before .before .before .pre .1 .0, c .before .before .before .before .before .before .before .before .before .loop .inv .numbered)
+add-line c =
+    let at-loop-test = c .before .before .before .before .before .before .before .before in
+    let at-loop = at-loop-test .before in
+    let start = at-loop .before .before in
+    omega (arith, at-loop-test .loop-test .taken, start .pre .1 .1 .1, start .pre .1 .0, at-loop .loop .inv .numbered)
 
 add-i : tie.Need-add-i Inv-loop μ-loop
-add-i c = omega (arith, c .before .before .before .before .before .before .before .before .loop-test .taken, c .before .before .before .before .before .before .before .before .before .before .before .pre .1 .1 .1, c .before .before .before .before .before .before .before .before .before .before .before .pre .1 .0, c .before .before .before .before .before .before .before .before .before .loop .inv .numbered)
+add-i c =
+    let at-loop-test = c .before .before .before .before .before .before .before .before in
+    let at-loop = at-loop-test .before in
+    let start = at-loop .before .before in
+    omega (arith, at-loop-test .loop-test .taken, start .pre .1 .1 .1, start .pre .1 .0, at-loop .loop .inv .numbered)
 
 loop-less : tie.Need-loop-less Inv-loop μ-loop
-loop-less c = omega (arith, c .before .before .before .before .before .before .before .before .loop-test .taken)
+loop-less c =
+    let at-loop-test = c .before .before .before .before .before .before .before .before in
+    omega (arith, at-loop-test .loop-test .taken)
 
 loop-again : tie.Need-loop-again Inv-loop μ-loop
 loop-again c =
@@ -79,7 +107,8 @@ loop-again c =
     let v = l .loop in
     let s = now (a .s) in
     let r = d .before .before .read-bound-at in
-    BoundsPassed-past s (a .from) (a .number) (a .jobs) (a .bounds) (v .bound) (v .given) (v .at) (v .line) (v .i) (l .before .before .pre .1 .1 .0) (v .inv) (d .before .before .before .before .loop-test .taken) (l .before .before .pre .1 .1 .1)
+    BoundsPassed-past s (a .from) (a .number) (a .jobs) (a .bounds) (v .bound) (v .given) (v .at) (v .line) (v .i) (l .before .before .pre .1 .1 .0)
+    (v .inv) (d .before .before .before .before .loop-test .taken) (l .before .before .pre .1 .1 .1)
     (d .read .given .0 .0) (d .read .given .0 .1 .0) (c .pair-number .result)
     (atPlace-goes (boundLineAt (r .result)) (length s) (r .ensures .1) (ap boundLineAt (d .read .given .1)))
     (c .pair-number .ensures)
@@ -96,7 +125,8 @@ returns-2 c =
       BoundsPassed-end s (a .from) (a .number) (a .jobs) (a .bounds) (v .bound) (v .given) (v .at) (v .line) (v .i) few (v .inv) (c .loop-test .left),
       (
         v .inv .place,
-        BoundsPassed-filled s (a .from) (a .number) (a .jobs) (a .bounds) (v .bound) (v .given) (v .at) (v .line) (v .i) few (v .inv) (c .loop-test .left) (l .before .before .pre .1 .1 .1),
+        BoundsPassed-filled s (a .from) (a .number) (a .jobs) (a .bounds) (v .bound) (v .given) (v .at) (v .line) (v .i) few (v .inv) (c .loop-test .left)
+            (l .before .before .pre .1 .1 .1),
       ),
     )
 

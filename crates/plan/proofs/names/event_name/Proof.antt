@@ -43,10 +43,11 @@ named-in-requires-2 c κs = tt
 
 returns-3 : tie.Need-returns-3
 returns-3 c =
-    let l = c .before .before .before .before .before .before .before in
+    let at-if2 = c .before .before .before .before .before in
+    let l = at-if2 .before .before in
     let s = now (l .before .before .args .s) in
     rw (eventName-three s (l .if1 .left))
-    (simp (ne-eqb (getD s 0 0) 116 (c .before .before .before .before .before .if2 .left), eq-eqb (getD s 0 0) 110 (c .before .before .before .if3 .taken))
+    (simp (ne-eqb (getD s 0 0) 116 (at-if2 .if2 .left), eq-eqb (getD s 0 0) 110 (c .before .before .before .if3 .taken))
     (c .named-in2 .ensures))
 
 returns-4 : tie.Need-returns-4

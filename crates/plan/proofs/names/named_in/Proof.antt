@@ -14,7 +14,11 @@ named-requires-2 c κs = tt
 
 returns-2 : tie.Need-returns-2
 returns-2 c =
-    simp (ne-eqb (c .before .before .before .args .kind) 115 (c .before .before .if1 .left), eq-eqb (c .before .before .before .args .kind) 102 (c .before .if2 .taken))
+    simp (
+      ne-eqb (c .before .before .before .args .kind) 115 (c .before .before .if1 .left),
+      eq-eqb (c .before .before .before .args .kind) 102
+          (c .before .if2 .taken),
+    )
     (c .named2 .ensures)
 
 returns-3 : tie.Need-returns-3

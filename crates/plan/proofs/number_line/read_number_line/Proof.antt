@@ -29,7 +29,8 @@ returns : tie.Need-returns
 returns c =
     let b = c .before .before .before .before in
     let a = b .args in (
-      lineTo-bare (λ l. linedNumber (numberAfter (now (a .key)) (a .lo) (a .hi) l)) (now (a .s)) (a .at) (a .line) (c .before .next-line .result) (b .pre) (c .before .next-line .ensures) (omega arith),
+      lineTo-bare (λ l. linedNumber (numberAfter (now (a .key)) (a .lo) (a .hi) l)) (now (a .s)) (a .at) (a .line) (c .before .next-line .result) (b .pre)
+          (c .before .next-line .ensures) (omega arith),
       b .pre,
     )
 
@@ -105,8 +106,10 @@ unfolding linedNumber n b z s
 returns-2 c =
     let e = c .before in
     let a = b e .args in
-    let same : toZ w32 (ofZ w32 (c .narrow .result)) ≡ z e = toZ-ofZ {w = w32} {z = c .narrow .result} (record { sfits = c .narrow .ok }) ∙ c .narrow .ensures ∙ z-back e in (
-      lineTo-value (λ l. linedNumber (numberAfter (now (a .key)) (a .lo) (a .hi) l)) (s e) (a .at) (a .line) (n e .next-line .result) (b e .pre) (n e .next-line .ensures) (omega arith) (ap linedNumber (told e ∙ ap number.Value (sym same))),
+    let same : toZ w32 (ofZ w32 (c .narrow .result)) ≡ z e = toZ-ofZ {w = w32} {z = c .narrow .result} (record { sfits = c .narrow .ok })
+    ∙ c .narrow .ensures ∙ z-back e in (
+      lineTo-value (λ l. linedNumber (numberAfter (now (a .key)) (a .lo) (a .hi) l)) (s e) (a .at) (a .line) (n e .next-line .result) (b e .pre)
+          (n e .next-line .ensures) (omega arith) (ap linedNumber (told e ∙ ap number.Value (sym same))),
       omega arith,
     )
 
@@ -119,9 +122,11 @@ returns-3 c =
     let f = l .before .before .before in
     let a = f .args in
     let x = now (a .s) in
-    let back : numberAfter (now (a .key)) (a .lo) (a .hi) (take (l .next-line .result - 1 - a .at) (drop (a .at) x)) ≡ number.Bad (q .before .before .number2 .given .0 .0) =
+    let back : numberAfter (now (a .key)) (a .lo) (a .hi) (take (l .next-line .result - 1 - a .at) (drop (a .at) x)) ≡ number.Bad
+    (q .before .before .number2 .given .0 .0) =
     sym (rw (i32-widened (f .fits .lo), i32-widened (f .fits .hi)) at (m .number-after .ensures)) ∙ q .before .before .number2 .given .1 in (
-      lineTo-fault (λ l. linedNumber (numberAfter (now (a .key)) (a .lo) (a .hi) l)) x (a .at) (a .line) (l .next-line .result) (f .pre) (l .next-line .ensures) (omega arith) (ap linedNumber back)
+      lineTo-fault (λ l. linedNumber (numberAfter (now (a .key)) (a .lo) (a .hi) l)) x (a .at) (a .line) (l .next-line .result) (f .pre)
+          (l .next-line .ensures) (omega arith) (ap linedNumber back)
           ∙ ap (λ r. refused r (drop (a .at) x)) (sym (c .fault-at .ensures ∙ ap (faultAt (a .line)) (q .line-lacks .ensures))),
       f .pre,
     )

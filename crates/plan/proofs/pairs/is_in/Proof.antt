@@ -40,7 +40,8 @@ loop-again c =
       omega arith,
       l .loop .inv .1
           ∙ ⊎-elim
-          (λ w. or-stop (l .loop .found) _ rest (isIn-stop (a .x) (now (a .numbers)) (a .n) (l .loop .i) (l .before .pre .1) (omega arith) (w .0 .taken)) ∙ sym (ap (λ (f : Bool). f || rest) (w .1)))
+          (λ w. or-stop (l .loop .found) _ rest (isIn-stop (a .x) (now (a .numbers)) (a .n) (l .loop .i) (l .before .pre .1) (omega arith) (w .0 .taken))
+          ∙ sym (ap (λ (f : Bool). f || rest) (w .1)))
           (λ w.
           ap (λ (b : Bool). l .loop .found || b) (isIn-past (a .x) (now (a .numbers)) (a .n) (l .loop .i) (l .before .pre .1) (omega arith) (w .0 .left))
           ∙ sym (ap (λ (f : Bool). f || rest) (w .1)))

@@ -1,4 +1,5 @@
--- `read_head`: the length, the first four lines, the jobs, the count of the bounds, the bounds; after each group stands what was read of it. It rests on `HeadLaws`.
+-- `read_head`: the length, the first four lines, the jobs, the count of the bounds, the bounds; after each group stands what was read of it. It rests on
+-- `HeadLaws`.
 use mathlib.Core.Path.{refl, _≡_, sym, _∙_, ap, subst}
 use mathlib.Core.List.{List, []}
 use Prim.Native.Nat.{ℕ, _+_, _*_, _≤_}
@@ -25,7 +26,16 @@ use Rattle.plan.specs.ReadAt.{numberLineAt, wentAt, endAt, firstRest, If
 use Rattle.lines.specs.ReadAt.{atFault, faultyIn}
 use Rattle.lines.specs.ReadAtLaws.{atTold-goes, atTold-stops, atPlace-goes, atPlace-stops}
 use Rattle.plan.specs.ReadAtLaws.{endAt-fault}
-use Rattle.plan.specs.HeadLaws.{planHead-long, planHead-short, planRest-jobs, planRest-count, planRest-bounds, planRest-all, planRead-refused, planRead-accepted}
+use Rattle.plan.specs.HeadLaws.{
+  planHead-long,
+  planHead-short,
+  planRest-jobs,
+  planRest-count,
+  planRest-bounds,
+  planRest-all,
+  planRead-refused,
+  planRead-accepted,
+}
 use borrow.Author.Needs.{needs}
 use Rattle.plan.proofs.reader.read_head.Statement.{statement}
 use Rattle.plan.proofs.reader.read_head.Tie as tie
@@ -62,13 +72,16 @@ returns-2 c =
     let g = c .before .went-fault .ensures ∙ ap (λ w. atFault (endAt w)) (c .before .before .enum-told .given .1) in
     c .refused-plan2 .ensures
     ∙ planRead-refused s (c .before .went-fault .result)
-    (atPlace-stops (endAt (r .result .went)) (length s) (r .ensures .place) (ap endAt (c .before .before .enum-told .given .1)) (c .before .went-fault .ensures))
+    (atPlace-stops (endAt (r .result .went)) (length s) (r .ensures .place) (ap endAt (c .before .before .enum-told .given .1))
+    (c .before .went-fault .ensures))
     (e ∙ ap (faultyIn s) (sym g))
 
 -- ---- after the first four lines
 
 abbrev s₁ : tie.After-known-told → List ℕ
-s₁ c = now (c .before .before .before .before .before .before .args .s)
+s₁ c =
+    let start = c .before .before .before .before .before .before in
+    now (start .args .s)
 
 abbrev at₁ : tie.After-known-told → ℕ
 at₁ c = c .before .went .given .0 .0
@@ -101,13 +114,16 @@ refused-plan-requires-3 c κs = tt
 
 returns-3 : tie.Need-returns-3
 returns-3 c =
-    let p = c .before .before .before .before .before in
-    let r = c .before .before .before .before .read-jobs in
+    let at-read-jobs = c .before .before .before .before in
+    let p = at-read-jobs .before in
+    let r = at-read-jobs .read-jobs in
     c .refused-plan3 .ensures
     ∙ planRead-refused (s₁ p) (c .before .went-fault2 .result)
-    (atPlace-stops (endAt (r .result .went)) (length (s₁ p)) (r .ensures .1 .0) (ap endAt (c .before .before .enum-told2 .given .1)) (c .before .went-fault2 .ensures))
+    (atPlace-stops (endAt (r .result .went)) (length (s₁ p)) (r .ensures .1 .0) (ap endAt (c .before .before .enum-told2 .given .1))
+    (c .before .went-fault2 .ensures))
     (head₁ p ∙ planRest-jobs (first₁ p .window) (first₁ p .rounds) (first₁ p .last) (first₁ p .jobs) (drop (at₁ p) (s₁ p))
-    (atTold-stops (s₁ p) _ (wentAt _ (r .result .went)) (r .ensures .0) (ap (wentAt _) (c .before .before .enum-told2 .given .1)) (c .before .went-fault2 .ensures ∙ endAt-fault _ (r .result .went))))
+    (atTold-stops (s₁ p) _ (wentAt _ (r .result .went)) (r .ensures .0) (ap (wentAt _) (c .before .before .enum-told2 .given .1))
+    (c .before .went-fault2 .ensures ∙ endAt-fault _ (r .result .went))))
 
 mul-number : tie.Need-mul-number
 mul-number c = search needs
@@ -130,15 +146,19 @@ abbrev jobs₂ : tie.After-known-told2 → Jobs
 jobs₂ c = c .before .before .before .read-jobs .result
 
 told₂ : (c : tie.After-known-told2)
-    → jobsAfter [] (first₁ (p₂ c) .jobs) (drop (at₁ (p₂ c)) (s₁ (p₂ c))) 5 ≡ read (take (first₁ (p₂ c) .jobs) (jobs₂ c .job)) (drop (at₂ c) (s₁ (p₂ c))) (5 + 4 * first₁ (p₂ c) .jobs)
-told₂ c = atTold-goes (s₁ (p₂ c)) _ (wentAt _ (jobs₂ c .went)) (c .before .before .before .read-jobs .ensures .0) (ap (wentAt _) (c .before .jobs-went .given .1))
+    → jobsAfter [] (first₁ (p₂ c) .jobs) (drop (at₁ (p₂ c)) (s₁ (p₂ c))) 5 ≡ read (take (first₁ (p₂ c) .jobs) (jobs₂ c .job)) (drop (at₂ c) (s₁ (p₂ c)))
+    (5 + 4 * first₁ (p₂ c) .jobs)
+told₂ c = atTold-goes (s₁ (p₂ c)) _ (wentAt _ (jobs₂ c .went)) (c .before .before .before .read-jobs .ensures .0)
+    (ap (wentAt _) (c .before .jobs-went .given .1))
 
 place₂ : (c : tie.After-known-told2) → at₂ c ≤ length (s₁ (p₂ c))
-place₂ c = atPlace-goes (endAt (jobs₂ c .went)) (length (s₁ (p₂ c))) (c .before .before .before .read-jobs .ensures .1 .0) (ap endAt (c .before .jobs-went .given .1))
+place₂ c = atPlace-goes (endAt (jobs₂ c .went)) (length (s₁ (p₂ c))) (c .before .before .before .read-jobs .ensures .1 .0)
+    (ap endAt (c .before .jobs-went .given .1))
 
 filled₂ : (c : tie.After-known-told2) → jobs₂ c .job ≡ filled mostJobs noJob (take (first₁ (p₂ c) .jobs) (jobs₂ c .job))
 filled₂ c =
-    subst (λ w. IfOn w (jobs₂ c .job ≡ filled mostJobs noJob (take (first₁ (p₂ c) .jobs) (jobs₂ c .job)))) (c .before .jobs-went .given .1) (c .before .before .before .read-jobs .ensures .1 .1)
+    subst (λ w. IfOn w (jobs₂ c .job ≡ filled mostJobs noJob (take (first₁ (p₂ c) .jobs) (jobs₂ c .job)))) (c .before .jobs-went .given .1)
+    (c .before .before .before .read-jobs .ensures .1 .1)
 
 read-number-line-requires : tie.Need-read-number-line-requires
 read-number-line-requires c κs = place₂ (c .before)
@@ -158,14 +178,17 @@ refused-plan-requires-4 c κs = tt
 returns-4 : tie.Need-returns-4
 unfolding bytes
 returns-4 c =
-    let q = c .before .before .before .before .before .before in
+    let at-read-number-line = c .before .before .before .before in
+    let q = at-read-number-line .before .before in
     let p = p₂ q in
-    let r = c .before .before .before .before .read-number-line in
+    let r = at-read-number-line .read-number-line in
     c .refused-plan4 .ensures
     ∙ planRead-refused (s₁ p) (c .before .number-fault .result)
-    (atPlace-stops (numberLineAt (r .result)) (length (s₁ p)) (r .ensures .1) (ap numberLineAt (c .before .before .enum-told3 .given .1)) (c .before .number-fault .ensures))
+    (atPlace-stops (numberLineAt (r .result)) (length (s₁ p)) (r .ensures .1) (ap numberLineAt (c .before .before .enum-told3 .given .1))
+    (c .before .number-fault .ensures))
     (head₁ p ∙ planRest-count (first₁ p .window) (first₁ p .rounds) (first₁ p .last) (first₁ p .jobs) (drop (at₁ p) (s₁ p)) (told₂ q)
-    (atTold-stops (s₁ p) _ (numberLineAt (r .result)) (r .ensures .0) (ap numberLineAt (c .before .before .enum-told3 .given .1)) (c .before .number-fault .ensures)))
+    (atTold-stops (s₁ p) _ (numberLineAt (r .result)) (r .ensures .0) (ap numberLineAt (c .before .before .enum-told3 .given .1))
+    (c .before .number-fault .ensures)))
 
 -- ---- after the count of the bounds
 
@@ -179,15 +202,18 @@ abbrev at₃ : tie.After-known-told3 → ℕ
 at₃ c = c .before .line .given .0 .1 .0
 
 told₃ : (c : tie.After-known-told3)
-    → numberLine (bytes "bounds=") (pos 0) (pos mostBounds) (drop (at₂ (q₃ c)) (s₁ (p₂ (q₃ c)))) (5 + 4 * first₁ (p₂ (q₃ c)) .jobs) ≡ read (z₃ c) (drop (at₃ c) (s₁ (p₂ (q₃ c)))) (5 + 4 * first₁ (p₂ (q₃ c)) .jobs + 1)
+    → numberLine (bytes "bounds=") (pos 0) (pos mostBounds) (drop (at₂ (q₃ c)) (s₁ (p₂ (q₃ c)))) (5 + 4 * first₁ (p₂ (q₃ c)) .jobs) ≡ read (z₃ c)
+    (drop (at₃ c) (s₁ (p₂ (q₃ c)))) (5 + 4 * first₁ (p₂ (q₃ c)) .jobs + 1)
 unfolding bytes
-told₃ c = let r = c .before .before .before .read-number-line in atTold-goes (s₁ (p₂ (q₃ c))) _ (numberLineAt (r .result)) (r .ensures .0) (ap numberLineAt (c .before .line .given .1))
+told₃ c = let r = c .before .before .before .read-number-line in atTold-goes (s₁ (p₂ (q₃ c))) _ (numberLineAt (r .result)) (r .ensures .0)
+    (ap numberLineAt (c .before .line .given .1))
 
 z-back : (c : tie.After-known-told3) → mir.Val.toZ w32 (mir.Val.ofZ w32 (z₃ c)) ≡ z₃ c
 z-back c = toZ-ofZ {w = w32} {z = z₃ c} (record { sfits = c .known-told3 .given .0 .1 })
 
 place₃ : (c : tie.After-known-told3) → at₃ c ≤ length (s₁ (p₂ (q₃ c)))
-place₃ c = let r = c .before .before .before .read-number-line in atPlace-goes (numberLineAt (r .result)) (length (s₁ (p₂ (q₃ c)))) (r .ensures .1) (ap numberLineAt (c .before .line .given .1))
+place₃ c = let r = c .before .before .before .read-number-line in atPlace-goes (numberLineAt (r .result)) (length (s₁ (p₂ (q₃ c)))) (r .ensures .1)
+    (ap numberLineAt (c .before .line .given .1))
 
 few₃ : (c : tie.After-known-told3) → natAbs (z₃ c) ≤ mostBounds
 few₃ c = let q = numberLine-read (bytes "bounds=") (pos 0) (pos mostBounds) _ _ (told₃ c) .0 in at-most (z₃ c) (q .least) (q .most)
@@ -230,25 +256,33 @@ returns-5 c =
     let n = b .before .count .ensures ∙ ap natAbs (z-back d) in
     c .refused-plan5 .ensures
     ∙ planRead-refused (s₁ p) (c .before .went-fault3 .result)
-    (atPlace-stops (endAt (r .result .went)) (length (s₁ p)) (r .ensures .1 .0) (ap endAt (c .before .before .enum-told4 .given .1)) (c .before .went-fault3 .ensures))
+    (atPlace-stops (endAt (r .result .went)) (length (s₁ p)) (r .ensures .1 .0) (ap endAt (c .before .before .enum-told4 .given .1))
+    (c .before .went-fault3 .ensures))
     (head₁ p ∙ planRest-bounds (first₁ p .window) (first₁ p .rounds) (first₁ p .last) (first₁ p .jobs) (drop (at₁ p) (s₁ p)) (told₂ q) (told₃ d)
     (ap (λ (k : ℕ). boundsAfter (first₁ p .jobs) [] k (drop (at₃ d) (s₁ p)) (5 + 4 * first₁ p .jobs + 1)) (sym n)
-    ∙ atTold-stops (s₁ p) _ (wentAt _ (r .result .went)) (r .ensures .0) (ap (wentAt _) (c .before .before .enum-told4 .given .1)) (c .before .went-fault3 .ensures ∙ endAt-fault _ (r .result .went))))
+    ∙ atTold-stops (s₁ p) _ (wentAt _ (r .result .went)) (r .ensures .0) (ap (wentAt _) (c .before .before .enum-told4 .given .1))
+    (c .before .went-fault3 .ensures ∙ endAt-fault _ (r .result .went))))
 
 add-after : tie.Need-add-after
 add-after c =
-    let d = c .before .before .before .before .before .before .before .before in
+    let at-count = c .before .before .before .before .before .before .before in
+    let d = at-count .before in
     omega (
       arith,
       p₂ (q₃ d) .before .before .before .read-first .ensures .few,
-      subst (λ n. n ≤ mostBounds) (sym (c .before .before .before .before .before .before .before .count .ensures ∙ ap natAbs (z-back d))) (few₃ d),
+      subst (λ n. n ≤ mostBounds) (sym (at-count .count .ensures ∙ ap natAbs (z-back d))) (few₃ d),
     )
 
 -- answers with equal parts
 same-plan : {w w′ : ℤ} {js js′ : List Job} {b b′ : ℕ} {ds ds′ : List Bound} (rounds last jobs at n : ℕ) → w ≡ w′ → js ≡ js′ → b ≡ b′ → ds ≡ ds′
     → _≡_ {A = PlanRead}
     (record { answer = Accepted; plan = record { window = w; rounds = rounds; last = last; jobs = jobs; job = js; bounds = b; bound = ds }; at = at; line = n })
-    (record { answer = Accepted; plan = record { window = w′; rounds = rounds; last = last; jobs = jobs; job = js′; bounds = b′; bound = ds′ }; at = at; line = n })
+    (record {
+      answer = Accepted;
+      plan = record { window = w′; rounds = rounds; last = last; jobs = jobs; job = js′; bounds = b′; bound = ds′ };
+      at = at;
+      line = n;
+    })
 same-plan rounds last jobs at n p q r t = cc
 
 returns-6 : tie.Need-returns-6

@@ -32,18 +32,23 @@ refused-plan-requires c κs = tt
 
 returns-2 : tie.Need-returns-2
 returns-2 c =
-    let r = c .before .before .before .before .read-head in
-    let s = now (c .before .before .before .before .before .before .args .s) in
+    let at-read-head = c .before .before .before .before in
+    let start = at-read-head .before .before in
+    let r = at-read-head .read-head in
+    let s = now (start .args .s) in
     c .refused-plan .ensures
     ∙ ap (λ (x : PlanRead). refusedRead (record { refusal = Form (x .line); at = x .at })) (r .ensures)
-    ∙ alone-more s (planHead s) (ap (λ (x : PlanRead). x .answer) (sym (r .ensures)) ∙ c .before .before .enum-told .given .1) (subst (λ (x : PlanRead). x .at < length s) (r .ensures) (c .before .if1 .taken))
+    ∙ alone-more s (planHead s) (ap (λ (x : PlanRead). x .answer) (sym (r .ensures)) ∙ c .before .before .enum-told .given .1)
+    (subst (λ (x : PlanRead). x .at < length s) (r .ensures) (c .before .if1 .taken))
 
 returns-3 : tie.Need-returns-3
 returns-3 c =
+    let start = c .before .before .before .before .before in
     let r = c .before .before .before .read-head in
-    let s = now (c .before .before .before .before .before .args .s) in
+    let s = now (start .args .s) in
     r .ensures
-    ∙ alone-end s (planHead s) (planHead-rest s) (ap (λ (x : PlanRead). x .answer) (sym (r .ensures)) ∙ c .before .enum-told .given .1) (subst (λ (x : PlanRead). length s ≤ x .at) (r .ensures) (c .if1 .left))
+    ∙ alone-end s (planHead s) (planHead-rest s) (ap (λ (x : PlanRead). x .answer) (sym (r .ensures)) ∙ c .before .enum-told .given .1)
+    (subst (λ (x : PlanRead). length s ≤ x .at) (r .ensures) (c .if1 .left))
 
 pub read-plan-spec : {M : Type 1} → statement M
 read-plan-spec =

@@ -10,15 +10,18 @@ put-count-requires : tie.Need-put-count-requires
 put-count-requires c κs = search needs
 
 put-byte-requires : tie.Need-put-byte-requires
-put-byte-requires c κs = let s = c .before .before .before .before .before .before in omega (arith, digits-short (s .args .n) (s .fits .n .fits))
+put-byte-requires c κs =
+    let at-before = c .before .before .before .before .before .before in
+    let s = at-before in omega (arith, digits-short (s .args .n) (s .fits .n .fits))
 
 same-length : tie.Need-same-length
 same-length c = search needs
 
 returns : tie.Need-returns
 returns c =
-    let s = c .before .before .before .before .before .before .before .before .before in
-    let p = stored-append (c .before .before .before .before .before .before .put-count .ensures) (c .before .before .put-byte .ensures) in
+    let at-put-count = c .before .before .before .before .before .before in
+    let s = at-put-count .before .before .before in
+    let p = stored-append (at-put-count .put-count .ensures) (c .before .before .put-byte .ensures) in
     (p, count-near (s .args .n) (s .args .end) (s .fits .n .fits) p)
 
 pub put-ended-count-spec : {M : Type 1} → statement M

@@ -18,8 +18,9 @@ same-length c = search needs
 
 returns : tie.Need-returns
 returns c =
-    let s = c .before .before .before .before .before .before .before .before .before in
-    let p = stored-append (stored-number (s .fits .z) (c .before .before .before .before .before .before .put-number .ensures)) (c .before .before .put-byte .ensures) in
+    let at-put-number = c .before .before .before .before .before .before in
+    let s = at-put-number .before .before .before in
+    let p = stored-append (stored-number (s .fits .z) (at-put-number .put-number .ensures)) (c .before .before .put-byte .ensures) in
     (p, number-near (s .args .z) (s .args .end) (s .fits .z) p)
 
 pub put-ended-number-spec : {M : Type 1} → statement M

@@ -39,7 +39,8 @@ returns-2 c =
     let a = s .args in
     c .read-number .ensures ∙ rw (toZ-ofZ (s .fits .lo), toZ-ofZ (s .fits .hi))
     (ap (numberIn (a .lo) (a .hi)) (drop-rest (length (a .key .now)) (a .s .now))
-    ∙ sym (numberAfter-key (a .key .now) (a .lo) (a .hi) (a .s .now) (sym (c .before .before .before .has-key .ensures) ∙ not-false _ (c .before .before .if1 .left))))
+    ∙ sym (numberAfter-key (a .key .now) (a .lo) (a .hi) (a .s .now)
+    (sym (c .before .before .before .has-key .ensures) ∙ not-false _ (c .before .before .if1 .left))))
 
 pub number-after-spec : {M : Type 1} → statement M
 number-after-spec =

@@ -3,7 +3,15 @@ use mathlib.Core.Path.{sym, _∙_}
 use native.Mathlib.Omega.{arith}
 use mir.Facts.{toZ-ofZ}
 use borrow.Author.Needs.{needs}
-use Rattle.text.specs.DigitsReadLaws.{numberIn-empty, numberIn-zero, numberIn-zero-led, numberIn-positive, numberIn-positive-bad, numberIn-negative, numberIn-negative-bad}
+use Rattle.text.specs.DigitsReadLaws.{
+  numberIn-empty,
+  numberIn-zero,
+  numberIn-zero-led,
+  numberIn-positive,
+  numberIn-positive-bad,
+  numberIn-negative,
+  numberIn-negative-bad,
+}
 use Rattle.text.proofs.numbers.read_number.Statement.{statement}
 use Rattle.text.proofs.numbers.read_number.Tie as tie
 
@@ -35,11 +43,13 @@ negative-in-requires c κs = search needs
 
 returns-3 : tie.Need-returns-3
 returns-3 c =
-    let b = c .before .before .before .before .before in
+    let at-read-positive = c .before .before .before .before in
+    let b = at-read-positive .before in
     let s = b .before .before .before .before in
     let a = s .args in
     c .negative-in .ensures ∙ rw (toZ-ofZ (s .fits .lo), toZ-ofZ (s .fits .hi))
-    (sym (numberIn-negative (a .lo) (a .hi) (a .s .now) (c .before .before .n .given .0 .0) (s .fits .lo) (omega arith) (sym (c .before .before .before .before .read-positive .ensures) ∙ c .before .before .n .given .1)))
+    (sym (numberIn-negative (a .lo) (a .hi) (a .s .now) (c .before .before .n .given .0 .0) (s .fits .lo) (omega arith)
+    (sym (at-read-positive .read-positive .ensures) ∙ c .before .before .n .given .1)))
 
 shared-slice-read-if3 : tie.Need-shared-slice-read-if3
 shared-slice-read-if3 c = search needs
@@ -74,18 +84,21 @@ returns-6 : tie.Need-returns-6
 returns-6 c =
     let b = c .before .before .before in
     let a = b .before .before .before .before .before .before .args in
-    sym (numberIn-positive-bad (a .lo) (a .hi) (a .s .now) (omega arith) (omega arith) (sym (c .before .before .read-positive2 .ensures) ∙ c .enum-told2 .given .1))
+    sym (numberIn-positive-bad (a .lo) (a .hi) (a .s .now) (omega arith) (omega arith)
+    (sym (c .before .before .read-positive2 .ensures) ∙ c .enum-told2 .given .1))
 
 positive-in-requires : tie.Need-positive-in-requires
 positive-in-requires c κs = search needs
 
 returns-7 : tie.Need-returns-7
 returns-7 c =
-    let b = c .before .before .before .before .before in
+    let at-read-positive2 = c .before .before .before .before in
+    let b = at-read-positive2 .before in
     let s = b .before .before .before .before .before .before in
     let a = s .args in
     c .positive-in .ensures ∙ rw (toZ-ofZ (s .fits .lo), toZ-ofZ (s .fits .hi))
-    (sym (numberIn-positive (a .lo) (a .hi) (a .s .now) (c .before .before .n2 .given .0 .0) (s .fits .hi) (omega arith) (omega arith) (sym (c .before .before .before .before .read-positive2 .ensures) ∙ c .before .before .n2 .given .1)))
+    (sym (numberIn-positive (a .lo) (a .hi) (a .s .now) (c .before .before .n2 .given .0 .0) (s .fits .hi) (omega arith) (omega arith)
+    (sym (at-read-positive2 .read-positive2 .ensures) ∙ c .before .before .n2 .given .1)))
 
 pub read-number-spec : {M : Type 1} → statement M
 read-number-spec =

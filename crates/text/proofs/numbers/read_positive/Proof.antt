@@ -5,7 +5,16 @@ use mathlib.Core.Logic.{⊎-elim}
 use native.Mathlib.Omega.{arith}
 use lib.ListN.{length, drop}
 use Rattle.text.specs.DigitsRead.{tooLarge, digitsRead, positiveRead}
-use Rattle.text.specs.DigitsReadLaws.{digitsRead-below, digitsRead-above, digitsRead-past, digitsRead-cut, digitsRead-end, positiveRead-empty, positiveRead-zero, positiveRead-first}
+use Rattle.text.specs.DigitsReadLaws.{
+  digitsRead-below,
+  digitsRead-above,
+  digitsRead-past,
+  digitsRead-cut,
+  digitsRead-end,
+  positiveRead-empty,
+  positiveRead-zero,
+  positiveRead-first,
+}
 use Rattle.text.proofs.numbers.read_positive.Statement.{statement}
 use Rattle.text.proofs.numbers.read_positive.Tie as tie
 
@@ -66,7 +75,8 @@ loop-again c =
     let l = c .before .before .before .before .before in
     let s = l .before .before .before .before .args .s .now in
     let i = l .loop .i in
-    let at : (k : ℕ) → c .if5 .n ≡ k → digitsRead k (drop (i + 1) s) ≡ digitsRead (c .if5 .n) (drop (i + 1) s) = λ k e. ap (λ (m : ℕ). digitsRead m (drop (i + 1) s)) (sym e) in
+    let at : (k : ℕ) → c .if5 .n ≡ k → digitsRead k (drop (i + 1) s) ≡ digitsRead (c .if5 .n) (drop (i + 1) s) = λ k e. ap
+    (λ (m : ℕ). digitsRead m (drop (i + 1) s)) (sym e) in
     ⊎-elim
     (λ w. (omega arith, omega arith, l .loop .inv .2 ∙ digitsRead-past s i (l .loop .n) (omega arith) (omega arith) (omega arith) ∙ at _ (w .1)))
     (λ w. (omega arith, omega arith, l .loop .inv .2 ∙ digitsRead-cut s i (l .loop .n) (omega arith) (omega arith) (omega arith) (omega arith) ∙ at _ (w .1)))

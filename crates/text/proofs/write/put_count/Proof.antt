@@ -14,7 +14,8 @@ use Rattle.text.proofs.write.put_count.Statement.{statement}
 use Rattle.text.proofs.write.put_count.Tie as tie
 
 abbrev Inv-loop : tie.InvT-loop
-Inv-loop out₀ at n behind left₀ last₀ out left last = (length out ≡ length out₀) × (last + 1 ≡ at + length (digits left)) × (put out₀ at (digits n) ≡ put out at (digits left))
+Inv-loop out₀ at n behind left₀ last₀ out left last = (length out ≡ length out₀) × (last + 1 ≡ at + length (digits left)) ×
+    (put out₀ at (digits n) ≡ put out at (digits left))
 
 abbrev μ-loop : tie.MeasureT-loop
 μ-loop out₀ at n behind left₀ last₀ out left last = left
@@ -41,7 +42,9 @@ store-requires : tie.Need-store-requires Inv-loop μ-loop
 store-requires c κs = search needs
 
 sub-last-2 : tie.Need-sub-last-2 Inv-loop μ-loop
-sub-last-2 c = omega (arith, digits-length-more (c .before .before .before .before .before .loop .left) (omega arith), digits-some (c .before .before .before .before .before .loop .left / 10))
+sub-last-2 c =
+    let at-loop = c .before .before .before .before .before in
+    omega (arith, digits-length-more (at-loop .loop .left) (omega arith), digits-some (at-loop .loop .left / 10))
 
 loop-less : tie.Need-loop-less Inv-loop μ-loop
 loop-less c = omega arith

@@ -61,11 +61,12 @@ same-length c = search needs
 
 returns : tie.Need-returns
 returns c =
-    let s = c .before .before .before .before .before .before .before .before .before .before in
+    let at-put-byte = c .before .before .before .before .before .before in
+    let s = at-put-byte .before .before .before .before in
     let z = s .args .z in
     rw (decimal-below z (omega wholes))
     (stored-append
-    (c .before .before .before .before .before .before .put-byte .ensures)
+    (at-put-byte .put-byte .ensures)
     (rw (negated z (s .fits .z) (omega wholes)) at (c .before .before .put-count .ensures)))
 
 same-length-2 : tie.Need-same-length-2

@@ -45,7 +45,8 @@ returns c =
     let t = d .before .before .before in
     let l = t .before in
     let q = l .before .pre in
-    BoundsHeld-stop (l .before .args .t1) (q .0) (q .1 .0) (q .1 .1) (l .loop .given) (l .loop .line) (l .loop .i) (l .loop .inv) (t .loop-test .taken) (d .judge-line .result) (d .judge-line .ensures) (c .enum-told2 .given .1)
+    BoundsHeld-stop (l .before .args .t1) (q .0) (q .1 .0) (q .1 .1) (l .loop .given) (l .loop .line) (l .loop .i) (l .loop .inv) (t .loop-test .taken)
+    (d .judge-line .result) (d .judge-line .ensures) (c .enum-told2 .given .1)
 
 pair-number-requires : tie.Need-pair-number-requires Inv-loop μ-loop
 pair-number-requires c κs = search needs
@@ -71,7 +72,9 @@ add-i c =
     omega (arith, l .loop .inv .count, l .before .pre .1 .1)
 
 loop-less : tie.Need-loop-less Inv-loop μ-loop
-loop-less c = omega (arith, c .before .before .before .before .before .before .before .before .loop-test .taken)
+loop-less c =
+    let at-loop-test = c .before .before .before .before .before .before .before .before in
+    omega (arith, at-loop-test .loop-test .taken)
 
 loop-again : tie.Need-loop-again Inv-loop μ-loop
 loop-again c =
@@ -80,7 +83,8 @@ loop-again c =
     let t = d .before .before .before in
     let l = t .before in
     let q = l .before .pre in
-    BoundsHeld-past (l .before .args .t1) (q .0) (q .1 .0) (q .1 .1) (l .loop .given) (l .loop .line) (l .loop .i) (l .loop .inv) (t .loop-test .taken) (d .judge-line .result) (d .judge-line .ensures) (e .enum-told .given .1)
+    BoundsHeld-past (l .before .args .t1) (q .0) (q .1 .0) (q .1 .1) (l .loop .given) (l .loop .line) (l .loop .i) (l .loop .inv) (t .loop-test .taken)
+    (d .judge-line .result) (d .judge-line .ensures) (e .enum-told .given .1)
     (c .pair-number .result) (c .pair-number .ensures)
 
 returns-2 : tie.Need-returns-2 Inv-loop μ-loop

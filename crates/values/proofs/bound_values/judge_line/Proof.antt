@@ -32,7 +32,8 @@ returns-2 c =
     let a = l .before .before .args in
     c .line-answer .ensures
     ∙ ap (lineJudged (a .line)) (c .before .judge-bound .ensures)
-    ∙ sym (boundJudged-formed (a .jobs) (isWrongNumbered (take (a .n) (now (a .given)))) (a .line) (a .d) (sym (f .ensures) ∙ not-false (f .result) (l .if1 .left)))
+    ∙ sym (boundJudged-formed (a .jobs) (isWrongNumbered (take (a .n) (now (a .given)))) (a .line) (a .d)
+    (sym (f .ensures) ∙ not-false (f .result) (l .if1 .left)))
 
 pub judge-line-spec : {M : Type 1} → statement M
 judge-line-spec =

@@ -78,7 +78,8 @@ enum-told-3 c = search needs
 enum-told-4 : tie.Need-enum-told-4
 enum-told-4 c = search needs
 
-max-line : (c : tie.After-judge-number2) → let o = d₁ (c .before) .before in c .judge-number2 .result ≡ numberJudged (j₀ o .min) longestRunning (j₀ o .max) (n₀ o + 1)
+max-line : (c : tie.After-judge-number2) → let o = d₁ (c .before) .before in c .judge-number2 .result ≡ numberJudged (j₀ o .min) longestRunning (j₀ o .max)
+    (n₀ o + 1)
 max-line c =
     let o = d₁ (c .before) .before in
     c .judge-number2 .ensures ∙ judged-same longestRunning (n₀ o + 1) (numbers o .min) (numbers o .max)
@@ -87,7 +88,8 @@ returns-2 : tie.Need-returns-2
 returns-2 c =
     let e = c .before .before in
     let d = d₁ (e .before) in
-    jobJudged-max (n₀ (d .before)) (j₀ (d .before)) (d .judge-number .result) (min-line d) (e .before .enum-told .given .1) (e .judge-number2 .result) (max-line e) (c .enum-told4 .given .1)
+    jobJudged-max (n₀ (d .before)) (j₀ (d .before)) (d .judge-number .result) (min-line d) (e .before .enum-told .given .1) (e .judge-number2 .result)
+    (max-line e) (c .enum-told4 .given .1)
 
 -- ---- release
 
@@ -106,7 +108,8 @@ enum-told-5 c = search needs
 enum-told-6 : tie.Need-enum-told-6
 enum-told-6 c = search needs
 
-release-line : (c : tie.After-judge-number3) → let o = d₁ (d₂ (c .before) .before) .before in c .judge-number3 .result ≡ numberJudged (pos 0) latestDeadline (j₀ o .release) (n₀ o + 2)
+release-line : (c : tie.After-judge-number3) → let o = d₁ (d₂ (c .before) .before) .before in c .judge-number3 .result ≡ numberJudged (pos 0) latestDeadline
+    (j₀ o .release) (n₀ o + 2)
 release-line c = rw (numbers (d₁ (d₂ (c .before) .before) .before) .release) at (c .judge-number3 .ensures)
 
 returns-3 : tie.Need-returns-3
@@ -114,7 +117,8 @@ returns-3 c =
     let f = c .before .before in
     let e = d₂ (f .before) in
     let d = d₁ (e .before) in
-    jobJudged-release (n₀ (d .before)) (j₀ (d .before)) (d .judge-number .result) (min-line d) (e .before .enum-told .given .1) (e .judge-number2 .result) (max-line e) (f .before .enum-told3 .given .1)
+    jobJudged-release (n₀ (d .before)) (j₀ (d .before)) (d .judge-number .result) (min-line d) (e .before .enum-told .given .1) (e .judge-number2 .result)
+    (max-line e) (f .before .enum-told3 .given .1)
     (f .judge-number3 .result) (release-line f) (c .enum-told6 .given .1)
 
 -- ---- deadline
@@ -125,15 +129,19 @@ add-line4 c = search needs
 judge-number-requires-4 : tie.Need-judge-number-requires-4
 judge-number-requires-4 c κs = tt
 
-deadline-line : (c : tie.After-judge-number4) → let o = d₁ (d₂ (c .before .before .before .before) .before) .before in c .judge-number4 .result ≡ numberJudged (pos 0) latestDeadline (j₀ o .deadline) (n₀ o + 3)
-deadline-line c = rw (numbers (d₁ (d₂ (c .before .before .before .before) .before) .before) .deadline) at (c .judge-number4 .ensures)
+deadline-line : (c : tie.After-judge-number4) → let o = d₁ (d₂ (c .before .before .before .before) .before) .before in c .judge-number4 .result
+    ≡ numberJudged (pos 0) latestDeadline (j₀ o .deadline) (n₀ o + 3)
+deadline-line c =
+    let at-before = c .before .before .before .before in
+    rw (numbers (d₁ (d₂ (at-before) .before) .before) .deadline) at (c .judge-number4 .ensures)
 
 returns-4 : tie.Need-returns-4
 returns-4 c =
     let f = c .before .before .before in
     let e = d₂ (f .before) in
     let d = d₁ (e .before) in
-    jobJudged-deadline (n₀ (d .before)) (j₀ (d .before)) (d .judge-number .result) (min-line d) (e .before .enum-told .given .1) (e .judge-number2 .result) (max-line e) (f .before .enum-told3 .given .1)
+    jobJudged-deadline (n₀ (d .before)) (j₀ (d .before)) (d .judge-number .result) (min-line d) (e .before .enum-told .given .1) (e .judge-number2 .result)
+    (max-line e) (f .before .enum-told3 .given .1)
     (f .judge-number3 .result) (release-line f) (c .before .enum-told5 .given .1) (c .judge-number4 .result) (deadline-line c)
 
 pub judge-job-spec : {M : Type 1} → statement M

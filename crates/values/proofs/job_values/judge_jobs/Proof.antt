@@ -36,7 +36,8 @@ returns c =
     let t = d .before .before in
     let l = t .before in
     let q = l .before .pre in
-    JobsHeld-stop (l .before .args .t1) (q .0) (q .1) (l .loop .line) (l .loop .i) (l .loop .inv) (t .loop-test .taken) (d .judge-job .result) (d .judge-job .ensures) (c .enum-told2 .given .1)
+    JobsHeld-stop (l .before .args .t1) (q .0) (q .1) (l .loop .line) (l .loop .i) (l .loop .inv) (t .loop-test .taken) (d .judge-job .result)
+    (d .judge-job .ensures) (c .enum-told2 .given .1)
 
 add-line : tie.Need-add-line Inv-loop μ-loop
 add-line c =
@@ -57,7 +58,8 @@ loop-again c =
     let t = d .before .before in
     let l = t .before in
     let q = l .before .pre in
-    JobsHeld-past (l .before .args .t1) (q .0) (q .1) (l .loop .line) (l .loop .i) (l .loop .inv) (t .loop-test .taken) (d .judge-job .result) (d .judge-job .ensures) (c .enum-told .given .1)
+    JobsHeld-past (l .before .args .t1) (q .0) (q .1) (l .loop .line) (l .loop .i) (l .loop .inv) (t .loop-test .taken) (d .judge-job .result)
+    (d .judge-job .ensures) (c .enum-told .given .1)
 
 returns-2 : tie.Need-returns-2 Inv-loop μ-loop
 returns-2 c =

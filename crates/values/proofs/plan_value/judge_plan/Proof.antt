@@ -1,5 +1,6 @@
--- `judge_plan`: the types tell that the text is not too long (`plan-fits`), so that the lines decide (`judgedPlan-is`). After each line `left₁` to `left₆` say that the lines that are left are
--- judged as the whole: one that is refused is the answer (`lines-stop`), and after one that is not the next decides (`lines-pass`).
+-- `judge_plan`: the types tell that the text is not too long (`plan-fits`), so that the lines decide (`judgedPlan-is`). After each line `left₁` to `left₆`
+-- say that the lines that are left are judged as the whole: one that is refused is the answer (`lines-stop`), and after one that is not the next decides
+-- (`lines-pass`).
 use mathlib.Core.Path.{_≡_, sym, _∙_}
 use mathlib.Core.List.{[]}
 use Prim.Native.Nat.{_+_, _*_, _≤_}
@@ -59,7 +60,8 @@ returns c =
     let d = c .before .before in
     let p = p₀ (d .before) in
     promised p (d .judge-number .result) (fits₀ (d .before))
-    (lines-stop (numberJudged (pos 1) longestWindow (p .window) 1) (fromRounds p) (left₀ (d .before)) (d .judge-number .result) (window-line d) (c .enum-told2 .given .1))
+    (lines-stop (numberJudged (pos 1) longestWindow (p .window) 1) (fromRounds p) (left₀ (d .before)) (d .judge-number .result) (window-line d)
+    (c .enum-told2 .given .1))
 
 -- ---- the rounds
 
@@ -72,7 +74,8 @@ fits₁ c = fits₀ (c .before .before .before)
 left₁ : (c : tie.After-enum-told) → judgedAnswer (judgedPlan (p₁ c)) ≡ fromRounds (p₁ c)
 left₁ c =
     let d = c .before .before in
-    lines-pass (numberJudged (pos 1) longestWindow (p₁ c .window) 1) (fromRounds (p₁ c)) (left₀ (d .before)) (d .judge-number .result) (window-line d) (c .enum-told .given .1)
+    lines-pass (numberJudged (pos 1) longestWindow (p₁ c .window) 1) (fromRounds (p₁ c)) (left₀ (d .before)) (d .judge-number .result) (window-line d)
+    (c .enum-told .given .1)
 
 judge-count-requires : tie.Need-judge-count-requires
 judge-count-requires c κs = tt
@@ -88,7 +91,9 @@ returns-2 c =
     let d = c .before .before in
     let p = p₁ (d .before) in
     promised p (d .judge-count .result) (fits₁ (d .before))
-    (lines-stop (numberJudged (pos 1) (pos mostRounds) (pos (p .rounds)) 2) (andThen (numberJudged (pos 1) (pos mostWindows) (pos (p .last)) 3) (fromJobs p)) (left₁ (d .before)) (d .judge-count .result) (d .judge-count .ensures) (c .enum-told4 .given .1))
+    (lines-stop (numberJudged (pos 1) (pos mostRounds) (pos (p .rounds)) 2)
+    (andThen (numberJudged (pos 1) (pos mostWindows) (pos (p .last)) 3) (fromJobs p)) (left₁ (d .before)) (d .judge-count .result)
+    (d .judge-count .ensures) (c .enum-told4 .given .1))
 
 -- ---- the windows of a run
 
@@ -102,7 +107,8 @@ left₂ : (c : tie.After-enum-told3) → judgedAnswer (judgedPlan (p₂ c)) ≡ 
 left₂ c =
     let d = c .before .before in
     let p = p₂ c in
-    lines-pass (numberJudged (pos 1) (pos mostRounds) (pos (p .rounds)) 2) (andThen (numberJudged (pos 1) (pos mostWindows) (pos (p .last)) 3) (fromJobs p)) (left₁ (d .before)) (d .judge-count .result) (d .judge-count .ensures) (c .enum-told3 .given .1)
+    lines-pass (numberJudged (pos 1) (pos mostRounds) (pos (p .rounds)) 2) (andThen (numberJudged (pos 1) (pos mostWindows) (pos (p .last)) 3) (fromJobs p))
+    (left₁ (d .before)) (d .judge-count .result) (d .judge-count .ensures) (c .enum-told3 .given .1)
 
 judge-count-requires-2 : tie.Need-judge-count-requires-2
 judge-count-requires-2 c κs = tt
@@ -118,7 +124,8 @@ returns-3 c =
     let d = c .before .before in
     let p = p₂ (d .before) in
     promised p (d .judge-count2 .result) (fits₂ (d .before))
-    (lines-stop (numberJudged (pos 1) (pos mostWindows) (pos (p .last)) 3) (fromJobs p) (left₂ (d .before)) (d .judge-count2 .result) (d .judge-count2 .ensures) (c .enum-told6 .given .1))
+    (lines-stop (numberJudged (pos 1) (pos mostWindows) (pos (p .last)) 3) (fromJobs p) (left₂ (d .before)) (d .judge-count2 .result)
+    (d .judge-count2 .ensures) (c .enum-told6 .given .1))
 
 -- ---- the count of the jobs
 
@@ -132,7 +139,8 @@ left₃ : (c : tie.After-enum-told5) → judgedAnswer (judgedPlan (p₃ c)) ≡ 
 left₃ c =
     let d = c .before .before in
     let p = p₃ c in
-    lines-pass (numberJudged (pos 1) (pos mostWindows) (pos (p .last)) 3) (fromJobs p) (left₂ (d .before)) (d .judge-count2 .result) (d .judge-count2 .ensures) (c .enum-told5 .given .1)
+    lines-pass (numberJudged (pos 1) (pos mostWindows) (pos (p .last)) 3) (fromJobs p) (left₂ (d .before)) (d .judge-count2 .result)
+    (d .judge-count2 .ensures) (c .enum-told5 .given .1)
 
 judge-count-requires-3 : tie.Need-judge-count-requires-3
 judge-count-requires-3 c κs = tt
@@ -148,7 +156,8 @@ returns-4 c =
     let d = c .before .before in
     let p = p₃ (d .before) in
     promised p (d .judge-count3 .result) (fits₃ (d .before))
-    (lines-stop (numberJudged (pos 1) (pos mostJobs) (pos (p .jobs)) 4) (andThen (jobsJudged 5 (jobsOf p)) (fromCount p)) (left₃ (d .before)) (d .judge-count3 .result) (d .judge-count3 .ensures) (c .enum-told8 .given .1))
+    (lines-stop (numberJudged (pos 1) (pos mostJobs) (pos (p .jobs)) 4) (andThen (jobsJudged 5 (jobsOf p)) (fromCount p)) (left₃ (d .before))
+    (d .judge-count3 .result) (d .judge-count3 .ensures) (c .enum-told8 .given .1))
 
 -- ---- the jobs
 
@@ -159,7 +168,8 @@ left₄ : (c : tie.After-enum-told7) → judgedAnswer (judgedPlan (p₄ c)) ≡ 
 left₄ c =
     let d = c .before .before in
     let p = p₄ c in
-    lines-pass (numberJudged (pos 1) (pos mostJobs) (pos (p .jobs)) 4) (andThen (jobsJudged 5 (jobsOf p)) (fromCount p)) (left₃ (d .before)) (d .judge-count3 .result) (d .judge-count3 .ensures) (c .enum-told7 .given .1)
+    lines-pass (numberJudged (pos 1) (pos mostJobs) (pos (p .jobs)) 4) (andThen (jobsJudged 5 (jobsOf p)) (fromCount p)) (left₃ (d .before))
+    (d .judge-count3 .result) (d .judge-count3 .ensures) (c .enum-told7 .given .1)
 
 few₄ : (c : tie.After-enum-told7) → p₄ c .jobs ≤ mostJobs
 few₄ c =
@@ -217,7 +227,8 @@ returns-6 c =
     let e = d .before .before in
     let p = p₅ e in
     promised p (d .judge-count4 .result) (fits₄ (e .before .before .before))
-    (lines-stop (numberJudged (pos 0) (pos mostBounds) (pos (p .bounds)) (5 + 4 * p .jobs)) (boundsJudged (p .jobs) [] (6 + 4 * p .jobs) (boundsOf p)) (left₅ e) (d .judge-count4 .result) (d .judge-count4 .ensures) (c .enum-told12 .given .1))
+    (lines-stop (numberJudged (pos 0) (pos mostBounds) (pos (p .bounds)) (5 + 4 * p .jobs)) (boundsJudged (p .jobs) [] (6 + 4 * p .jobs) (boundsOf p))
+    (left₅ e) (d .judge-count4 .result) (d .judge-count4 .ensures) (c .enum-told12 .given .1))
 
 -- ---- the bounds
 
@@ -228,12 +239,17 @@ left₆ : (c : tie.After-enum-told11) → judgedAnswer (judgedPlan (p₆ c)) ≡
 left₆ c =
     let d = c .before .before in
     let p = p₆ c in
-    lines-pass (numberJudged (pos 0) (pos mostBounds) (pos (p .bounds)) (5 + 4 * p .jobs)) (boundsJudged (p .jobs) [] (6 + 4 * p .jobs) (boundsOf p)) (left₅ (d .before .before)) (d .judge-count4 .result) (d .judge-count4 .ensures) (c .enum-told11 .given .1)
+    lines-pass (numberJudged (pos 0) (pos mostBounds) (pos (p .bounds)) (5 + 4 * p .jobs)) (boundsJudged (p .jobs) [] (6 + 4 * p .jobs) (boundsOf p))
+    (left₅ (d .before .before)) (d .judge-count4 .result) (d .judge-count4 .ensures) (c .enum-told11 .given .1)
 
 few₆ : (c : tie.After-enum-told11) → p₆ c .bounds ≤ mostBounds
 few₆ c =
     let d = c .before .before in
-    omega (whole, numberJudged-range (pos 0) (pos mostBounds) (pos (p₆ c .bounds)) (5 + 4 * p₆ c .jobs) (sym (d .judge-count4 .ensures) ∙ c .enum-told11 .given .1) .1)
+    omega (
+      whole,
+      numberJudged-range (pos 0) (pos mostBounds) (pos (p₆ c .bounds)) (5 + 4 * p₆ c .jobs)
+          (sym (d .judge-count4 .ensures) ∙ c .enum-told11 .given .1) .1,
+    )
 
 judge-bounds-requires : tie.Need-judge-bounds-requires
 judge-bounds-requires c κs =

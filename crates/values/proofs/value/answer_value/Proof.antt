@@ -34,22 +34,27 @@ same-length c = search needs
 
 returns : tie.Need-returns
 returns c =
-    let s = c .before .before .before .before .before .before .before .before .before .before in
-    let j = c .before .before .before .before .before .before .before .before .judge-plan in
-    let d = c .before .before .before .before .before .decide in
-    let e = c .before .before .before .before .before .before .enum-told .given .1 in
-    wrote-as (now (s .args .out)) (omega arith) (text-of-outcome (s .args .p) _ _ (d .ensures .0) (d .ensures .1)
-    ∙ value-text (s .args .p) (j .result) (j .ensures .0) e) (c .before .before .write-decision .ensures)
+    let at-decide = c .before .before .before .before .before in
+    let at-enum-told = at-decide .before in
+    let at-judge-plan = at-enum-told .before .before in
+    let s = at-judge-plan .before .before in
+    let j = at-judge-plan .judge-plan in
+    let d = at-decide .decide in
+    let e = at-enum-told .enum-told .given .1 in
+    wrote-as (now (s .args .out)) (omega arith) (text-of-outcome (s .args .p) _ _ (d .ensures .0) (d .ensures .1) ∙ value-text (s .args .p) (j .result)
+    (j .ensures .0) e) (c .before .before .write-decision .ensures)
 
 same-length-2 : tie.Need-same-length-2
 same-length-2 c = search needs
 
 returns-2 : tie.Need-returns-2
 returns-2 c =
-    let s = c .before .before .before .before .before .before .before .before .before in
-    let j = c .before .before .before .before .before .before .before .judge-plan in
-    wrote-as (now (s .args .out)) (omega arith) (refused-text (s .args .p) (j .result) (j .ensures .0) _
-    (c .before .before .before .before .before .judged .given .1)) (c .before .before .write-refused .ensures)
+    let at-judged = c .before .before .before .before .before in
+    let at-judge-plan = at-judged .before .before in
+    let s = at-judge-plan .before .before in
+    let j = at-judge-plan .judge-plan in
+    wrote-as (now (s .args .out)) (omega arith) (refused-text (s .args .p) (j .result) (j .ensures .0) _ (at-judged .judged .given .1))
+    (c .before .before .write-refused .ensures)
 
 pub answer-value-spec : {M : Type 1} → statement M
 answer-value-spec =

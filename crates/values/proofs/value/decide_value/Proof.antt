@@ -27,8 +27,9 @@ empty-calendar-requires c κs = search needs
 
 returns : tie.Need-returns
 returns c =
-    let s = c .before .before .before .before .before .before in
-    let j = c .before .before .before .before .before .judge-plan in
+    let at-judge-plan = c .before .before .before .before .before in
+    let s = at-judge-plan .before in
+    let j = at-judge-plan .judge-plan in
     let d = c .before .before .decide in
     let e = c .before .before .before .enum-told .given .1 in (
       c .tell-verdict .ensures ∙ value-verdict (s .args .p) (j .result) (j .ensures .0) e (d .result .verdict) (d .ensures .0),

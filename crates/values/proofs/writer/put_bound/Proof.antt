@@ -33,12 +33,20 @@ same-length c = search needs
 returns : tie.Need-returns
 unfolding bytes
 returns c =
-    let d = c .before .before .before .before .before .before .before .before .before .before .before .before .before .before .before .before .before .before .before .before .args .d in
-    let key = c .before .before .before .before .before .before .before .before .before .before .before .before .before .before .put-bytes .ensures in
-    let first = c .before .before .before .before .before .before .before .before .before .before .put-name .ensures in
-    let second = c .before .before .before .before .before .before .put-name2 .ensures in
-    let number = c .before .before .put-ended-number .ensures in
-    (stored-bound d (told-fits w32 (d .c) (c .before .before .before .before .before .before .before .before .before .before .before .before .before .before .before .before .before .struct-told .given .1 .1 .0 .1)) key (first .0) (second .0) (number .0), omega (arith, key .place, first .1, second .1, number .1))
+    let at-put-name2 = c .before .before .before .before .before .before in
+    let at-put-name = at-put-name2 .before .before .before .before in
+    let at-put-bytes = at-put-name .before .before .before .before in
+    let at-struct-told = at-put-bytes .before .before .before in
+    let start = at-struct-told .before .before .before in
+    let d = start .args .d in
+    let key = at-put-bytes .put-bytes .ensures in
+    let first = at-put-name .put-name .ensures in
+    let second = at-put-name2 .put-name2 .ensures in
+    let number = c .before .before .put-ended-number .ensures in (
+      stored-bound d (told-fits w32 (d .c) (at-struct-told .struct-told .given .1 .1 .0 .1)) key (first .0) (second .0) (number .0),
+      omega
+          (arith, key .place, first .1, second .1, number .1),
+    )
 
 pub put-bound-spec : {M : Type 1} → statement M
 put-bound-spec =

@@ -53,10 +53,12 @@ loop-less c = omega arith
 
 loop-again : tie.Need-loop-again Inv-loop μ-loop
 loop-again c =
-    let a = c .before .before .before .before .before .before .before .before .before .args in
-    let l = c .before .before .before .before .before .before .before .loop in
+    let at-loop = c .before .before .before .before .before .before .before in
+    let start = at-loop .before .before in
+    let a = start .args in
+    let l = at-loop .loop in
     let did = c .before .before .put-job in
-    let places : length (a .t4) ≡ mostJobs = c .before .before .before .before .before .before .before .before .before .good .1 .1 .1 .0 .1 .0 .1 in (
+    let places : length (a .t4) ≡ mostJobs = start .good .1 .1 .1 .0 .1 .0 .1 in (
       omega arith,
       omega arith,
       did .kept .0 ∙ l .inv .2,

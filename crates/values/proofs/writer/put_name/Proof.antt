@@ -28,11 +28,19 @@ same-length c = search needs
 
 returns : tie.Need-returns
 returns c =
-    let a = c .before .before .before .before .before .before .before .before .before .before .before .before .before .before .before .before .args in
-    let letter = c .before .before .before .before .before .before .before .before .before .before .put-byte .ensures in
-    let kind = c .before .before .before .before .before .before .put-byte2 .ensures in
-    let job = c .before .before .put-ended-count .ensures in
-    (stored-name (a .e) (a .end) (c .before .before .before .before .before .before .before .before .before .before .before .before .before .letter-byte .ensures) (c .before .before .before .before .before .before .before .before .before .before .before .before .kind-byte .ensures) letter kind (job .0), omega (arith, letter .place, kind .place, job .1))
+    let at-put-byte2 = c .before .before .before .before .before .before in
+    let at-put-byte = at-put-byte2 .before .before .before .before in
+    let at-kind-byte = at-put-byte .before .before in
+    let at-letter-byte = at-kind-byte .before in
+    let start = at-letter-byte .before .before .before in
+    let a = start .args in
+    let letter = at-put-byte .put-byte .ensures in
+    let kind = at-put-byte2 .put-byte2 .ensures in
+    let job = c .before .before .put-ended-count .ensures in (
+      stored-name (a .e) (a .end) (at-letter-byte .letter-byte .ensures) (at-kind-byte .kind-byte .ensures) letter kind (job .0),
+      omega
+          (arith, letter .place, kind .place, job .1),
+    )
 
 pub put-name-spec : {M : Type 1} → statement M
 put-name-spec =

@@ -45,56 +45,82 @@ slice-aggregate-put-count-line-4 : tie.Need-slice-aggregate-put-count-line-4
 slice-aggregate-put-count-line-4 c = refl
 
 put-count-line-requires-4 : tie.Need-put-count-line-requires-4
-put-count-line-requires-4 c κs = (
-  omega (
-    arith,
-    c .before .before .before .before .before .before .before .before .before .before .before .before .before .before .before .before .before .before .before .before .before .before .before .before .before .before .before .before .before .before .before .pre,
-    c .before .before .before .before .before .before .before .before .before .before .before .before .before .before .before .before .before .before .before .before .before .before .before .put-line .ensures .1,
-    c .before .before .before .before .before .before .before .before .before .before .before .before .before .before .before .before .before .before .put-count-line .ensures .1,
-    c .before .before .before .before .before .before .before .before .before .before .before .before .before .put-count-line2 .ensures .1,
-    c .before .before .before .before .before .before .before .before .put-count-line3 .ensures .1,
-    c .before .before .before .before .put-jobs .ensures .1,
-  ),
-  omega arith,
-)
+put-count-line-requires-4 c κs =
+    let at-put-jobs = c .before .before .before .before in
+    let at-put-count-line3 = at-put-jobs .before .before .before .before in
+    let at-put-count-line2 = at-put-count-line3 .before .before .before .before .before in
+    let at-put-count-line = at-put-count-line2 .before .before .before .before .before in
+    let at-put-line = at-put-count-line .before .before .before .before .before in
+    let start = at-put-line .before .before .before .before .before .before .before .before in (
+      omega (
+        arith,
+        start .pre,
+        at-put-line .put-line .ensures .1,
+        at-put-count-line .put-count-line .ensures .1,
+        at-put-count-line2 .put-count-line2 .ensures .1,
+        at-put-count-line3 .put-count-line3 .ensures .1,
+        at-put-jobs .put-jobs .ensures .1,
+      ),
+      omega arith,
+    )
 
 put-bounds-requires : tie.Need-put-bounds-requires
 put-bounds-requires c κs =
+    let at-put-jobs = c .before .before .before .before .before .before .before .before in
+    let at-put-count-line3 = at-put-jobs .before .before .before .before in
+    let at-put-count-line2 = at-put-count-line3 .before .before .before .before .before in
+    let at-put-count-line = at-put-count-line2 .before .before .before .before .before in
+    let at-put-line = at-put-count-line .before .before .before .before .before in
+    let start = at-put-line .before .before .before .before .before .before .before .before in
     omega (
       arith,
-      c .before .before .before .before .before .before .before .before .before .before .before .before .before .before .before .before .before .before .before .before .before .before .before .before .before .before .before .before .before .before .before .before .before .before .before .pre,
-      c .before .before .before .before .before .before .before .before .before .before .before .before .before .before .before .before .before .before .before .before .before .before .before .before .before .before .before .put-line .ensures .1,
-      c .before .before .before .before .before .before .before .before .before .before .before .before .before .before .before .before .before .before .before .before .before .before .put-count-line .ensures .1,
-      c .before .before .before .before .before .before .before .before .before .before .before .before .before .before .before .before .before .put-count-line2 .ensures .1,
-      c .before .before .before .before .before .before .before .before .before .before .before .before .put-count-line3 .ensures .1,
-      c .before .before .before .before .before .before .before .before .put-jobs .ensures .1,
+      start .pre,
+      at-put-line .put-line .ensures .1,
+      at-put-count-line .put-count-line .ensures .1,
+      at-put-count-line2 .put-count-line2 .ensures .1,
+      at-put-count-line3 .put-count-line3 .ensures .1,
+      at-put-jobs .put-jobs .ensures .1,
       c .before .before .before .put-count-line4 .ensures .1,
     )
 
 same-length : tie.Need-same-length
 same-length c =
+    let at-put-count-line4 = c .before .before .before .before .before .before in
+    let at-put-jobs = at-put-count-line4 .before .before .before .before .before in
+    let at-put-count-line3 = at-put-jobs .before .before .before .before in
+    let at-put-count-line2 = at-put-count-line3 .before .before .before .before .before in
+    let at-put-count-line = at-put-count-line2 .before .before .before .before .before in
+    let at-put-line = at-put-count-line .before .before .before .before .before in
     c .before .before .put-bounds .kept .0
-    ∙ c .before .before .before .before .before .before .put-count-line4 .kept .0
-    ∙ c .before .before .before .before .before .before .before .before .before .before .before .put-jobs .kept .0
-    ∙ c .before .before .before .before .before .before .before .before .before .before .before .before .before .before .before .put-count-line3 .kept .0
-    ∙ c .before .before .before .before .before .before .before .before .before .before .before .before .before .before .before .before .before .before .before .before .put-count-line2 .kept .0
-    ∙ c .before .before .before .before .before .before .before .before .before .before .before .before .before .before .before .before .before .before .before .before .before .before .before .before .before .put-count-line .kept .0
-    ∙ c .before .before .before .before .before .before .before .before .before .before .before .before .before .before .before .before .before .before .before .before .before .before .before .before .before .before .before .before .before .before .put-line .kept .0
+    ∙ at-put-count-line4 .put-count-line4 .kept .0
+    ∙ at-put-jobs .put-jobs .kept .0
+    ∙ at-put-count-line3 .put-count-line3 .kept .0
+    ∙ at-put-count-line2 .put-count-line2 .kept .0
+    ∙ at-put-count-line .put-count-line .kept .0
+    ∙ at-put-line .put-line .kept .0
 
 returns : tie.Need-returns
 unfolding bytes planText
 returns c =
-    let p = c .before .before .before .before .before .before .before .before .before .before .before .before .before .before .before .before .before .before .before .before .before .before .before .before .before .before .before .before .before .before .before .before .before .before .before .before .before .before .args .p in
-    let window = c .before .before .before .before .before .before .before .before .before .before .before .before .before .before .before .before .before .before .before .before .before .before .before .before .before .before .before .before .before .before .put-line .ensures in
-    let rounds = c .before .before .before .before .before .before .before .before .before .before .before .before .before .before .before .before .before .before .before .before .before .before .before .before .before .put-count-line .ensures in
-    let last = c .before .before .before .before .before .before .before .before .before .before .before .before .before .before .before .before .before .before .before .before .put-count-line2 .ensures in
-    let jobs = c .before .before .before .before .before .before .before .before .before .before .before .before .before .before .before .put-count-line3 .ensures in
-    let all-jobs = c .before .before .before .before .before .before .before .before .before .before .before .put-jobs .ensures in
-    let bounds = c .before .before .before .before .before .before .put-count-line4 .ensures in
+    let at-put-count-line4 = c .before .before .before .before .before .before in
+    let at-put-jobs = at-put-count-line4 .before .before .before .before .before in
+    let at-put-count-line3 = at-put-jobs .before .before .before .before in
+    let at-put-count-line2 = at-put-count-line3 .before .before .before .before .before in
+    let at-put-count-line = at-put-count-line2 .before .before .before .before .before in
+    let at-put-line = at-put-count-line .before .before .before .before .before in
+    let at-struct-told = at-put-line .before .before .before .before .before in
+    let start = at-struct-told .before .before .before in
+    let p = start .args .p in
+    let window = at-put-line .put-line .ensures in
+    let rounds = at-put-count-line .put-count-line .ensures in
+    let last = at-put-count-line2 .put-count-line2 .ensures in
+    let jobs = at-put-count-line3 .put-count-line3 .ensures in
+    let all-jobs = at-put-jobs .put-jobs .ensures in
+    let bounds = at-put-count-line4 .put-count-line4 .ensures in
     let all-bounds = c .before .before .put-bounds .ensures in (
       stored-keyed-narrow
           (bytes "window=")
-          (told-fits w32 (p .window) (c .before .before .before .before .before .before .before .before .before .before .before .before .before .before .before .before .before .before .before .before .before .before .before .before .before .before .before .before .before .before .before .before .before .before .before .struct-told .given .0 .1))
+          (told-fits w32 (p .window) (at-struct-told .struct-told .given .0 .1))
           (window .0)
           (stored-keyed
           (bytes "rounds=")

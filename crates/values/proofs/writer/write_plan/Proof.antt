@@ -1,4 +1,5 @@
--- `write_plan`: a plan that is judged good is written as its text is (`writtenPlan-accepted`), and one that is judged bad is refused by its own refusal (`writtenPlan-refused`).
+-- `write_plan`: a plan that is judged good is written as its text is (`writtenPlan-accepted`), and one that is judged bad is refused by its own refusal
+-- (`writtenPlan-refused`).
 use denote.Ref.{now}
 use Rattle.values.specs.WritingLaws.{writtenPlan-refused, writtenPlan-accepted}
 use borrow.Author.Needs.{needs}
@@ -22,9 +23,12 @@ same-length c = search needs
 
 returns : tie.Need-returns
 returns c =
-    let s = c .before .before .before .before .before .before .before .before in
-    let j = c .before .before .before .before .before .before .judge-plan in
-    writtenPlan-accepted (s .args .p) (now (s .args .out)) (j .result) (j .ensures .0) (c .before .before .before .before .enum-told .given .1) (c .before .before .write-text .ensures)
+    let at-enum-told = c .before .before .before .before in
+    let at-judge-plan = at-enum-told .before .before in
+    let s = at-judge-plan .before .before in
+    let j = at-judge-plan .judge-plan in
+    writtenPlan-accepted (s .args .p) (now (s .args .out)) (j .result) (j .ensures .0) (at-enum-told .enum-told .given .1)
+    (c .before .before .write-text .ensures)
 
 returns-2 : tie.Need-returns-2
 returns-2 c =

@@ -32,7 +32,9 @@ same-length-2 c = search needs
 
 returns-2 : tie.Need-returns-2
 returns-2 c =
-    let d = measured-whole (c .before .before .before .before .before .before .before .put-plan .ensures .0) (omega arith) (c .before .before .before .before .if1 .left) (c .before .before .put-plan2 .ensures .0) in
+    let at-if1 = c .before .before .before .before in
+    let at-put-plan = at-if1 .before .before .before in
+    let d = measured-whole (at-put-plan .put-plan .ensures .0) (omega arith) (at-if1 .if1 .left) (c .before .before .put-plan2 .ensures .0) in
     (d .answer, d .bytes)
 
 pub write-text-spec : {M : Type 1} → statement M
