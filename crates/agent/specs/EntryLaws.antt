@@ -8,6 +8,7 @@ use native.Mathlib.Omega.{arith}
 use lib.IntN.{ℤ, pos, negℤ}
 use lib.ListN.{length}
 use borrow.Author.Tests.{leb-true}
+use Rattle.whole.specs.Clash.{clash}
 use Rattle.text.specs.Lent.{hasRoom}
 use Rattle.lines.specs.declared.Refusal.{Refusal}
 use Rattle.lines.specs.declared.Refusal.the-variants.{NoRoom}
@@ -44,14 +45,14 @@ module _ (s out : List ℕ) {r : Written} (d : r ≡ sessionAnswer s out) where
           let is : n ≡ whole = cc in
           let room = leb-true whole (length out) h in
           record { room = omega arith; answer = ap pos is ∙ sym (ap by-room h) }
-      of false h f = absurd (let z : _≡_ {A = ℕ} 0 1 = cc in omega arith)
+      of false h f = clash (cc)
 
   pub entry-refused : (x : Refusal) (n : ℕ) → r ≡ Refused x → n ≡ number x → NoRoomTold s out n
   unfolding writtenAs entryAnswer
   entry-refused x n e q = of (hasRoom (dispatchOutput s) out) refl (sym e ∙ d)
     where
       of : (b : Bool) → hasRoom (dispatchOutput s) out ≡ b → Refused x ≡ cond b (Length whole) (Refused NoRoom) → NoRoomTold s out n
-      of true h f = absurd (let z : _≡_ {A = ℕ} 0 1 = cc in omega arith)
+      of true h f = clash (cc)
       of false h f =
           let is : x ≡ NoRoom = cc in
           let twelve : n ≡ 12 = q ∙ ap number is in

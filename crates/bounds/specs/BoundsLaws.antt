@@ -10,6 +10,7 @@ use lib.IntN.{ℤ, pos, _+ℤ_}
 use lib.Signed.{_<ℤ_}
 use lib.ListN.{getD, length-replicate, getD-replicate}
 use borrow.Author.Tests.{eq-eqb, eqb-true}
+use Rattle.whole.specs.Clash.{clash}
 use Rattle.whole.specs.Split.{eqZ}
 use Rattle.whole.specs.Rules.{wholes}
 use Rattle.plan.specs.declared.Plan.{Plan}
@@ -121,7 +122,7 @@ module _ (p : Plan) (k : ℕ) (early late : List ℤ) (times : Times p k early l
   unfolding putBounds
   putBounds-towards [] a ws t =
       record {
-        fails = λ f. absurd (let z : _≡_ {A = ℕ} 0 1 = cc in omega arith);
+        fails = λ f. clash (cc);
         keeps = λ f.
             record {
               len = t .len;
@@ -168,7 +169,7 @@ module _ (p : Plan) (k : ℕ) (early late : List ℤ) (times : Times p k early l
   empty-towards =
       record {
         len = length-replicate cells noBound;
-        kept = λ y z h l. record { kept = λ w e. absurd (let o = noBounds-off y z (omega arith) (omega arith) in let z : _≡_ {A = ℕ} 0 1 = cc in omega arith) };
+        kept = λ y z h l. record { kept = λ w e. absurd (let o = noBounds-off y z (omega arith) (omega arith) in clash (cc)) };
         leads =
             judgedSet-ext p k _ _
             (λ y z h l.

@@ -13,6 +13,7 @@ use native.Mathlib.Omega.{arith}
 use lib.Dec.{eqb, ltb}
 use lib.ListN.{length, getD}
 use borrow.Author.Tests.{eq-eqb, ne-eqb, ltb-true, ltb-false}
+use Rattle.whole.specs.Clash.{clash}
 use Rattle.events.specs.Bits.{hasEvent, eventSet, withIf}
 use Rattle.events.specs.BitsLaws.{hasEvent-set, eventSet-fits, eventSet-more}
 use Rattle.bounds.specs.declared.Event.{Event}
@@ -89,19 +90,19 @@ at-build-past k f y z h = past-at k f y z (ltb y k) refl h
 
 pub both-true : (b c : Bool) → b && c ≡ true → (b ≡ true) × (c ≡ true)
 both-true true c h = (refl, h)
-both-true false c h = absurd (let z : _≡_ {A = ℕ} 0 1 = cc in omega arith)
+both-true false c h = clash (cc)
 
 pub either-true : (b c : Bool) → b || c ≡ true → (b ≡ true) ⊎ (c ≡ true)
 either-true true c h = inl refl
 either-true false c h = inr h
 
 pub neither-true : (b c : Bool) → b || c ≡ false → (b ≡ false) × (c ≡ false)
-neither-true true c h = absurd (let z : _≡_ {A = ℕ} 0 1 = cc in omega arith)
+neither-true true c h = clash (cc)
 neither-true false c h = (refl, h)
 
 pub anyBelow-some : (k : ℕ) (f : ℕ → Bool) → anyBelow k f ≡ true → (i : ℕ) × (i < k) × (f i ≡ true)
 unfolding anyBelow
-anyBelow-some zero f h = absurd (let z : _≡_ {A = ℕ} 0 1 = cc in omega arith)
+anyBelow-some zero f h = clash (cc)
 anyBelow-some (suc k) f h =
     ⊎-elim (λ e. (0, omega arith, e))
     (λ e. let r = anyBelow-some k (λ i. f (suc i)) e in (suc (r .0), omega arith, r .2))

@@ -11,6 +11,7 @@ use lib.IntN.{ℤ, pos, negℤ, _+ℤ_}
 use lib.Signed.{_≤ℤ_, _<ℤ_}
 use borrow.Author.Tests.{eqb-true, eqb-false, eq-eqb, ne-eqb}
 use lib.ListN.{length}
+use Rattle.whole.specs.Clash.{clash}
 use Rattle.whole.specs.Split.{eqZ}
 use Rattle.whole.specs.Rules.{wholes}
 use Rattle.plan.specs.declared.Plan.{Plan}
@@ -230,7 +231,7 @@ module _ (p : Plan) (early late : List ℤ) (s f : ℕ) (less more : ℤ) (ws : 
       subst (λ y. Stage y us → Outcome (Stage (y + 1)) (Contradicted p f made) (movedAt early late s f less more y us)) (sym same)
       (λ g.
       subst (λ r. Outcome (Stage (s + 1)) (Contradicted p f made) r) (sym (nothing-moved us g))
-      (record { fails = λ q. absurd (let z : _≡_ {A = ℕ} 0 1 = cc in omega arith); keeps = λ q. stage-start us g }))
+      (record { fails = λ q. clash (cc); keeps = λ q. stage-start us g }))
       g
   node-by y us l g false e =
       let n : y ≡ s → ⊥ = eqb-false y s e in

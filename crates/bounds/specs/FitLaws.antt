@@ -9,6 +9,7 @@ use lib.IntN.{ℤ, pos, negℤ, _+ℤ_, _-ℤ_}
 use lib.Signed.{_≤ℤ_, leZ}
 use lib.ListN.{getD}
 use borrow.Author.Tests.{ltb-true, ltb-false}
+use Rattle.whole.specs.Clash.{clash}
 use Rattle.whole.specs.SplitLaws.{split-neg}
 use Rattle.whole.specs.Rules.{whole, wholes}
 use Rattle.plan.specs.declared.Plan.{Plan}
@@ -119,8 +120,8 @@ module _ (p : Plan) (a : Accepted p) where
 not-origin : (y : ℕ) → 0 < y → eventOf y ≡ Origin → ⊥
 not-origin =
     byNode (λ y. 0 < y → eventOf y ≡ Origin → ⊥) (λ h. absurd (omega arith))
-    (λ k h e. let g = eventOf-start k in let z : _≡_ {A = ℕ} 0 1 = cc in omega arith)
-    (λ k h e. let g = eventOf-finish k in let z : _≡_ {A = ℕ} 0 1 = cc in omega arith)
+    (λ k h e. let g = eventOf-start k in clash (cc))
+    (λ k h e. let g = eventOf-finish k in clash (cc))
 
 origin-node : eventOf 0 ≡ Origin
 unfolding eventOf

@@ -16,6 +16,7 @@ use borrow.Author.Tests.{not-false}
 use mir.Syntax.{w32}
 use mir.Val.{SFits, ofZ}
 use mir.Facts.{sfits-lit}
+use Rattle.whole.specs.Clash.{clash}
 use Rattle.whole.specs.Split.{eqZ}
 use Rattle.whole.specs.SplitLaws.{bits-eqb}
 use Rattle.events.specs.declared.Events.{Events}
@@ -106,10 +107,10 @@ putAt-length early late y z v a ws =
 
 pub thenFlat-found : (r : Bool) (us : List ℤ) (f : List ℤ → Flat) → r ≡ true → thenFlat (flat r us) f ≡ flat true us
 thenFlat-found true us f e = refl
-thenFlat-found false us f e = absurd (let z : _≡_ {A = ℕ} 0 1 = cc in omega arith)
+thenFlat-found false us f e = clash (cc)
 
 pub thenFlat-next : (r : Bool) (us : List ℤ) (f : List ℤ → Flat) → r ≡ false → thenFlat (flat r us) f ≡ f us
-thenFlat-next true us f e = absurd (let z : _≡_ {A = ℕ} 0 1 = cc in omega arith)
+thenFlat-next true us f e = clash (cc)
 thenFlat-next false us f e = refl
 
 -- ---- one turn of a loop over the nodes below n
@@ -152,7 +153,7 @@ thenFlat-keeps P r f h g = kept-then P r f (r .found) refl h g
 
 outcome-then : (P Q : List ℤ → Type 0) (F : Type 0) (r : Flat) (f : List ℤ → Flat) (b : Bool) → r .found ≡ b → Outcome P F r
     → ((us : List ℤ) → P us → Outcome Q F (f us)) → Outcome Q F (cond b r (f (r .weights)))
-outcome-then P Q F r f true e o g = record { fails = λ h. o .fails e; keeps = λ h. absurd (let z : _≡_ {A = ℕ} 0 1 = cc in omega arith) }
+outcome-then P Q F r f true e o g = record { fails = λ h. o .fails e; keeps = λ h. clash (cc) }
 outcome-then P Q F r f false e o g = g (r .weights) (o .keeps e)
 
 pub thenFlat-outcome : (P Q : List ℤ → Type 0) (F : Type 0) (r : Flat) (f : List ℤ → Flat) → Outcome P F r
@@ -181,7 +182,7 @@ pub eachNode-outcome : (step : ℕ → List ℤ → Flat) (n : ℕ) (P : ℕ →
 unfolding eachNode
 eachNode-outcome step n P F each z zero e ws h =
     record {
-      fails = λ f. absurd (let z : _≡_ {A = ℕ} 0 1 = cc in omega arith);
+      fails = λ f. clash (cc);
       keeps = λ f. let last : z ≡ n = omega arith in subst (λ n. P n ws) last h;
     }
 eachNode-outcome step n P F each z (suc count) e ws h =

@@ -9,6 +9,7 @@ use lib.Dec.{eqb}
 use lib.IntN.{ℤ, pos, negℤ, _-ℤ_}
 use lib.Signed.{_≤ℤ_, ltZ, leZ}
 use borrow.Author.Tests.{eq-eqb}
+use Rattle.whole.specs.Clash.{clash}
 use Rattle.whole.specs.Rules.{whole}
 use Rattle.plan.specs.declared.Plan.{Plan}
 use Rattle.bounds.specs.declared.Event.{Event}
@@ -18,9 +19,6 @@ use Rattle.bounds.specs.declared.Judgement.the-variants.{Contradiction, 
 use Rattle.bounds.specs.Events.{jobAt, earliest, latest}
 use Rattle.bounds.specs.Judgements.{judged, atLeast, fromOrigin, apart}
 use Rattle.bounds.specs.Tables.{isContradiction}
-
-clash : {A : Type 0} → _≡_ {A = ℕ} 0 1 → A
-clash z = absurd (omega arith)
 
 -- ---- by a test
 

@@ -6,6 +6,7 @@ use mathlib.Core.Bool.{Bool, true, false}
 use mathlib.Core.List.{List}
 use native.Mathlib.Omega.{arith}
 use lib.IntN.{ℤ}
+use Rattle.whole.specs.Clash.{clash}
 use Rattle.plan.specs.declared.Plan.{Plan}
 use Rattle.bounds.specs.Events.{startNode, finishNode, nodes}
 use Rattle.bounds.specs.Tables.{Rows, Set, contradiction, bounds}
@@ -44,7 +45,7 @@ module _ (p : Plan) (k : ℕ) (t : Rows) where
 then-fit : (p : Plan) (k : ℕ) (s : Set) (u : Rows) → ((v : Rows) → s ≡ bounds v → Fit p (finishNode k) v) → thenSet s (withoutStart p k) ≡ bounds u
     → Fit p (startNode k) u
 unfolding thenSet
-then-fit p k contradiction u f e = absurd (let z : _≡_ {A = ℕ} 0 1 = cc in omega arith)
+then-fit p k contradiction u f e = clash (cc)
 then-fit p k (bounds v) u f e = withoutStart-fit p k v u (subst (λ n. Fit p n v) (finish-next k) (f v refl)) e
 
 pub withoutPlace-fit : (p : Plan) (k : ℕ) (t u : Rows) → Fit p (nodes (k + 1)) t → withoutPlace p k t ≡ bounds u → Fit p (nodes k) u

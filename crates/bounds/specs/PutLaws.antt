@@ -1,13 +1,13 @@
 -- A bound put into an array that holds judged cells: the array then holds what is left of the lesser of the two, or the lesser is a contradiction.
 use Prim.Native.Nat.{ℕ, _<_}
 use mathlib.Core.Path.{_≡_, refl, sym, ap, subst, _∙_}
-use mathlib.Core.Bool.{Bool, true, false, cond}
+use mathlib.Core.Bool.{Bool, true, false, cond, true≢false}
 use mathlib.Core.List.{List}
-use native.Mathlib.Omega.{arith}
 use lib.IntN.{ℤ, pos, _+ℤ_}
 use lib.Signed.{leZ, _<ℤ_}
 use lib.ListN.{length}
 use lib.Seq.{getD-set-same}
+use Rattle.whole.specs.Clash.{clash}
 use Rattle.whole.specs.Split.{eqZ}
 use Rattle.whole.specs.Rules.{whole}
 use Rattle.plan.specs.declared.Plan.{Plan}
@@ -36,7 +36,7 @@ mark-of-off w h = by (eqZ w noBound) refl
   where
     by : (b : Bool) → eqZ w noBound ≡ b → b ≡ true
     by true e = refl
-    by false e = absurd (let on = cellOf-on w e in let z : _≡_ {A = ℕ} 0 1 = cc in omega arith)
+    by false e = absurd (let on = cellOf-on w e in clash (cc))
 
 pub below-on : (w : ℤ) → w <ℤ noBound → eqZ w noBound ≡ false
 below-on w h = no (eqZ w noBound) refl
@@ -44,9 +44,6 @@ below-on w h = no (eqZ w noBound) refl
     no : (b : Bool) → eqZ w noBound ≡ b → b ≡ false
     no true e = absurd (let same : w ≡ noBound = omega whole in omega whole)
     no false e = refl
-
-clash : true ≡ false → ⊥
-clash e = let z : _≡_ {A = ℕ} 0 1 = cc in omega arith
 
 -- the lesser of a weight in the array and a bound w
 least-lower : (u w : ℤ) (b : Bool) → eqZ u noBound ≡ b → leZ u w ≡ false → least (cellOf u) (upto w) ≡ upto w
@@ -73,16 +70,16 @@ module _ (p : Plan) (early late : List ℤ) (y z : ℕ) (ws : List ℤ)
   stays : (c : Cell) → c ≡ cellAt ws y z → Left c (flat false ws)
   stays c e =
       record {
-        fails = λ f. absurd (clash (sym f));
+        fails = λ f. absurd (true≢false (sym f));
         keeps = λ f. subst (λ c. JudgedCell p y z c (cellAt ws y z)) (sym e) (judged-again p y z (cellAt ws y z) kept);
       }
 
   lands : (w : ℤ) → w <ℤ noBound → (j : Judgement) → judged p (eventOf y) (eventOf z) w ≡ j → Left (upto w) (stored j (place y z) w ws)
   unfolding judgement
-  lands w h Contradiction e = record { fails = λ f. ap isContradiction e; keeps = λ f. absurd (clash f) }
+  lands w h Contradiction e = record { fails = λ f. ap isContradiction e; keeps = λ f. absurd (true≢false f) }
   lands w h LeftOut e =
       record {
-        fails = λ f. absurd (clash (sym f));
+        fails = λ f. absurd (true≢false (sym f));
         keeps =
             λ f.
             record {
@@ -95,7 +92,7 @@ module _ (p : Plan) (early late : List ℤ) (y z : ℕ) (ws : List ℤ)
       }
   lands w h Kept e =
       record {
-        fails = λ f. absurd (clash (sym f));
+        fails = λ f. absurd (true≢false (sym f));
         keeps =
             λ f.
             record {

@@ -12,6 +12,7 @@ use lib.Signed.{_≤ℤ_, _<ℤ_}
 use lib.Dec.{ltb}
 use borrow.Author.Tests.{ltb-true, ltb-false}
 use lib.ListN.{length, getD}
+use Rattle.whole.specs.Clash.{clash}
 use Rattle.whole.specs.Split.{eqZ}
 use Rattle.whole.specs.Rules.{wholes}
 use Rattle.plan.specs.declared.Plan.{Plan}
@@ -148,7 +149,7 @@ module _ (p : Plan) (early late : List ℤ) (s : ℕ) (ws : List ℤ)
 
   row-by : (y : ℕ) (us : List ℤ) → y < s → Stage (place y 0) us → (b : Bool) → eqZ (weightAt ws y s) noBound ≡ b
       → Outcome (Stage (place (y + 1) 0)) (Contradicted p s made) (cond b (flat false us) (joinedCells early late s y (weightAt ws y s) us))
-  row-by y us h g true e = record { fails = λ f. absurd (let z : _≡_ {A = ℕ} 0 1 = cc in omega arith); keeps = λ f. row-none y us h e g }
+  row-by y us h g true e = record { fails = λ f. clash (cc); keeps = λ f. row-none y us h e g }
   row-by y us h g false e =
       let o = eachNode-outcome (joinedAt early late s y (weightAt ws y s)) s (λ z us. Stage (place y z) us) (Contradicted p s made)
       (λ z us l g. cell-stage y h e z us l g)

@@ -6,6 +6,7 @@ use mathlib.Core.Bool.{Bool, true, false, cond, _||_}
 use mathlib.Core.List.{_∷_}
 use native.Mathlib.Omega.{arith}
 use lib.IntN.{ℤ, _+ℤ_}
+use Rattle.whole.specs.Clash.{clash}
 use Rattle.whole.specs.Rules.{wholes}
 use Rattle.plan.specs.declared.Plan.{Plan}
 use Rattle.bounds.specs.declared.Judgement.{Judgement}
@@ -113,13 +114,13 @@ judged-again p y z off k = record { sound = refl; left = refl }
 judged-again p y z (upto w) k = record { sound = rw (k .kept w refl); left = rw (k .kept w refl) }
 
 kept-only : (j : Judgement) (c : Cell) (w : ℤ) → keptCell j c ≡ upto w → (j ≡ Kept) × (c ≡ upto w)
-kept-only Contradiction c w e = absurd (let z : _≡_ {A = ℕ} 0 1 = cc in omega arith)
-kept-only LeftOut c w e = absurd (let z : _≡_ {A = ℕ} 0 1 = cc in omega arith)
+kept-only Contradiction c w e = clash (cc)
+kept-only LeftOut c w e = clash (cc)
 kept-only Kept c w e = (refl, e)
 
 kept-of : (p : Plan) (y z : ℕ) (c : Cell) (w : ℤ) → keptCell (judgement p y z c) c ≡ upto w → judged p (eventOf y) (eventOf z) w ≡ Kept
 unfolding judgement
-kept-of p y z off w e = absurd (let z : _≡_ {A = ℕ} 0 1 = cc in omega arith)
+kept-of p y z off w e = clash (cc)
 kept-of p y z (upto v) w e =
     let r = kept-only (judged p (eventOf y) (eventOf z) v) (upto v) w e in
     let same : v ≡ w = let q = r .1 in cc in
@@ -162,7 +163,7 @@ unfolding judgedSet
 judgedSet-ext p k f g h = ap (judgedRows p k) (build-ext k f g h)
 
 set-back : (b : Bool) (t u : Rows) → cond b contradiction (bounds t) ≡ bounds u → (b ≡ false) × (t ≡ u)
-set-back true t u h = absurd (let z : _≡_ {A = ℕ} 0 1 = cc in omega arith)
+set-back true t u h = clash (cc)
 set-back false t u h = (refl, cc)
 
 -- what stands in a judged set

@@ -10,6 +10,7 @@ use lib.IntN.{ℤ, pos, _+ℤ_}
 use lib.Signed.{_<ℤ_, leZ}
 use lib.ListN.{length}
 use borrow.Author.Tests.{eqb-true, eqb-false}
+use Rattle.whole.specs.Clash.{clash}
 use Rattle.whole.specs.Split.{eqZ}
 use Rattle.whole.specs.Rules.{whole}
 use Rattle.plan.specs.declared.Plan.{Plan}
@@ -135,7 +136,7 @@ beside-none p y z w (upto v) h = by (leZ w v) refl
 left-does-by : (p : Plan) (y z : ℕ) (w : ℤ) (e : Cell) (j : Judgement) → judged p (eventOf y) (eventOf z) w ≡ j → isContradiction j ≡ false
     → SameLeft p y z (least (upto w) e) (least (keptCell j (upto w)) e)
 unfolding least
-left-does-by p y z w e Contradiction h s = absurd (let z : _≡_ {A = ℕ} 0 1 = cc in omega arith)
+left-does-by p y z w e Contradiction h s = clash (cc)
 left-does-by p y z w e LeftOut h s = beside-left-out p y z w e h
 left-does-by p y z w e Kept h s = same-left p y z refl
 
@@ -151,12 +152,12 @@ left-does p y z {c} e j = subst (λ d. SameLeft p y z (least c e) (least d e)) (
 none-by : (p : Plan) (y z : ℕ) (w : ℤ) (e : Cell) (j : Judgement) → judged p (eventOf y) (eventOf z) w ≡ j → isContradiction j ≡ true
     → isContradiction (judgement p y z (least (upto w) e)) ≡ true
 none-by p y z w e Contradiction h s = beside-none p y z w e h
-none-by p y z w e LeftOut h s = absurd (let z : _≡_ {A = ℕ} 0 1 = cc in omega arith)
-none-by p y z w e Kept h s = absurd (let z : _≡_ {A = ℕ} 0 1 = cc in omega arith)
+none-by p y z w e LeftOut h s = clash (cc)
+none-by p y z w e Kept h s = clash (cc)
 
 pub none-stays : (p : Plan) (y z : ℕ) (c e : Cell) → isContradiction (judgement p y z c) ≡ true → isContradiction (judgement p y z (least c e)) ≡ true
 unfolding judgement
-none-stays p y z off e s = absurd (let z : _≡_ {A = ℕ} 0 1 = cc in omega arith)
+none-stays p y z off e s = clash (cc)
 none-stays p y z (upto w) e s = none-by p y z w e (judged p (eventOf y) (eventOf z) w) refl s
 
 -- ---- at one place, or at another

@@ -6,7 +6,7 @@
 use Prim.Native.Nat.{ℕ}
 use mathlib.Core.Path.{_≡_, refl, sym, ap, _∙_}
 use mathlib.Core.List.{List}
-use native.Mathlib.Omega.{arith}
+use Rattle.whole.specs.Clash.{clash}
 use Rattle.plan.specs.declared.Plan.{Plan}
 use Rattle.plan.specs.declared.PlanRead.{PlanRead}
 use Rattle.lines.specs.declared.TextAnswer.the-variants as planAnswer
@@ -49,14 +49,14 @@ module _ (p : Plan) (v : Verdict) (e : v ≡ verdict p) where
     where
       of : (o : Outcome) → outcome p ≡ o → Settled m ≡ verdictOf p o → SettledIn p m
       of (settled k t) h f = let g : m ≡ k = cc in record { set = t; is = h ∙ ap (λ (n : ℕ). settled n t) (sym g) }
-      of (noStrategy K) h f = absurd (let z : _≡_ {A = ℕ} 0 1 = cc in omega arith)
-      of unsettled h f = absurd (let z : _≡_ {A = ℕ} 0 1 = cc in omega arith)
+      of (noStrategy K) h f = clash (cc)
+      of unsettled h f = clash (cc)
 
   pub made-refused : (K : ℕ) → v ≡ NoStrategy K → noCalendar p ≡ madeCalendar p (outcome p)
   made-refused K d = of (outcome p) (sym d ∙ e)
     where
       of : (o : Outcome) → NoStrategy K ≡ verdictOf p o → noCalendar p ≡ madeCalendar p o
-      of (settled k t) f = absurd (let z : _≡_ {A = ℕ} 0 1 = cc in omega arith)
+      of (settled k t) f = clash (cc)
       of (noStrategy k) f = refl
       of unsettled f = refl
 
@@ -64,7 +64,7 @@ module _ (p : Plan) (v : Verdict) (e : v ≡ verdict p) where
   made-unsettled rounds d = of (outcome p) (sym d ∙ e)
     where
       of : (o : Outcome) → Unsettled rounds ≡ verdictOf p o → noCalendar p ≡ madeCalendar p o
-      of (settled k t) f = absurd (let z : _≡_ {A = ℕ} 0 1 = cc in omega arith)
+      of (settled k t) f = clash (cc)
       of (noStrategy k) f = refl
       of unsettled f = refl
 

@@ -17,6 +17,7 @@ use lib.Seq.{sets}
 use mir.Syntax.{w32}
 use mir.Val.{SFits, ofZ}
 use mir.Facts.{sfits-lit}
+use Rattle.whole.specs.Clash.{clash}
 use Rattle.whole.specs.Split.{eqZ}
 use Rattle.whole.specs.SplitLaws.{bits-eqb}
 use Rattle.clock.specs.declared.WindowTime.{WindowTime}
@@ -100,7 +101,7 @@ module _ (side : Side) (ws : List ℤ) (count e : ℕ) (w : ℤ) (read : w ≡ w
 
 -- a cell with a bound has that bound's weight
 held-weight : (w : ℤ) (b : Bool) → eqZ w noBound ≡ b → (v : ℤ) → cellOf w ≡ upto v → weight (cellOf w) ≡ w
-held-weight w true e v h = absurd (let none = cellOf-mark w e in let z : _≡_ {A = ℕ} 0 1 = cc in omega arith)
+held-weight w true e v h = absurd (let none = cellOf-mark w e in clash (cc))
 held-weight w false e v h = ap weight (cellOf-on w e)
 
 module _ (p : Plan) (a : Accepted p) (i : ℕ) (job : i < p .jobs) (ws : List ℤ)

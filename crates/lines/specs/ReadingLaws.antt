@@ -5,9 +5,9 @@ use mathlib.Core.Path.{_≡_, refl, sym, _∙_, ap}
 use mathlib.Core.Bool.{Bool, true, false, cond}
 use mathlib.Core.List.{List, _∷_, _++_, append-assoc}
 use Prim.Native.Nat.{ℕ, suc, _≤_}
-use native.Mathlib.Omega.{arith}
 use lib.IntN.{ℤ, pos, negsuc, natAbs}
 use lib.Signed.{_≤ℤ_}
+use Rattle.whole.specs.Clash.{clash}
 use Rattle.whole.specs.Rules.{whole}
 use Rattle.text.specs.LineLaws.{has-split}
 use Rattle.text.specs.NumberLaws.{numberAfter-value}
@@ -36,7 +36,7 @@ _>>=_ a f = f a
 pub next-then : {A B : Type 0} (m : Reading A) (f : A → Reader B) {b : B} {t : List ℕ} {k : ℕ} → next m f ≡ read b t k → Then (λ a r i. m ≡ read a r i) f b t k
 unfolding next
 next-then (read a s n) f e = record { got = a; left = s; line = n; told = refl; more = e }
-next-then (refused r s) f e = absurd (let z : _≡_ {A = ℕ} 0 1 = cc in omega arith)
+next-then (refused r s) f e = clash (cc)
 
 pub next-of : {A B : Type 0} {m : Reading A} (f : A → Reader B) {a : A} {r : List ℕ} {i : ℕ} {x : Reading B} → m ≡ read a r i → f a r i ≡ x → next m f ≡ x
 unfolding next
@@ -56,11 +56,11 @@ line-read {A} f s n {a} {t} {k} e = by-end (has LF s) refl e
   where
     by-value : (v : Lined A) → f (before LF s) ≡ v → has LF s ≡ true → lined v s n ≡ read a t k → LineRead f s n a t k
     by-value (value b) h g d = record { ended = g; held = h ∙ ap value (cc); rest = cc; number = cc }
-    by-value (bad b) h g d = absurd (let z : _≡_ {A = ℕ} 0 1 = cc in omega arith)
+    by-value (bad b) h g d = clash (cc)
 
     by-end : (b : Bool) → has LF s ≡ b → lined (cond b (f (before LF s)) (bad fault.Form)) s n ≡ read a t k → LineRead f s n a t k
     by-end true g d = by-value (f (before LF s)) refl g d
-    by-end false g d = absurd (let z : _≡_ {A = ℕ} 0 1 = cc in omega arith)
+    by-end false g d = clash (cc)
 
 -- ---- a line that is a key and a number
 
@@ -90,7 +90,7 @@ numberLine-read key lo hi s n {z} {t} {k} e = (by-number (numberAfter key lo hi 
           most = q .0 .greatest;
           written = line-written l ∙ ap (λ (r : List ℕ). r ++ (LF ∷ t)) (q .1) ∙ append-assoc key (decimal z) (LF ∷ t);
         }
-    by-number (number.Bad f) p d = absurd (let z : _≡_ {A = ℕ} 0 1 = cc in omega arith)
+    by-number (number.Bad f) p d = clash (cc)
 
 pub numberLine-then : {B : Type 0} (key : List ℕ) (lo hi : ℤ) (s : List ℕ) (n : ℕ) (f : ℤ → Reader B) {b : B} {t : List ℕ} {k : ℕ}
     → next (numberLine key lo hi s n) f ≡ read b t k → Then (λ z r i. NumberRead key lo hi s z r) f b t k

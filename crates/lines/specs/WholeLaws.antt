@@ -10,6 +10,7 @@ use native.Mathlib.Omega.{arith}
 use lib.ListN.{length, take, drop, length-append}
 use lib.Seq.{take-all}
 use borrow.Author.Tests.{le-leb}
+use Rattle.whole.specs.Clash.{clash}
 use Rattle.text.specs.Lent.{written}
 use Rattle.lines.specs.declared.Refusal.{Refusal}
 use Rattle.lines.specs.declared.Refusal.the-variants as refusal
@@ -33,7 +34,7 @@ module _ (t out : List ℕ) (room : length t ≤ length out) {r : Written} (e : 
       (is, (whole, omega (arith, ap length whole, length-append t (drop (length t) out))))
 
   pub answered-never : {x : Refusal} {A : Type 0} → r ≡ Refused x → A
-  answered-never f = let g = sym f ∙ answered in absurd (let z : _≡_ {A = ℕ} 0 1 = cc in omega arith)
+  answered-never f = let g = sym f ∙ answered in clash (cc)
 
 -- what was written as one text was written as any text that equals it
 whole-as : (out : List ℕ) {t u o : List ℕ} {n : ℕ} → t ≡ u

@@ -10,6 +10,7 @@ use mathlib.Core.List.{List, [], _∷_, _++_, append-assoc}
 use native.Mathlib.Omega.{arith}
 use lib.ListN.{length, take, length-take}
 use borrow.Author.Tests.{le-leb, lt-leb, leb-true}
+use Rattle.whole.specs.Clash.{clash}
 use Rattle.text.specs.Lent.{hasRoom, written, Stored}
 use Rattle.text.specs.LentLaws.{put-length, put-written, stored-append}
 use Rattle.text.specs.Bytes.{bytes}
@@ -93,7 +94,7 @@ written-counts t out out′ {r} {m} e k d = of (hasRoom t out) refl (sym d ∙ e
         let g : m ≡ length t = cc in
         let room : m ≤ length out′ = omega (arith, leb-true (length t) (length out) h) in
         (room, omega (arith, length-take m out′))
-    of false h f = absurd (let z : _≡_ {A = ℕ} 0 1 = cc in omega arith)
+    of false h f = clash (cc)
 
 -- ---- the line of a refusal, stored part by part
 

@@ -11,6 +11,7 @@ use borrow.Author.Tests.{lt-ltb, le-ltb, ltb-true}
 use lib.ListN.{length, take, drop, length-drop}
 use lib.Seq.{drop-drop}
 use native.Mathlib.Nat.{add-assoc}
+use Rattle.whole.specs.Clash.{clash}
 use Rattle.text.specs.Bytes.{bytes}
 use Rattle.text.specs.Lines.{comma, lenTo, before, has, after, afterKey, hasKey}
 use Rattle.text.specs.LineLaws.{hasKey-true, hasKey-false, hasKey-fits}
@@ -65,13 +66,13 @@ module _ (l : List ℕ) (at : ℕ) where
     where
       by-name : (o : Option EventName) → lenTo comma (drop at l) < length (drop at l) → partNamed (at + lenTo comma (drop at l) + 1) o ≡ namePart.Value e k
           → k ≤ length l
-      by-name none g d = absurd (let z : _≡_ {A = ℕ} 0 1 = cc in omega arith)
+      by-name none g d = clash (cc)
       by-name (some f) g d = let q : at + lenTo comma (drop at l) + 1 ≡ k = cc in omega (arith, length-drop at l)
 
       by-comma : (b : Bool) → has comma (drop at l) ≡ b
           → cond b (partNamed (at + lenTo comma (drop at l) + 1) (eventName (before comma (drop at l)))) namePart.Bad ≡ namePart.Value e k → k ≤ length l
       by-comma true g d = by-name (eventName (before comma (drop at l))) (ltb-true (lenTo comma (drop at l)) (length (drop at l)) g) d
-      by-comma false g d = absurd (let z : _≡_ {A = ℕ} 0 1 = cc in omega arith)
+      by-comma false g d = clash (cc)
 
 -- ---- the line's parts
 
@@ -152,15 +153,15 @@ namesIn-fits l {a} {b} {at} e = by-key (hasKey (bytes "bound=") l) refl e
   where
     by-second : (x : EventName) (k : ℕ) → k ≤ length l → (m : NamePart) → nameTo l k ≡ m → withSecond x m ≡ boundNames.Value a b at → at ≤ length l
     by-second x k h (namePart.Value y i) p d = let q : i ≡ at = cc in subst (λ n. n ≤ length l) q (nameTo-fits l k h p)
-    by-second x k h namePart.Bad p d = absurd (let z : _≡_ {A = ℕ} 0 1 = cc in omega arith)
+    by-second x k h namePart.Bad p d = clash (cc)
 
     by-first : 6 ≤ length l → (m : NamePart) → nameTo l 6 ≡ m → withFirst l m ≡ boundNames.Value a b at → at ≤ length l
     by-first h (namePart.Value x k) p d = by-second x k (nameTo-fits l 6 h p) (nameTo l k) refl d
-    by-first h namePart.Bad p d = absurd (let z : _≡_ {A = ℕ} 0 1 = cc in omega arith)
+    by-first h namePart.Bad p d = clash (cc)
 
     by-key : (t : Bool) → hasKey (bytes "bound=") l ≡ t → cond t (withFirst l (nameTo l 6)) boundNames.Bad ≡ boundNames.Value a b at → at ≤ length l
     by-key true h d = by-first (hasKey-fits (bytes "bound=") l h) (nameTo l 6) refl d
-    by-key false h d = absurd (let z : _≡_ {A = ℕ} 0 1 = cc in omega arith)
+    by-key false h d = clash (cc)
 
 module _ (jobs : ℕ) (isWrong : EventName → EventName → Bool) (l : List ℕ) where
   pub boundOf-bare : namesIn l ≡ boundNames.Bad → boundOf jobs isWrong (boundParts (afterKey (bytes "bound=") l)) ≡ boundLine.Bad fault.Form
@@ -195,7 +196,7 @@ module _ (jobs : ℕ) (isWrong : EventName → EventName → Bool) (l : List ℕ
         by-range : (t : Bool) → within leastC greatestC (numberValue c) ≡ t
             → cond t (number.Value (numberValue c)) (number.Bad numberFault.Range) ≡ number.Bad f
             → judgedBound jobs isWrong (record { a = a; b = b; c = numberValue c }) ≡ boundLine.Bad (lineLacks f)
-        by-range true h g = absurd (let z : _≡_ {A = ℕ} 0 1 = cc in omega arith)
+        by-range true h g = clash (cc)
         by-range false h g = rw (h, none-in (isJob jobs (a .job)) (isJob jobs (b .job)))
             (ap (λ (f : NumberFault). boundLine.Bad (lineLacks f)) {x = numberFault.Range} {y = f} (cc))
 

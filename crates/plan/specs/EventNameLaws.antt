@@ -9,6 +9,7 @@ use native.Mathlib.Omega.{arith}
 use borrow.Author.Tests.{eqb-true, eqb-false, eq-eqb, ne-eqb}
 use lib.Dec.{eqb}
 use lib.ListN.{length, getD}
+use Rattle.whole.specs.Clash.{clash}
 use Rattle.text.specs.Numbers.{isDigit, zeroDigit, digits}
 use Rattle.text.specs.DigitLaws.{digits-one, digits-some, digits-length-more, isDigit-of, isDigit-range}
 use Rattle.plan.specs.declared.Letter.{Letter}
@@ -64,7 +65,7 @@ letterOf-written a l e = by-tests (eqb a 116) (eqb a 110) refl refl e
     by-tests : (p q : Bool) → eqb a 116 ≡ p → eqb a 110 ≡ q → cond p (some This) (cond q (some Next) none) ≡ some l → a ≡ letterByte l
     by-tests true q h g d = eqb-true a 116 h ∙ ap letterByte {x = This} {y = l} (cc)
     by-tests false true h g d = eqb-true a 110 g ∙ ap letterByte {x = Next} {y = l} (cc)
-    by-tests false false h g d = absurd (let z : _≡_ {A = ℕ} 0 1 = cc in omega arith)
+    by-tests false false h g d = clash (cc)
 
 kindOf-written : (a : ℕ) (k : Kind) → kindOf a ≡ some k → a ≡ kindByte k
 kindOf-written a k e = by-tests (eqb a 115) (eqb a 102) refl refl e
@@ -72,10 +73,10 @@ kindOf-written a k e = by-tests (eqb a 115) (eqb a 102) refl refl e
     by-tests : (p q : Bool) → eqb a 115 ≡ p → eqb a 102 ≡ q → cond p (some Start) (cond q (some Finish) none) ≡ some k → a ≡ kindByte k
     by-tests true q h g d = eqb-true a 115 h ∙ ap kindByte {x = Start} {y = k} (cc)
     by-tests false true h g d = eqb-true a 102 g ∙ ap kindByte {x = Finish} {y = k} (cc)
-    by-tests false false h g d = absurd (let z : _≡_ {A = ℕ} 0 1 = cc in omega arith)
+    by-tests false false h g d = clash (cc)
 
 jobOf-written : (s : List ℕ) (i : ℕ) → jobOf s ≡ some i → s ≡ digits i
-jobOf-written [] i e = absurd (let z : _≡_ {A = ℕ} 0 1 = cc in omega arith)
+jobOf-written [] i e = clash (cc)
 jobOf-written (b ∷ []) i e = by-test (isDigit b) refl e
   where
     by-test : (p : Bool) → isDigit b ≡ p → cond p (some (b - zeroDigit)) none ≡ some i → b ∷ [] ≡ digits i
@@ -84,20 +85,20 @@ jobOf-written (b ∷ []) i e = by-test (isDigit b) refl e
         let r = isDigit-range b h in
         let same : b ≡ zeroDigit + i = omega arith in
         ap (λ (x : ℕ). x ∷ []) same ∙ sym (digits-one i (omega arith))
-    by-test false h d = absurd (let z : _≡_ {A = ℕ} 0 1 = cc in omega arith)
-jobOf-written (b ∷ c ∷ s) i e = absurd (let z : _≡_ {A = ℕ} 0 1 = cc in omega arith)
+    by-test false h d = clash (cc)
+jobOf-written (b ∷ c ∷ s) i e = clash (cc)
 
 pub eventName-written : (s : List ℕ) (e : EventName) → eventName s ≡ some e → s ≡ nameBytes e
 unfolding eventName
-eventName-written [] e h = absurd (let z : _≡_ {A = ℕ} 0 1 = cc in omega arith)
-eventName-written (a ∷ []) e h = absurd (let z : _≡_ {A = ℕ} 0 1 = cc in omega arith)
+eventName-written [] e h = clash (cc)
+eventName-written (a ∷ []) e h = clash (cc)
 eventName-written (a ∷ b ∷ s) e h = by-parts (letterOf a) (kindOf b) (jobOf s) refl refl refl h
   where
     by-parts : (l : Option Letter) (k : Option Kind) (i : Option ℕ) → letterOf a ≡ l → kindOf b ≡ k → jobOf s ≡ i → nameOf l k i ≡ some e
         → a ∷ b ∷ s ≡ nameBytes e
-    by-parts none k i p q r d = absurd (let z : _≡_ {A = ℕ} 0 1 = cc in omega arith)
-    by-parts (some l) none i p q r d = absurd (let z : _≡_ {A = ℕ} 0 1 = cc in omega arith)
-    by-parts (some l) (some k) none p q r d = absurd (let z : _≡_ {A = ℕ} 0 1 = cc in omega arith)
+    by-parts none k i p q r d = clash (cc)
+    by-parts (some l) none i p q r d = clash (cc)
+    by-parts (some l) (some k) none p q r d = clash (cc)
     by-parts (some l) (some k) (some i) p q r d =
         let v : _≡_ {A = EventName} (record { letter = l; kind = k; job = i }) e = cc in
         subst (λ x. a ∷ b ∷ s ≡ nameBytes x) v (cc (letterOf-written a l p, kindOf-written b k q, jobOf-written s i r))

@@ -10,6 +10,7 @@ use borrow.Author.Tests.{le-leb, lt-leb}
 use lib.IntN.{ℤ, pos, natAbs}
 use lib.ListN.{length, drop, length-drop, length-append}
 use lib.Seq.{drop-length}
+use Rattle.whole.specs.Clash.{clash}
 use Rattle.plan.specs.Limits.{mostBounds}
 use Rattle.text.specs.Bytes.{bytes}
 use Rattle.lines.specs.declared.Refusal.{Refusal}
@@ -87,14 +88,14 @@ module _ (s : List ℕ) {m : Reading Plan} (tail : Tail s (leaves m)) (r : PlanR
       of (read p t n) h e =
           subst (λ (r : PlanRead). read p t n ≡ read (r .plan) (drop (r .at) s) (r .line)) (sym e)
           (ap (λ (u : List ℕ). read p u n) (sym (tail-place h)))
-      of (refused x t) h e = absurd (let f : r .answer ≡ Refused x = ap (λ (r : PlanRead). r .answer) e in let z : _≡_ {A = ℕ} 0 1 = cc in omega arith)
+      of (refused x t) h e = absurd (let f : r .answer ≡ Refused x = ap (λ (r : PlanRead). r .answer) e in clash (cc))
 
   pub planRead-fault : (x : Refusal) → r .answer ≡ Refused x → m ≡ refused x (drop (r .at) s)
   unfolding planRead
   planRead-fault x q = of m tail d
     where
       of : (m : Reading Plan) → Tail s (leaves m) → r ≡ planRead s m → m ≡ refused x (drop (r .at) s)
-      of (read p t n) h e = absurd (let f : r .answer ≡ Accepted = ap (λ (r : PlanRead). r .answer) e in let z : _≡_ {A = ℕ} 0 1 = cc in omega arith)
+      of (read p t n) h e = absurd (let f : r .answer ≡ Accepted = ap (λ (r : PlanRead). r .answer) e in clash (cc))
       of (refused y t) h e =
           let f : r .answer ≡ Refused y = ap (λ (r : PlanRead). r .answer) e in
           let same : y ≡ x = cc in
@@ -111,7 +112,7 @@ planRead-placed s (refused x t) r e = subst (λ (r : PlanRead). r .at ≤ length
 module _ (s : List ℕ) where
   pub alone-refused : (m : Reading Plan) {x : Refusal} → planRead s m .answer ≡ Refused x → planRead s m ≡ planRead s (nothingAfter m)
   unfolding planRead nothingAfter
-  alone-refused (read p t n) e = absurd (let z : _≡_ {A = ℕ} 0 1 = cc in omega arith)
+  alone-refused (read p t n) e = clash (cc)
   alone-refused (refused r t) e = refl
 
   pub alone-more : (m : Reading Plan) → planRead s m .answer ≡ Accepted → planRead s m .at < length s → refusedRead
@@ -119,14 +120,14 @@ module _ (s : List ℕ) where
   unfolding planRead nothingAfter
   alone-more (read p [] n) e h = absurd (omega arith)
   alone-more (read p (a ∷ t) n) e h = refl
-  alone-more (refused r t) e h = absurd (let z : _≡_ {A = ℕ} 0 1 = cc in omega arith)
+  alone-more (refused r t) e h = clash (cc)
 
   pub alone-end : (m : Reading Plan) → ((p : Plan) (t : List ℕ) (n : ℕ) → m ≡ read p t n → length t ≤ length s) → planRead s m .answer ≡ Accepted
       → length s ≤ planRead s m .at → planRead s m ≡ planRead s (nothingAfter m)
   unfolding planRead nothingAfter
   alone-end (read p [] n) f e h = refl
   alone-end (read p (a ∷ t) n) f e h = absurd (omega (arith, f p (a ∷ t) n refl))
-  alone-end (refused r t) f e h = absurd (let z : _≡_ {A = ℕ} 0 1 = cc in omega arith)
+  alone-end (refused r t) f e h = clash (cc)
 
   -- a head's rest is no longer than the text
   pub planHead-rest : (p : Plan) (t : List ℕ) (n : ℕ) → planHead s ≡ read p t n → length t ≤ length s

@@ -3,9 +3,9 @@ use Prim.Native.Nat.{ℕ, zero, suc, _+_, _≤_}
 use mathlib.Core.Path.{_≡_}
 use mathlib.Core.Bool.{Bool, true, false, cond}
 use mathlib.Core.List.{List, [], _∷_, _++_}
-use native.Mathlib.Omega.{arith}
 use lib.Dec.{leb}
 use lib.ListN.{length}
+use Rattle.whole.specs.Clash.{clash}
 use Rattle.lines.specs.Refusals.{tooLong}
 use Rattle.lines.specs.Reading.{longestText, read, refused}
 use Rattle.lines.specs.CountedLaws.{Counted, then-counted, answer-counted, line-counted, count-counted}
@@ -49,4 +49,4 @@ planHead-line s {p} {t} {k} e = by-length (leb (length s) longestText) e
   where
     by-length : (b : Bool) → cond b (planLines s 1) (refused tooLong []) ≡ read p t k → k + length t ≤ 1 + length s
     by-length true d = plan-counted .counts s 1 p t k d
-    by-length false d = absurd (let z : _≡_ {A = ℕ} 0 1 = cc in omega arith)
+    by-length false d = clash (cc)

@@ -13,6 +13,7 @@ use lib.Dec.{leb}
 use lib.IntN.{ℤ, pos}
 use lib.ListN.{length, take, getD}
 use lib.Signed.{leZ}
+use Rattle.whole.specs.Clash.{clash}
 use Rattle.whole.specs.Rules.{whole}
 use Rattle.text.specs.Bytes.{bytes}
 use Rattle.text.specs.Lines.{LF, comma, before, has, after, afterKey}
@@ -148,19 +149,19 @@ boundParts-read s {q} e = by-commas (has comma s) (has comma (after comma s)) re
               ∙ ap (λ (x : List ℕ). nameBytes a ++ (comma ∷ x)) (has-split comma t p2 ∙ ap (λ (x : List ℕ). x ++ (comma ∷ after comma t))
               (eventName-written (before comma t) b p4));
         })
-    by-form a b p1 p2 p3 p4 false h d = absurd (let z : _≡_ {A = ℕ} 0 1 = cc in omega arith)
+    by-form a b p1 p2 p3 p4 false h d = clash (cc)
 
     by-names : has comma s ≡ true → has comma t ≡ true → (a b : Option EventName) → eventName (before comma s) ≡ a → eventName (before comma t) ≡ b
         → partsOf a b (after comma t) ≡ some q → PartsRead s q
-    by-names p1 p2 none b p3 p4 d = absurd (let z : _≡_ {A = ℕ} 0 1 = cc in omega arith)
-    by-names p1 p2 (some a) none p3 p4 d = absurd (let z : _≡_ {A = ℕ} 0 1 = cc in omega arith)
+    by-names p1 p2 none b p3 p4 d = clash (cc)
+    by-names p1 p2 (some a) none p3 p4 d = clash (cc)
     by-names p1 p2 (some a) (some b) p3 p4 d = by-form a b p1 p2 p3 p4 (isNumber (after comma t)) refl d
 
     by-commas : (x y : Bool) → has comma s ≡ x → has comma t ≡ y
         → cond (x && y) (partsOf (eventName (before comma s)) (eventName (before comma t)) (after comma t)) none ≡ some q → PartsRead s q
     by-commas true true p1 p2 d = by-names p1 p2 (eventName (before comma s)) (eventName (before comma t)) refl refl d
-    by-commas true false p1 p2 d = absurd (let z : _≡_ {A = ℕ} 0 1 = cc in omega arith)
-    by-commas false y p1 p2 d = absurd (let z : _≡_ {A = ℕ} 0 1 = cc in omega arith)
+    by-commas true false p1 p2 d = clash (cc)
+    by-commas false y p1 p2 d = clash (cc)
 
 pub record BoundRead (jobs : ℕ) (given : List Bound) (l : List ℕ) (d : Bound) : Type 0 where
   pub written : l ≡ boundBytes d []
@@ -172,8 +173,8 @@ isJob-range jobs i e = by-tests (leb 1 i) (leb i jobs) refl refl e
   where
     by-tests : (a b : Bool) → leb 1 i ≡ a → leb i jobs ≡ b → a && b ≡ true → (1 ≤ i) × (i ≤ jobs)
     by-tests true true p q e = (leb-true 1 i p, leb-true i jobs q)
-    by-tests true false p q e = absurd (let z : _≡_ {A = ℕ} 0 1 = cc in omega arith)
-    by-tests false b p q e = absurd (let z : _≡_ {A = ℕ} 0 1 = cc in omega arith)
+    by-tests true false p q e = clash (cc)
+    by-tests false b p q e = clash (cc)
 
 pub boundOfLine-read : (jobs : ℕ) (given : List Bound) (l : List ℕ) {d : Bound} → linedBound (boundOfLine jobs given l) ≡ value d → BoundRead jobs given l d
 unfolding linedBound boundOf boundParts
@@ -181,7 +182,7 @@ boundOfLine-read jobs given l {d} e = by-parts (boundParts (afterKey (bytes "bou
   where
     by-key : (o : Option (List ℕ)) → afterKey (bytes "bound=") l ≡ o → (q : BoundParts) → boundParts o ≡ some q
         → l ≡ boundBytes (record { a = q .a; b = q .b; c = numberValue (q .c) }) []
-    by-key none p q h = absurd (let z : _≡_ {A = ℕ} 0 1 = cc in omega arith)
+    by-key none p q h = clash (cc)
     by-key (some t) p q h =
         let r = boundParts-read t h in
         afterKey-split (bytes "bound=") l t p
@@ -194,7 +195,7 @@ boundOfLine-read jobs given l {d} e = by-parts (boundParts (afterKey (bytes "bou
         → (t : Bool) → isWrongPair (q .a) (q .b) given ≡ t
         → linedBound (cond t (boundLine.Bad fault.Pair) (boundLine.Value (record { a = q .a; b = q .b; c = numberValue (q .c) }))) ≡ value d
         → BoundRead jobs given l d
-    by-pair q p ja jb cl cm true w e = absurd (let z : _≡_ {A = ℕ} 0 1 = cc in omega arith)
+    by-pair q p ja jb cl cm true w e = clash (cc)
     by-pair q p ja jb cl cm false w e =
         let v : _≡_ {A = Bound} (record { a = q .a; b = q .b; c = numberValue (q .c) }) d = cc in
         let ra = isJob-range jobs (q .a .job) ja in
@@ -212,14 +213,14 @@ boundOfLine-read jobs given l {d} e = by-parts (boundParts (afterKey (bytes "bou
         (cond (isWrongPair (q .a) (q .b) given) (boundLine.Bad fault.Pair) (boundLine.Value (record { a = q .a; b = q .b; c = numberValue (q .c) }))))
         ≡ value d → BoundRead jobs given l d
     by-range q p true true true true p1 p2 p3 p4 e = by-pair q p p1 p2 p3 p4 (isWrongPair (q .a) (q .b) given) refl e
-    by-range q p true true true false p1 p2 p3 p4 e = absurd (let z : _≡_ {A = ℕ} 0 1 = cc in omega arith)
-    by-range q p true true false cm p1 p2 p3 p4 e = absurd (let z : _≡_ {A = ℕ} 0 1 = cc in omega arith)
-    by-range q p true false cl cm p1 p2 p3 p4 e = absurd (let z : _≡_ {A = ℕ} 0 1 = cc in omega arith)
-    by-range q p false jb cl cm p1 p2 p3 p4 e = absurd (let z : _≡_ {A = ℕ} 0 1 = cc in omega arith)
+    by-range q p true true true false p1 p2 p3 p4 e = clash (cc)
+    by-range q p true true false cm p1 p2 p3 p4 e = clash (cc)
+    by-range q p true false cl cm p1 p2 p3 p4 e = clash (cc)
+    by-range q p false jb cl cm p1 p2 p3 p4 e = clash (cc)
 
     by-parts : (o : Option BoundParts) → boundParts (afterKey (bytes "bound=") l) ≡ o → linedBound (boundOf jobs (λ a b. isWrongPair a b given) o) ≡ value d
         → BoundRead jobs given l d
-    by-parts none p e = absurd (let z : _≡_ {A = ℕ} 0 1 = cc in omega arith)
+    by-parts none p e = clash (cc)
     by-parts (some q) p e = by-range q p (isJob jobs (q .a .job)) (isJob jobs (q .b .job)) (leZ leastC (numberValue (q .c)))
         (leZ (numberValue (q .c)) greatestC) refl refl refl refl e
 
@@ -370,14 +371,14 @@ planHead-read s {p} {t} {k} e = by-length (leb (length s) longestText) refl e
     by-length : (b : Bool) → leb (length s) longestText ≡ b → cond b (planLines s 1) (refused tooLong []) ≡ read p t k
         → PlanRead s p t × (length s ≤ longestText)
     by-length true h d = (planLines-read s 1 d, leb-true (length s) longestText h)
-    by-length false h d = absurd (let z : _≡_ {A = ℕ} 0 1 = cc in omega arith)
+    by-length false h d = clash (cc)
 
 -- 'nothing after the last'
 nothingAfter-read : (m : Reading Plan) {p : Plan} {t : List ℕ} {k : ℕ} → nothingAfter m ≡ read p t k → (m ≡ read p t k) × (t ≡ [])
 unfolding nothingAfter
 nothingAfter-read (read q [] n) e = (e, cc)
-nothingAfter-read (read q (a ∷ s) n) e = absurd (let z : _≡_ {A = ℕ} 0 1 = cc in omega arith)
-nothingAfter-read (refused r s) e = absurd (let z : _≡_ {A = ℕ} 0 1 = cc in omega arith)
+nothingAfter-read (read q (a ∷ s) n) e = clash (cc)
+nothingAfter-read (refused r s) e = clash (cc)
 
 -- ---- what an accepted text tells
 

@@ -12,6 +12,7 @@ use lib.Signed.{ltZ}
 use lib.IntN.{_+ℤ_}
 use lib.ListN.{length, getD}
 use borrow.Author.Tests.{ltb-true, ltb-false}
+use Rattle.whole.specs.Clash.{clash}
 use Rattle.text.specs.Numbers.{within}
 use Rattle.clock.specs.declared.RunTime.{RunTime}
 use Rattle.plan.specs.declared.Plan.{Plan}
@@ -72,9 +73,9 @@ module _ (p : Plan) (good : Accepted p) (m : ℕ) (c : Rows) (accepted : outcome
   steps-end : (left : ℕ) (sts : List Step) (s : List ℕ) (n : ℕ) → length s ≤ left → stepLines s n ≡ refused x part
       → EndsWith (answers p (calendar p c) (afterSteps p (calendar p c) newRun sts) s n) x
   unfolding stepsWithin
-  steps-end zero sts [] n h e = absurd (let z : _≡_ {A = ℕ} 0 1 = cc in omega arith)
+  steps-end zero sts [] n h e = clash (cc)
   steps-end zero sts (b ∷ s) n h e = absurd (omega arith)
-  steps-end (suc left) sts [] n h e = absurd (let z : _≡_ {A = ℕ} 0 1 = cc in omega arith)
+  steps-end (suc left) sts [] n h e = clash (cc)
   steps-end (suc left) sts (b ∷ s) n h e = of (stepLine (b ∷ s) n) refl (λ st u k l d. steps-end left (sts ++ (st ∷ [])) u k l d)
     where
       some : 0 < length (b ∷ s)
@@ -127,7 +128,7 @@ refused-printed s x part e = of (planAlone s) e
   where
     by-outcome : (p : Plan) (u : List ℕ) (n : ℕ) (o : Outcome) → orRefused (verdictTold (verdictOf p o)) (read p u n) ≡ refused x part
         → outcomeText p o ≡ refusedLine x
-    by-outcome p u n (settled m c) f = absurd (let z : _≡_ {A = ℕ} 0 1 = cc in omega arith)
+    by-outcome p u n (settled m c) f = clash (cc)
     by-outcome p u n (noStrategy K) f = let same : refusal.NoStrategy K ≡ x = cc in ap refusedLine same
     by-outcome p u n unsettled f = let same : refusal.Unsettled (p .rounds) ≡ x = cc in ap refusedLine same
 
@@ -180,7 +181,7 @@ module _ (p : Plan) (good : Accepted p) (m : ℕ) (c : Rows) (accepted : outcome
           → StepsTaken done (b ∷ s) n
       of (refused y u) d more =
           let f = stepLines-refused (b ∷ s) n some y u d in
-          absurd (let z : _≡_ {A = ℕ} 0 1 = cc in omega arith)
+          clash (cc)
       of (read st u i) d more =
           let l = stepLine-shorter (b ∷ s) n some d in
           let rest = more st u i (omega arith) (sym (stepLines-more (b ∷ s) n some st u i d) ∙ e) in
@@ -215,9 +216,9 @@ taken-whole s t k e = of (planHead s) refl e
           lines = w .lines;
           printed = session-printed s d m c a ∙ w .is;
         }
-    by-outcome p u n d (noStrategy K) a f = absurd (let z : _≡_ {A = ℕ} 0 1 = cc in omega arith)
-    by-outcome p u n d unsettled a f = absurd (let z : _≡_ {A = ℕ} 0 1 = cc in omega arith)
+    by-outcome p u n d (noStrategy K) a f = clash (cc)
+    by-outcome p u n d unsettled a f = clash (cc)
 
     of : (m : Reading Plan) → planHead s ≡ m → next (verdictAfter m) (λ p. stepLines) ≡ read tt t k → TakenWhole s
     of (read p u n) d f = by-outcome p u n d (outcome p) refl f
-    of (refused y u) d f = absurd (let z : _≡_ {A = ℕ} 0 1 = cc in omega arith)
+    of (refused y u) d f = clash (cc)

@@ -11,6 +11,7 @@ use lib.IntN.{ℤ, pos, negℤ, _+ℤ_, _-ℤ_}
 use lib.Signed.{_≤ℤ_}
 use lib.ListN.{getD}
 use borrow.Author.Tests.{eq-eqb, ltb-true, ltb-false}
+use Rattle.whole.specs.Clash.{clash}
 use Rattle.whole.specs.SplitLaws.{split-add, split-sub, split-neg}
 use Rattle.whole.specs.Rules.{wholes}
 use Rattle.plan.specs.declared.Plan.{Plan}
@@ -256,7 +257,7 @@ module _ (p : Plan) (c0 t : Rows) (own-fit : Fit p (nodes (p .jobs)) c0) (fit : 
 then-fit : (p : Plan) (low count : ℕ) (s : Set) (u : Rows) → ((v : Rows) → s ≡ bounds v → (eliminated p low count v ≡ bounds u) → Fit p (nodes low) u)
     → thenSet s (eliminated p low count) ≡ bounds u → Fit p (nodes low) u
 unfolding thenSet
-then-fit p low count contradiction u f e = absurd (let z : _≡_ {A = ℕ} 0 1 = cc in omega arith)
+then-fit p low count contradiction u f e = clash (cc)
 then-fit p low count (bounds v) u f e = f v refl e
 
 pub eliminated-fit : (p : Plan) (low count : ℕ) (t u : Rows) → Fit p (nodes (low + count)) t → eliminated p low count t ≡ bounds u → Fit p (nodes low) u

@@ -8,6 +8,7 @@ use native.Mathlib.Omega.{arith}
 use lib.IntN.{ℤ, pos, negℤ}
 use lib.Signed.{_≤ℤ_, _<ℤ_}
 use lib.ListN.{length, take, getD}
+use Rattle.whole.specs.Clash.{clash}
 use Rattle.whole.specs.SplitLaws.{split-neg}
 use Rattle.whole.specs.Rules.{wholes}
 use Rattle.plan.specs.declared.Letter.{Letter}
@@ -60,7 +61,7 @@ placeOf-both p Next i a b = omega arith
 
 placeOf-this : (p : Plan) (l : Letter) (i : ℕ) → 1 ≤ i → i ≤ p .jobs → isNext l ≡ false → placeOf p l i < p .jobs
 placeOf-this p This i a b e = omega arith
-placeOf-this p Next i a b e = let z : _≡_ {A = ℕ} 0 1 = cc in absurd (omega arith)
+placeOf-this p Next i a b e = clash (cc)
 
 pub named-both : (p : Plan) (e : EventName) → 1 ≤ e .job → e .job ≤ p .jobs → nodeOf (named p e) < nodes (p .jobs + p .jobs)
 named-both p e a b = eventAt-node (e .kind) (placeOf p (e .letter) (e .job)) (p .jobs + p .jobs) (placeOf-both p (e .letter) (e .job) a b)
@@ -79,8 +80,8 @@ meant-this : (p : Plan) (d : Bound) → BoundAccepted (p .jobs) d → (x y : Boo
     → Named (nodes (p .jobs)) (meant p d)
 meant-this p d a false false s t e =
     record { from = named-this p (d .b) (a .b-least) (a .b-most) t; to = named-this p (d .a) (a .a-least) (a .a-most) s; low = c-low (d .c) (a .c-most) }
-meant-this p d a false true s t e = let z : _≡_ {A = ℕ} 0 1 = cc in absurd (omega arith)
-meant-this p d a true y s t e = let z : _≡_ {A = ℕ} 0 1 = cc in absurd (omega arith)
+meant-this p d a false true s t e = clash (cc)
+meant-this p d a true y s t e = clash (cc)
 
 -- ---- the given bounds
 

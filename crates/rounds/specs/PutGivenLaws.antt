@@ -9,6 +9,7 @@ use native.Mathlib.Omega.{arith}
 use lib.IntN.{ℤ, pos}
 use lib.ListN.{drop, getD, length-take, drop-of-length-le}
 use lib.Seq.{drop-cons, getD-take}
+use Rattle.whole.specs.Clash.{clash}
 use Rattle.plan.specs.declared.Bound.{Bound}
 use Rattle.plan.specs.declared.Plan.{Plan}
 use Rattle.plan.specs.PlanLines.{noBound}
@@ -38,16 +39,16 @@ module _ (p : Plan) (d : Bound) where
   pub given-due : (between n : Bool) → hasNext d ≡ n → Bool·beq n between ≡ true → givenBounds p between (d ∷ []) ≡ meant p d ∷ []
   unfolding givenBounds
   given-due true true e t = one-if true e
-  given-due true false e t = let z : _≡_ {A = ℕ} 0 1 = cc in absurd (omega arith)
-  given-due false true e t = let z : _≡_ {A = ℕ} 0 1 = cc in absurd (omega arith)
+  given-due true false e t = clash (cc)
+  given-due false true e t = clash (cc)
   given-due false false e t = one-unless false e
 
   pub given-other : (between n : Bool) → hasNext d ≡ n → Bool·beq n between ≡ false → givenBounds p between (d ∷ []) ≡ []
   unfolding givenBounds
-  given-other true true e t = let z : _≡_ {A = ℕ} 0 1 = cc in absurd (omega arith)
+  given-other true true e t = clash (cc)
   given-other true false e t = one-if false e
   given-other false true e t = one-unless true e
-  given-other false false e t = let z : _≡_ {A = ℕ} 0 1 = cc in absurd (omega arith)
+  given-other false false e t = clash (cc)
 
 -- ---- place by place
 

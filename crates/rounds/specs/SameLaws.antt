@@ -4,9 +4,9 @@ use Prim.Native.Nat.{ℕ, _<_}
 use mathlib.Core.Path.{_≡_, refl, sym, ap, ap₂, _∙_}
 use mathlib.Core.Bool.{Bool, true, false}
 use mathlib.Core.List.{List, [], _∷_}
-use native.Mathlib.Omega.{arith}
 use lib.IntN.{ℤ}
 use lib.ListN.{getD}
+use Rattle.whole.specs.Clash.{clash}
 use Rattle.whole.specs.Split.{eqZ}
 use Rattle.whole.specs.Order.{eqZ-true-iff}
 use Rattle.bounds.specs.Tables.{Cell, off, upto, Rows, listed}
@@ -19,15 +19,15 @@ use Rattle.rounds.specs.Rounds.{sameCell, sameRow, sameRows}
 pub sameCell-unique : (c d : Cell) → sameCell c d ≡ true → c ≡ d
 unfolding sameCell
 sameCell-unique off off h = refl
-sameCell-unique off (upto v) h = absurd (let z : _≡_ {A = ℕ} 0 1 = cc in omega arith)
-sameCell-unique (upto w) off h = absurd (let z : _≡_ {A = ℕ} 0 1 = cc in omega arith)
+sameCell-unique off (upto v) h = clash (cc)
+sameCell-unique (upto w) off h = clash (cc)
 sameCell-unique (upto w) (upto v) h = ap upto (eqZ-true-iff w v .0 h)
 
 pub sameRow-unique : (cs ds : List Cell) → sameRow cs ds ≡ true → cs ≡ ds
 unfolding sameRow
 sameRow-unique [] [] h = refl
-sameRow-unique [] (d ∷ ds) h = absurd (let z : _≡_ {A = ℕ} 0 1 = cc in omega arith)
-sameRow-unique (c ∷ cs) [] h = absurd (let z : _≡_ {A = ℕ} 0 1 = cc in omega arith)
+sameRow-unique [] (d ∷ ds) h = clash (cc)
+sameRow-unique (c ∷ cs) [] h = clash (cc)
 sameRow-unique (c ∷ cs) (d ∷ ds) h =
     let r = both-true (sameCell c d) (sameRow cs ds) h in
     ap₂ (λ c cs. c ∷ cs) (sameCell-unique c d (r .0)) (sameRow-unique cs ds (r .1))
@@ -35,8 +35,8 @@ sameRow-unique (c ∷ cs) (d ∷ ds) h =
 pub sameRows-unique : (t u : Rows) → sameRows t u ≡ true → t ≡ u
 unfolding sameRows
 sameRows-unique [] [] h = refl
-sameRows-unique [] (d ∷ ds) h = absurd (let z : _≡_ {A = ℕ} 0 1 = cc in omega arith)
-sameRows-unique (c ∷ cs) [] h = absurd (let z : _≡_ {A = ℕ} 0 1 = cc in omega arith)
+sameRows-unique [] (d ∷ ds) h = clash (cc)
+sameRows-unique (c ∷ cs) [] h = clash (cc)
 sameRows-unique (c ∷ cs) (d ∷ ds) h =
     let r = both-true (sameRow c d) (sameRows cs ds) h in
     ap₂ (λ c cs. c ∷ cs) (sameRow-unique c d (r .0)) (sameRows-unique cs ds (r .1))
@@ -63,8 +63,8 @@ sameRows-self (c ∷ cs) = rw (sameRow-self c, sameRows-self cs)
 -- two weights give one cell exactly if they are equal
 cellOf-by : (w v : ℤ) (b : Bool) → eqZ w noBound ≡ b → (c : Bool) → eqZ v noBound ≡ c → cellOf w ≡ cellOf v → w ≡ v
 cellOf-by w v true e true f h = let a = eqZ-true-iff w noBound .0 e in let b = eqZ-true-iff v noBound .0 f in a ∙ sym b
-cellOf-by w v true e false f h = absurd (let a = sym (cellOf-mark w e) ∙ h ∙ cellOf-on v f in let z : _≡_ {A = ℕ} 0 1 = cc in omega arith)
-cellOf-by w v false e true f h = absurd (let a = sym (cellOf-on w e) ∙ h ∙ cellOf-mark v f in let z : _≡_ {A = ℕ} 0 1 = cc in omega arith)
+cellOf-by w v true e false f h = absurd (let a = sym (cellOf-mark w e) ∙ h ∙ cellOf-on v f in clash (cc))
+cellOf-by w v false e true f h = absurd (let a = sym (cellOf-on w e) ∙ h ∙ cellOf-mark v f in clash (cc))
 cellOf-by w v false e false f h = let a : upto w ≡ upto v = sym (cellOf-on w e) ∙ h ∙ cellOf-on v f in cc
 
 pub cellOf-unique : (w v : ℤ) → cellOf w ≡ cellOf v → w ≡ v
@@ -98,6 +98,5 @@ module _ (k : ℕ) (f g : ℕ → List Cell) where
           (let same : f y ≡ g y
           = sym (getD-listed k f y [] l) ∙ ap (λ cs. getD cs y []) (sameRows-unique (listed k f) (listed k g) e) ∙ getD-listed k g y [] l in
           let self : sameRow (f y) (g y) ≡ true = ap (sameRow (f y)) (sym same) ∙ sameRow-self (f y) in
-          let z : _≡_ {A = ℕ} 0 1 = cc in
-          omega arith)
+          clash (cc))
       by false e = refl

@@ -6,6 +6,7 @@ use mathlib.Core.List.{List}
 use native.Mathlib.Omega.{arith}
 use lib.IntN.{ℤ, _-ℤ_}
 use lib.ListN.{length, length-replicate}
+use Rattle.whole.specs.Clash.{clash}
 use Rattle.whole.specs.Rules.{wholes}
 use Rattle.plan.specs.declared.Plan.{Plan}
 use Rattle.bounds.specs.Events.{nodes}
@@ -86,10 +87,10 @@ module _ (p : Plan) where
   not-settled u n = record { joins = λ m t e. absurd (n m t e); fits = λ m t e. absurd (n m t e); sound = λ m t e. absurd (n m t e) }
 
   pub none-on : (K : ℕ) (u : Rows) → outcome p ≡ noStrategy K → SettledOn p u
-  none-on K u e = not-settled u (λ m t q. let both : noStrategy K ≡ settled m t = sym e ∙ q in let z : _≡_ {A = ℕ} 0 1 = cc in omega arith)
+  none-on K u e = not-settled u (λ m t q. let both : noStrategy K ≡ settled m t = sym e ∙ q in clash (cc))
 
   pub unsettled-on : (u : Rows) → outcome p ≡ unsettled → SettledOn p u
-  unsettled-on u e = not-settled u (λ m t q. let both : unsettled ≡ settled m t = sym e ∙ q in let z : _≡_ {A = ℕ} 0 1 = cc in omega arith)
+  unsettled-on u e = not-settled u (λ m t q. let both : unsettled ≡ settled m t = sym e ∙ q in clash (cc))
 
   -- 'A contradiction in C(0) itself is K = 1.'
   pub first-none : C0 p ≡ contradiction → outcome p ≡ noStrategy 1

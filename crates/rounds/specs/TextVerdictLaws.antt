@@ -3,8 +3,8 @@
 use Prim.Native.Nat.{ℕ}
 use mathlib.Core.Path.{_≡_, ap, _∙_}
 use mathlib.Core.List.{List, []}
-use native.Mathlib.Omega.{arith}
 use lib.ListN.{drop}
+use Rattle.whole.specs.Clash.{clash}
 use Rattle.plan.specs.declared.Plan.{Plan}
 use Rattle.plan.specs.declared.PlanRead.{PlanRead}
 use Rattle.lines.specs.declared.TextAnswer.the-variants as planAnswer
@@ -22,8 +22,8 @@ use Rattle.rounds.specs.TextVerdict.{orRefused, verdictAfter}
 
 pub told-settled : (v : Verdict) (m : ℕ) → verdictTold v ≡ Settled m → v ≡ decided.Settled m
 told-settled (decided.Settled k) m e = let g : k ≡ m = cc in ap decided.Settled g
-told-settled (decided.NoStrategy K) m e = absurd (let z : _≡_ {A = ℕ} 0 1 = cc in omega arith)
-told-settled (decided.Unsettled rounds) m e = absurd (let z : _≡_ {A = ℕ} 0 1 = cc in omega arith)
+told-settled (decided.NoStrategy K) m e = clash (cc)
+told-settled (decided.Unsettled rounds) m e = clash (cc)
 
 -- ---- what the reader of a plan answered, and the verdict after it
 

@@ -11,6 +11,7 @@ use lib.Dec.{ltb}
 use lib.IntN.{ℤ, _+ℤ_}
 use lib.Signed.{_≤ℤ_, ltZ, leZ}
 use borrow.Author.Tests.{ltb-false}
+use Rattle.whole.specs.Clash.{clash}
 use Rattle.whole.specs.Rules.{wholes}
 use Rattle.text.specs.Numbers.{within}
 use Rattle.clock.specs.declared.RunTime.{RunTime}
@@ -34,10 +35,6 @@ use Rattle.runs.specs.declared.Answer.the-variants.{Offered, Started, Fi
 use Rattle.runs.specs.ValueLimits.{isTime}
 use Rattle.runs.specs.Offers.{offerAt, opened, openingAt}
 use Rattle.runs.specs.Steps.{asked, startedBy, started, finishedSince, finished, answerAt, isStep}
-
--- one constructor is not another
-clash : {A : Type 0} → _≡_ {A = ℕ} 0 1 → A
-clash e = absurd (omega arith)
 
 -- ---- between two ends
 

@@ -10,6 +10,7 @@ use lib.IntN.{ℤ, pos, negℤ, _-ℤ_}
 use lib.ListN.{length, getD, replicate, length-append}
 use lib.Pow.{pow-pos}
 use lib.Signed.{_≤ℤ_}
+use Rattle.whole.specs.Clash.{clash}
 use Rattle.whole.specs.Rules.{wholes}
 use Rattle.whole.specs.SplitLaws.{split-neg, split-sub}
 use Rattle.plan.specs.declared.Plan.{Plan}
@@ -39,14 +40,14 @@ module _ (p : Plan) (c0 : Rows) (own : Fit p (nodes (p .jobs)) c0) where
   round-fit t u fit e = of (joined p c0 t) refl e
     where
       of : (s : Set) → joined p c0 t ≡ s → thenSet s (eliminated p (p .jobs) (p .jobs)) ≡ bounds u → Fit p (nodes (p .jobs)) u
-      of contradiction d f = absurd (let z : _≡_ {A = ℕ} 0 1 = cc in omega arith)
+      of contradiction d f = clash (cc)
       of (bounds v) d f = eliminated-fit p (p .jobs) (p .jobs) v u (joined-fit p c0 t own fit v d) f
 
   after-round : (k m : ℕ) (v t : Rows) (s : Set) (later : Rows → Outcome) → ((u : Rows) → s ≡ bounds u → Fit p (nodes (p .jobs)) u)
       → ((u : Rows) → Fit p (nodes (p .jobs)) u → later u ≡ settled m t → Fit p (nodes (p .jobs)) t)
       → decided p k v s later ≡ settled m t → Fit p (nodes (p .jobs)) t
   unfolding decided
-  after-round k m v t contradiction later fits goes e = absurd (let z : _≡_ {A = ℕ} 0 1 = cc in omega arith)
+  after-round k m v t contradiction later fits goes e = clash (cc)
   after-round k m v t (bounds u) later fits goes e = of (sameRows v u) e
     where
       of : (b : Bool) → cond b (settled k u) (later u) ≡ settled m t → Fit p (nodes (p .jobs)) t
@@ -55,7 +56,7 @@ module _ (p : Plan) (c0 : Rows) (own : Fit p (nodes (p .jobs)) c0) where
 
   rounds-fit : (left k m : ℕ) (v t : Rows) → Fit p (nodes (p .jobs)) v → roundsFrom p c0 k left v ≡ settled m t → Fit p (nodes (p .jobs)) t
   unfolding roundsFrom
-  rounds-fit zero k m v t fit e = absurd (let z : _≡_ {A = ℕ} 0 1 = cc in omega arith)
+  rounds-fit zero k m v t fit e = clash (cc)
   rounds-fit (suc left) k m v t fit e =
       after-round k m v t (round p c0 v) (roundsFrom p c0 (k + 1) left) (λ u d. round-fit v u fit d) (λ u g d. rounds-fit left (k + 1) m u t g d) e
 
@@ -71,7 +72,7 @@ unfolding outcome outcomeFrom
 settled-fit p m t e = of (C0 p) refl e
   where
     of : (s : Set) → C0 p ≡ s → outcomeFrom p s ≡ settled m t → SettledFit p t
-    of contradiction d f = absurd (let z : _≡_ {A = ℕ} 0 1 = cc in omega arith)
+    of contradiction d f = clash (cc)
     of (bounds c0) d f = let own = C0-fit p c0 d in record { c0 = c0; is = d; own = own; fit = rounds-fit p c0 own (p .rounds) 1 m c0 t own f }
 
 -- ---- the tables just before the starts are fit

@@ -6,9 +6,10 @@ use mathlib.Core.Bool.{Bool, true, false, not, _&&_, _||_}
 use native.Mathlib.Omega.{arith}
 use lib.Dec.{leb}
 use borrow.Author.Tests.{not-false, leb-true, leb-false}
+use Rattle.whole.specs.Clash.{clash}
 
 pub true-not-false : _≡_ {A = Bool} true false → ⊥
-true-not-false e = let z : _≡_ {A = ℕ} 0 1 = cc in omega arith
+true-not-false e = clash (cc)
 
 pub and-true : (a b : Bool) → a ≡ true → b ≡ true → (a && b) ≡ true
 and-true true b p q = q
@@ -25,10 +26,10 @@ and-right false false e = e
 
 pub and-of-true : (a b : Bool) → a ≡ true → (a && b) ≡ b
 and-of-true true b e = refl
-and-of-true false b e = let z : _≡_ {A = ℕ} 0 1 = cc in absurd (omega arith)
+and-of-true false b e = clash (cc)
 
 pub and-of-false : (a b : Bool) → a ≡ false → (a && b) ≡ false
-and-of-false true b e = let z : _≡_ {A = ℕ} 0 1 = cc in absurd (omega arith)
+and-of-false true b e = clash (cc)
 and-of-false false b e = refl
 
 pub and-with-true : (b : Bool) → (b && true) ≡ b
@@ -42,14 +43,14 @@ and-with-false false = refl
 -- a part that is denied
 pub and-not : (a b : Bool) → (a && not b) ≡ false → a ≡ true → b ≡ true
 and-not true b e h = not-false b e
-and-not false b e h = let z : _≡_ {A = ℕ} 0 1 = cc in absurd (omega arith)
+and-not false b e h = clash (cc)
 
 pub or-of-true : (a b : Bool) → a ≡ true → (a || b) ≡ true
 or-of-true true b e = refl
-or-of-true false b e = let z : _≡_ {A = ℕ} 0 1 = cc in absurd (omega arith)
+or-of-true false b e = clash (cc)
 
 pub or-of-false : (a b : Bool) → a ≡ false → (a || b) ≡ b
-or-of-false true b e = let z : _≡_ {A = ℕ} 0 1 = cc in absurd (omega arith)
+or-of-false true b e = clash (cc)
 or-of-false false b e = refl
 
 pub or-with-true : (a b : Bool) → b ≡ true → (a || b) ≡ true
@@ -58,7 +59,7 @@ or-with-true false b e = e
 
 pub or-left : (a b : Bool) → (a || b) ≡ true → b ≡ false → a ≡ true
 or-left true b e f = refl
-or-left false b e f = let z : _≡_ {A = ℕ} 0 1 = cc in absurd (omega arith)
+or-left false b e f = clash (cc)
 
 -- neither part of a joined test that fails
 pub or-neither-left : (a b : Bool) → (a || b) ≡ false → a ≡ false
@@ -66,7 +67,7 @@ or-neither-left true b e = e
 or-neither-left false b e = refl
 
 pub or-neither-right : (a b : Bool) → (a || b) ≡ false → b ≡ false
-or-neither-right true b e = let z : _≡_ {A = ℕ} 0 1 = cc in absurd (omega arith)
+or-neither-right true b e = clash (cc)
 or-neither-right false b e = e
 
 -- an event from e on is e, or comes after it

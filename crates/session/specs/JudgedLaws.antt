@@ -5,7 +5,7 @@
 use Prim.Native.Nat.{ℕ}
 use mathlib.Core.Path.{_≡_, refl, sym, ap, _∙_}
 use mathlib.Core.List.{List}
-use native.Mathlib.Omega.{arith}
+use Rattle.whole.specs.Clash.{clash}
 use Rattle.plan.specs.declared.Plan.{Plan}
 use Rattle.lines.specs.declared.Refusal.{Refusal}
 use Rattle.lines.specs.Refusals.{refusedLine}
@@ -40,8 +40,8 @@ module _ (p : Plan) (v : Verdict) (c : Calendar) (j : Judged p v c) where
     where
       of : (o : Outcome) → outcome p ≡ o → Settled m ≡ verdictOf p o → Inside p c newRun
       of (settled k t) d f = record { plan = j .accepted; calendar = j .inside k t d; run = newRun-is p (j .accepted) }
-      of (noStrategy K) d f = absurd (let z : _≡_ {A = ℕ} 0 1 = cc in omega arith)
-      of unsettled d f = absurd (let z : _≡_ {A = ℕ} 0 1 = cc in omega arith)
+      of (noStrategy K) d f = clash (cc)
+      of unsettled d f = clash (cc)
 
   -- by how its verdict is told
   module _ (s : List ℕ) (n : ℕ) (w : VerdictTold) (d : w ≡ verdictTold v) where

@@ -17,6 +17,7 @@ use lib.Signed.{leZ}
 use mir.Syntax.{w64}
 use mir.Val.{SFits, toZ, ofZ}
 use mir.Facts.{toZ-ofZ}
+use Rattle.whole.specs.Clash.{clash}
 use Rattle.whole.specs.Rules.{wholes}
 use Rattle.text.specs.Bytes.{bytes}
 use Rattle.text.specs.Lines.{nextLine, afterKey, isSome, hasKey}
@@ -138,7 +139,7 @@ module _ (s : List ℕ) (st : Step) where
   time-told f is e = of (stepTime s) refl e
     where
       of : (n : Number) → stepTime s ≡ n → timed f n ≡ Value st → TimeTold s st
-      of (number.Bad x) d h = absurd (let z : _≡_ {A = ℕ} 0 1 = cc in omega arith)
+      of (number.Bad x) d h = clash (cc)
       of (number.Value z) d h =
           let q = numberIn-value (pos 0) lastTime z s d in
           let lo : leZ (pos 0) z ≡ true = omega (wholes, q .0 .least) in
@@ -167,7 +168,7 @@ module _ (l : List ℕ) (st : Step) where
 
   after-finish : (o : Option (List ℕ)) → afterKey (bytes "finish=") l ≡ o → finishStep o ≡ Value st → StepTold l st
   unfolding finishStep bytes
-  after-finish none d e = absurd (let z : _≡_ {A = ℕ} 0 1 = cc in omega arith)
+  after-finish none d e = clash (cc)
   after-finish (some s) d e = behind-key (bytes "finish=") s 7 refl (omega arith) d (finish-told s st e)
 
   after-start : (o : Option (List ℕ)) → afterKey (bytes "start=") l ≡ o → startStep l o ≡ Value st → StepTold l st
@@ -190,9 +191,9 @@ module _ (l : List ℕ) (st : Step) where
 nothing-read : (at len : ℕ) (x : Refusal) → StepEnds at len (stepAt.Bad x)
 nothing-read at len x =
     record {
-      least = λ st next d. absurd (let z : _≡_ {A = ℕ} 0 1 = cc in omega arith);
-      most = λ st next d. absurd (let z : _≡_ {A = ℕ} 0 1 = cc in omega arith);
-      timed = λ st next d. absurd (let z : _≡_ {A = ℕ} 0 1 = cc in omega arith);
+      least = λ st next d. clash (cc);
+      most = λ st next d. clash (cc);
+      timed = λ st next d. clash (cc);
     }
 
 module _ (s : List ℕ) (at n next : ℕ) (within : at ≤ length s) (end : next ≡ nextLine s at) where

@@ -9,6 +9,7 @@ use lib.Dec.{eqb}
 use lib.IntN.{ℤ, pos, negℤ, _+ℤ_, _-ℤ_}
 use lib.Signed.{ltZ, leZ}
 use borrow.Author.Tests.{ne-eqb, eqb-true, eqb-false}
+use Rattle.whole.specs.Clash.{clash}
 use Rattle.whole.specs.Rules.{wholes}
 use Rattle.whole.specs.Shape.{any, _⊕_, _⊖_, eq, le-is}
 use Rattle.whole.specs.ShapeLaws.{reads, shows}
@@ -254,7 +255,7 @@ module _ (p : Plan) where
         let s = judgedSet-sound p K g B B-is (nextNode p (r .0)) (nextNode p (r .1)) (below (r .0) (r .2)) (below (r .1) (r .3)) in
         let t = r .4 in
         let q = ap isContradiction (judged-same (r .0) (r .1) (r .2) (r .3)) in
-        absurd (let z : _≡_ {A = ℕ} 0 1 = cc in omega arith)
+        clash (cc)
 
     pub shifted-set : (A : Rows) × (judgedSet p k f ≡ bounds A) × Shifted k (at A) (at B)
     shifted-set =

@@ -13,6 +13,7 @@ use lib.Signed.{_≤ℤ_}
 use lib.ListN.{length, getD, length-take}
 use lib.Seq.{getD-take}
 use borrow.Author.Tests.{eq-eqb, eqb-true}
+use Rattle.whole.specs.Clash.{clash}
 use Rattle.plan.specs.declared.Bound.{Bound}
 use Rattle.plan.specs.declared.Plan.{Plan}
 use Rattle.plan.specs.PlanLines.{noBound}
@@ -98,7 +99,7 @@ module _ (y z : ℕ) (x : ℤ) where
       (λ i j. r .0, r .1)
   says-first b c false e h = (
     λ i j. absurd (let t : (eqb (nodeOf (b .y)) y && eqb (nodeOf (b .z)) z) ≡ true = rw (eq-eqb (nodeOf (b .y)) y i, eq-eqb (nodeOf (b .z)) z j) in
-        let z : _≡_ {A = ℕ} 0 1 = cc in omega arith),
+        clash (cc)),
     h,
   )
 
@@ -155,10 +156,10 @@ module _ (P : Between → Type 0) where
 
   each-if : (n : Bool) (a : Between) (bs : List Between) → All P (cond n (a ∷ bs) bs) → (n ≡ true → P a) × All P bs
   each-if true a bs f = (λ e. all-first P a bs f, all-others P a bs f)
-  each-if false a bs f = (λ e. absurd (let z : _≡_ {A = ℕ} 0 1 = cc in omega arith), f)
+  each-if false a bs f = (λ e. clash (cc), f)
 
   each-unless : (n : Bool) (a : Between) (bs : List Between) → All P (cond n bs (a ∷ bs)) → (n ≡ false → P a) × All P bs
-  each-unless true a bs f = (λ e. absurd (let z : _≡_ {A = ℕ} 0 1 = cc in omega arith), f)
+  each-unless true a bs f = (λ e. clash (cc), f)
   each-unless false a bs f = (λ e. all-first P a bs f, all-others P a bs f)
 
 -- ---- the three parts of a window's own bounds

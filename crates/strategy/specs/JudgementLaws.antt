@@ -4,11 +4,11 @@
 use Prim.Native.Nat.{ℕ}
 use mathlib.Core.Path.{_≡_, refl}
 use mathlib.Core.Bool.{Bool, true, false, cond}
-use native.Mathlib.Omega.{arith}
 use lib.Dec.{eqb}
 use lib.IntN.{ℤ, pos, negℤ, _-ℤ_}
 use lib.Signed.{_≤ℤ_, _<ℤ_, ltZ, leZ}
 use borrow.Author.Tests.{eqb-true}
+use Rattle.whole.specs.Clash.{clash}
 use Rattle.whole.specs.SplitLaws.{split-neg}
 use Rattle.whole.specs.Rules.{wholes}
 use Rattle.plan.specs.declared.Plan.{Plan}
@@ -24,7 +24,7 @@ use Rattle.strategy.specs.Keeping.{when, RunsWithin, InRange, extreme}
 -- ---- the tests
 
 test-left : (limit w : ℤ) (b : Bool) → ltZ w limit ≡ b → cond b Contradiction LeftOut ≡ LeftOut → limit ≤ℤ w
-test-left limit w true e h = absurd (let z : _≡_ {A = ℕ} 0 1 = cc in omega arith)
+test-left limit w true e h = clash (cc)
 test-left limit w false e h = omega wholes
 
 atLeast-left : (limit w : ℤ) → atLeast limit w ≡ LeftOut → limit ≤ℤ w
@@ -32,31 +32,31 @@ atLeast-left limit w h = test-left limit w (ltZ w limit) refl h
 
 test-never : (limit w : ℤ) (b : Bool) → ltZ w limit ≡ b → cond b Contradiction LeftOut ≡ Contradiction → w <ℤ limit
 test-never limit w true e h = omega wholes
-test-never limit w false e h = absurd (let z : _≡_ {A = ℕ} 0 1 = cc in omega arith)
+test-never limit w false e h = clash (cc)
 
 atLeast-never : (limit w : ℤ) → atLeast limit w ≡ Contradiction → w <ℤ limit
 atLeast-never limit w h = test-never limit w (ltZ w limit) refl h
 
 origin-left : (b : Bool) → cond b Contradiction Kept ≡ LeftOut → ⊥
-origin-left true h = let z : _≡_ {A = ℕ} 0 1 = cc in omega arith
-origin-left false h = let z : _≡_ {A = ℕ} 0 1 = cc in omega arith
+origin-left true h = clash (cc)
+origin-left false h = clash (cc)
 
 pub judgedOrigin-left : (p : Plan) (y z : Event) (w : ℤ) → judgedOrigin p y z w ≡ LeftOut → ⊥
 judgedOrigin-left p y z w h = origin-left (ltZ w (earliest p z -ℤ latest p y)) h
 
 origin-never : (limit w : ℤ) (b : Bool) → ltZ w limit ≡ b → cond b Contradiction Kept ≡ Contradiction → w <ℤ limit
 origin-never limit w true e h = omega wholes
-origin-never limit w false e h = absurd (let z : _≡_ {A = ℕ} 0 1 = cc in omega arith)
+origin-never limit w false e h = clash (cc)
 
 apart-left : (least most w : ℤ) (b c : Bool) → ltZ w least ≡ b → leZ most w ≡ c → cond b Contradiction (cond c LeftOut Kept) ≡ LeftOut → most ≤ℤ w
-apart-left least most w true c e d h = absurd (let z : _≡_ {A = ℕ} 0 1 = cc in omega arith)
+apart-left least most w true c e d h = clash (cc)
 apart-left least most w false true e d h = omega wholes
-apart-left least most w false false e d h = absurd (let z : _≡_ {A = ℕ} 0 1 = cc in omega arith)
+apart-left least most w false false e d h = clash (cc)
 
 apart-never : (least most w : ℤ) (b c : Bool) → ltZ w least ≡ b → leZ most w ≡ c → cond b Contradiction (cond c LeftOut Kept) ≡ Contradiction → w <ℤ least
 apart-never least most w true c e d h = omega wholes
-apart-never least most w false true e d h = absurd (let z : _≡_ {A = ℕ} 0 1 = cc in omega arith)
-apart-never least most w false false e d h = absurd (let z : _≡_ {A = ℕ} 0 1 = cc in omega arith)
+apart-never least most w false true e d h = clash (cc)
+apart-never least most w false false e d h = clash (cc)
 
 -- ---- an event that fits: in range, and a finish after a running time between min and max
 

@@ -12,6 +12,7 @@ use lib.Signed.{_≤ℤ_}
 use lib.ListN.{length, getD, length-append, length-replicate, replicate, List·getD-append}
 use lib.Seq.{getD-append-add}
 use borrow.Author.Tests.{eq-eqb, ne-eqb}
+use Rattle.whole.specs.Clash.{clash}
 use Rattle.whole.specs.SplitLaws.{split-neg}
 use Rattle.whole.specs.Rules.{wholes}
 use Rattle.whole.specs.Shape.{any, _⊖_, le}
@@ -142,7 +143,7 @@ nodeTime p r J zero = pos 0
 nodeTime p r J (suc k) = timeAt (r .seen) k .0 -ℤ tableBegin p J
 
 isOn-upto : (c : Cell) → isOn c ≡ true → (w : ℤ) × (c ≡ upto w)
-isOn-upto off h = absurd (let z : _≡_ {A = ℕ} 0 1 = cc in omega arith)
+isOn-upto off h = clash (cc)
 isOn-upto (upto w) h = (w, refl)
 
 module _ (p : Plan) (r : Run) (J count : ℕ) (order : ℤ → ℤ → Type 0) (t : ℤ)

@@ -10,6 +10,7 @@ use native.Mathlib.Omega.{arith}
 use lib.IntN.{ℤ, pos, _+ℤ_}
 use lib.Signed.{_≤ℤ_}
 use lib.ListN.{length}
+use Rattle.whole.specs.Clash.{clash}
 use Rattle.whole.specs.Rules.{wholes}
 use Rattle.plan.specs.declared.Plan.{Plan}
 use Rattle.bounds.specs.Events.{jobAt, eventOf, startNode, finishNode, nodes}
@@ -86,7 +87,7 @@ module _ (p : Plan) (k : ℕ) (t : Rows) (tidy : Tidy p (nodes (suc k)) t) where
 
 pub thenSet-bounds : (x : Set) (f : Rows → Set) (t : Rows) → thenSet x f ≡ bounds t → (v : Rows) × (x ≡ bounds v) × (f v ≡ bounds t)
 unfolding thenSet
-thenSet-bounds contradiction f t h = absurd (let z : _≡_ {A = ℕ} 0 1 = cc in omega arith)
+thenSet-bounds contradiction f t h = clash (cc)
 thenSet-bounds (bounds v) f t h = (v, refl, h)
 
 pub thenSet-none : (x : Set) (f : Rows → Set) → thenSet x f ≡ contradiction
@@ -311,7 +312,7 @@ module _ (p : Plan) (sound : Sound p) (low : ℕ) where
       (elim-back count (r .0) t₂ (omega arith) (place-tidy p sound (low + count) (omega arith) t t′ (r .0) (r .1)) (r .2) u n old kept))
 
   not-none : (t : Rows) → bounds t ≡ contradiction → ⊥
-  not-none t e = let z : _≡_ {A = ℕ} 0 1 = cc in omega arith
+  not-none t e = clash (cc)
 
   pub elim-none : (count : ℕ) (t : Rows) → low + count ≤ p .jobs + p .jobs → TidyBelow count t → eliminated p low count t ≡ contradiction
       → Fails p low (Played count t)

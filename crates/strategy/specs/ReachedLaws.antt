@@ -13,6 +13,7 @@ use lib.IntN.{ℤ, _+ℤ_, _-ℤ_}
 use lib.Signed.{_≤ℤ_, ltZ}
 use lib.ListN.{length, getD}
 use borrow.Author.Tests.{lt-ltb, le-ltb}
+use Rattle.whole.specs.Clash.{clash}
 use Rattle.whole.specs.Rules.{wholes}
 use Rattle.clock.specs.declared.RunTime.{RunTime}
 use Rattle.plan.specs.declared.Plan.{Plan}
@@ -357,7 +358,7 @@ module _ (p : Plan) (sound : Sound p) (m : ℕ) (c : Rows) (s : IsSettled p soun
       (subst (λ z. WellAfter p sound m c s f (w .j) (w .i) (w .g) (h ++ (record { start = since .0; finish = z } ∷ []))) (finish-is (since .0) (t .0)) next)))
 
   not-both : (r : Run) (a b d e : ℕ) (t : RunTime) → r .phase ≡ Waiting a b → r .phase ≡ Running d e t → ⊥
-  not-both r a b d e t x y = let z : _≡_ {A = ℕ} 0 1 = cc in omega arith
+  not-both r a b d e t x y = clash (cc)
 
   after-way : {r r′ : Run} {h h′ : History} → Ways p (calendar p c) r h r′ h′ → Waits r h ⊎ Runs r h → Waits r′ h′ ⊎ Runs r′ h′
   after-way same w = w
@@ -405,10 +406,10 @@ module _ (p : Plan) (sound : Sound p) (m : ℕ) (c : Rows) (accepted : outcome p
 
     waiting-turn : (J I : ℕ) → r .phase ≡ Waiting J I → Waits p sound m c s f r h ⊎ Runs p sound m c s f r h → AtTurn p h J I
     waiting-turn J I e (inl w) = let d = w .phase in turn-from (w .j) (w .i) (w .g) J I (cc) (cc) (w .well)
-    waiting-turn J I e (inr w) = let d = w .phase in absurd (let z : _≡_ {A = ℕ} 0 1 = cc in omega arith)
+    waiting-turn J I e (inr w) = let d = w .phase in clash (cc)
 
     running-turn : (J I : ℕ) (t : RunTime) → r .phase ≡ Running J I t → Waits p sound m c s f r h ⊎ Runs p sound m c s f r h → AtTurn p h J I
-    running-turn J I t e (inl w) = let d = w .phase in absurd (let z : _≡_ {A = ℕ} 0 1 = cc in omega arith)
+    running-turn J I t e (inl w) = let d = w .phase in clash (cc)
     running-turn J I t e (inr w) = let d = w .phase in turn-from (w .j) (w .i) (w .g) J I (cc) (cc) (w .well)
 
     pub reached-waiting : (J I : ℕ) → r .phase ≡ Waiting J I → AtTurn p h J I
@@ -429,7 +430,7 @@ module _ (p : Plan) (sound : Sound p) (m : ℕ) (c : Rows) (accepted : outcome p
 
       turn-of : Waits p sound m c s f r h ⊎ Runs p sound m c s f r h → Turn
       turn-of (inl w) = let e = w .phase in record { waits = w; window = cc; job = cc }
-      turn-of (inr w) = let e = w .phase in absurd (let z : _≡_ {A = ℕ} 0 1 = cc in omega arith)
+      turn-of (inr w) = let e = w .phase in clash (cc)
 
       at-turn : Turn
       at-turn = turn-of (state p sound m c s f reached)
@@ -464,9 +465,9 @@ module _ (p : Plan) (sound : Sound p) (m : ℕ) (c : Rows) (accepted : outcome p
     -- 11 is never given
     shut-waiting : (J I : ℕ) (o : Offer) (b d : Bool) → o .from .0 ≤ℤ o .to .0 → ltZ (o .to .0) (o .from .0) ≡ d
         → cond b (Shut refusal.Over) (cond d (Shut refusal.EmptyOffer) (Open J I o)) ≡ Shut refusal.EmptyOffer → ⊥
-    shut-waiting J I o true d least e h = let z : _≡_ {A = ℕ} 0 1 = cc in omega arith
+    shut-waiting J I o true d least e h = clash (cc)
     shut-waiting J I o false true least e h = omega wholes
-    shut-waiting J I o false false least e h = let z : _≡_ {A = ℕ} 0 1 = cc in omega arith
+    shut-waiting J I o false false least e h = clash (cc)
 
     never-empty : Waits p sound m c s f r h ⊎ Runs p sound m c s f r h → opening p (calendar p c) r ≡ Shut refusal.EmptyOffer → ⊥
     unfolding openingAt
@@ -475,8 +476,7 @@ module _ (p : Plan) (sound : Sound p) (m : ℕ) (c : Rows) (accepted : outcome p
         (reached-some (suc (w .j)) (suc (w .i)) (w .phase)) refl (sym (ap (openingIn p (calendar p c) r) (w .phase)) ∙ e)
     never-empty (inr w) e =
         let o = opening-running (turnOf p (calendar p c) (jobOfPhase (r .phase))) (calendar p c .«at_least») (calendar p c .«at_most») r (r .phase) (suc (w .j)) (suc (w .i)) (w .since) (w .phase) in
-        let z : _≡_ {A = ℕ} 0 1 = cc in
-        omega arith
+        clash (cc)
 
     pub reached-never-empty : opening p (calendar p c) r ≡ Shut refusal.EmptyOffer → ⊥
     reached-never-empty e = never-empty (state p sound m c s f reached) e

@@ -11,6 +11,7 @@ use lib.IntN.{ℤ, pos, _-ℤ_}
 use lib.Signed.{_≤ℤ_, ltZ}
 use lib.ListN.{length, getD}
 use borrow.Author.Tests.{eq-eqb}
+use Rattle.whole.specs.Clash.{clash}
 use Rattle.whole.specs.SplitLaws.{split-neg}
 use Rattle.whole.specs.Rules.{wholes}
 use Rattle.plan.specs.declared.Plan.{Plan}
@@ -85,12 +86,12 @@ module _ (p : Plan) (k : ℕ) (f : ℕ → ℕ → Cell) (u : History) (anchored
 -- ---- what stands in a judged table
 
 set-bounds : (b : Bool) (t u : Rows) → cond b contradiction (bounds t) ≡ bounds u → (b ≡ false) × (t ≡ u)
-set-bounds true t u h = absurd (let z : _≡_ {A = ℕ} 0 1 = cc in omega arith)
+set-bounds true t u h = clash (cc)
 set-bounds false t u h = (refl, cc)
 
 set-never : (b : Bool) (t : Rows) → cond b contradiction (bounds t) ≡ contradiction → b ≡ true
 set-never true t h = refl
-set-never false t h = absurd (let z : _≡_ {A = ℕ} 0 1 = cc in omega arith)
+set-never false t h = clash (cc)
 
 module _ (p : Plan) (k : ℕ) (f : ℕ → ℕ → Cell) where
   pub judgedSet-sound : (t : Rows) → judgedSet p k f ≡ bounds t → (y z : ℕ) → y < k → z < k
@@ -129,7 +130,7 @@ cellOf p y z c = keptCell (judgement p y z c) c
 -- bounds to and from the origin are kept as they are
 origin-stays : (b : Bool) (w : ℤ) → isContradiction (cond b Contradiction Kept) ≡ false
     → keptCell (cond b Contradiction Kept) (upto w) ≡ upto w
-origin-stays true w h = absurd (let z : _≡_ {A = ℕ} 0 1 = cc in omega arith)
+origin-stays true w h = clash (cc)
 origin-stays false w h = refl
 
 from-origin : (p : Plan) (e : Event) (w : ℤ) → (e ≡ Origin → ⊥) → isContradiction (judged p Origin e w) ≡ false
@@ -149,8 +150,8 @@ to-origin p (Finish k) w n h = origin-stays (ltZ w (earliest p Origin -ℤ lates
 not-origin : (y : ℕ) → 0 < y → eventOf y ≡ Origin → ⊥
 not-origin =
     byNode (λ y. 0 < y → eventOf y ≡ Origin → ⊥) (λ h. absurd (omega arith))
-    (λ k h e. let g = eventOf-start k in let z : _≡_ {A = ℕ} 0 1 = cc in omega arith)
-    (λ k h e. let g = eventOf-finish k in let z : _≡_ {A = ℕ} 0 1 = cc in omega arith)
+    (λ k h e. let g = eventOf-start k in clash (cc))
+    (λ k h e. let g = eventOf-finish k in clash (cc))
 
 cell-from-origin : (p : Plan) (y : ℕ) (c : Cell) → 0 < y → isContradiction (judgement p 0 y c) ≡ false → cellOf p 0 y c ≡ c
 unfolding judgement eventOf
@@ -185,7 +186,7 @@ cell-keeps LeftOut c x h = tt
 cell-keeps Kept c x h = h
 
 kept-back : (j : Judgement) (w x : ℤ) → isContradiction j ≡ false → (j ≡ LeftOut → x ≤ℤ w) → Holds (keptCell j (upto w)) x → x ≤ℤ w
-kept-back Contradiction w x s l h = absurd (let z : _≡_ {A = ℕ} 0 1 = cc in omega arith)
+kept-back Contradiction w x s l h = clash (cc)
 kept-back LeftOut w x s l h = l refl
 kept-back Kept w x s l h = h
 
@@ -198,13 +199,13 @@ cell-back p u y z (upto w) s a b h =
 
 is-contradiction : (j : Judgement) → isContradiction j ≡ true → j ≡ Contradiction
 is-contradiction Contradiction h = refl
-is-contradiction LeftOut h = absurd (let z : _≡_ {A = ℕ} 0 1 = cc in omega arith)
-is-contradiction Kept h = absurd (let z : _≡_ {A = ℕ} 0 1 = cc in omega arith)
+is-contradiction LeftOut h = clash (cc)
+is-contradiction Kept h = clash (cc)
 
 cell-never : (p : Plan) (y z : ℕ) (c : Cell) → isContradiction (judgement p y z c) ≡ true
     → (long : Bool) × ((u : History) → FitsAt p long u (eventOf y) → FitsAt p long u (eventOf z) → Holds c (gap u y z) → ⊥)
 unfolding judgement
-cell-never p y z off s = absurd (let z : _≡_ {A = ℕ} 0 1 = cc in omega arith)
+cell-never p y z off s = clash (cc)
 cell-never p y z (upto w) s = judged-never p (eventOf y) (eventOf z) w (is-contradiction _ s)
 
 -- ---- times and a judged set

@@ -7,6 +7,7 @@ use mathlib.Core.Bool.{Bool, true, false, cond}
 use mathlib.Core.List.{[]}
 use native.Mathlib.Nat.{zero-mul, add-suc, add-zero}
 use native.Mathlib.Omega.{arith}
+use Rattle.whole.specs.Clash.{clash}
 use Rattle.plan.specs.declared.Plan.{Plan}
 use Rattle.bounds.specs.Tables.{Rows, Set, contradiction, bounds}
 use Rattle.bounds.specs.Elimination.{thenSet, eliminated}
@@ -75,7 +76,7 @@ module _ (p : Plan) (sound : Sound p) where
       → ((u : Rows) → C p (suc k) ≡ bounds u → roundsFrom p c0 (m + 1) left u ≡ settled m′ c → IsSettled m′ c)
       → (x : Set) → round p c0 t ≡ x → decided p m t x (roundsFrom p c0 (m + 1) left) ≡ settled m′ c → IsSettled m′ c
   unfolding decided
-  settled-step k m m′ left c0 t c e0 n e later contradiction r h = absurd (let z : _≡_ {A = ℕ} 0 1 = cc in omega arith)
+  settled-step k m m′ left c0 t c e0 n e later contradiction r h = clash (cc)
   settled-step k m m′ left c0 t c e0 n e later (bounds u) r h =
       let f = C-next k c0 t e0 e ∙ r in
       settled-when k m m′ left c0 t u c n e f (later u f) (sameRows t u) refl h
@@ -83,7 +84,7 @@ module _ (p : Plan) (sound : Sound p) where
   settled-from : (left k m m′ : ℕ) (c0 t c : Rows) → C0 p ≡ bounds c0 → m ≡ suc k → C p k ≡ bounds t
       → roundsFrom p c0 m left t ≡ settled m′ c → IsSettled m′ c
   unfolding roundsFrom
-  settled-from zero k m m′ c0 t c e0 n e h = absurd (let z : _≡_ {A = ℕ} 0 1 = cc in omega arith)
+  settled-from zero k m m′ c0 t c e0 n e h = clash (cc)
   settled-from (suc left) k m m′ c0 t c e0 n e h =
       settled-step k m m′ left c0 t c e0 n e
       (λ u f g. settled-from left (suc k) (m + 1) m′ c0 u c e0 (omega arith) f g)
@@ -91,7 +92,7 @@ module _ (p : Plan) (sound : Sound p) where
 
   settled-own : (m : ℕ) (c : Rows) (x : Set) → C0 p ≡ x → outcomeFrom p x ≡ settled m c → IsSettled m c
   unfolding outcomeFrom C
-  settled-own m c contradiction e h = absurd (let z : _≡_ {A = ℕ} 0 1 = cc in omega arith)
+  settled-own m c contradiction e h = clash (cc)
   settled-own m c (bounds t) e h = settled-from (p .rounds) 0 1 m t t c e refl e h
 
   pub settled-is : (m : ℕ) (c : Rows) → outcome p ≡ settled m c → IsSettled m c
@@ -131,11 +132,11 @@ module _ (p : Plan) (sound : Sound p) where
 
   fails-is : (t : Rows) (x : Set) → eliminated p 0 (p .jobs) t ≡ x → failsAlone p t ≡ true → eliminated p 0 (p .jobs) t ≡ contradiction
   fails-is t contradiction e h = e
-  fails-is t (bounds v) e h = let q = alone-of t true h (bounds v) e in absurd (let z : _≡_ {A = ℕ} 0 1 = cc in omega arith)
+  fails-is t (bounds v) e h = let q = alone-of t true h (bounds v) e in clash (cc)
 
   stands-is : (t : Rows) (x : Set) → eliminated p 0 (p .jobs) t ≡ x → failsAlone p t ≡ false → (v : Rows) × (eliminated p 0 (p .jobs) t ≡ bounds v)
   stands-is t (bounds v) e h = (v, e)
-  stands-is t contradiction e h = let q = alone-of t false h contradiction e in absurd (let z : _≡_ {A = ℕ} 0 1 = cc in omega arith)
+  stands-is t contradiction e h = let q = alone-of t false h contradiction e in clash (cc)
 
   module _ (k : ℕ) (c0 t : Rows) (e0 : C0 p ≡ bounds c0) (e : C p k ≡ bounds t) (r : round p c0 t ≡ contradiction) where
     fails-at : failsAlone p t ≡ true → Hopeless (suc k)
@@ -171,7 +172,7 @@ module _ (p : Plan) (sound : Sound p) where
 
   later-when : (K m left : ℕ) (c0 u : Rows) → (roundsFrom p c0 (m + 1) left u ≡ noStrategy K → Hopeless K)
       → (b : Bool) → cond b (settled m u) (roundsFrom p c0 (m + 1) left u) ≡ noStrategy K → Hopeless K
-  later-when K m left c0 u later true h = absurd (let z : _≡_ {A = ℕ} 0 1 = cc in omega arith)
+  later-when K m left c0 u later true h = clash (cc)
   later-when K m left c0 u later false h = later h
 
   none-step : (k m K left : ℕ) (c0 t : Rows) → C0 p ≡ bounds c0 → m ≡ suc k → C p k ≡ bounds t
@@ -183,7 +184,7 @@ module _ (p : Plan) (sound : Sound p) where
 
   none-from : (left k m K : ℕ) (c0 t : Rows) → C0 p ≡ bounds c0 → m ≡ suc k → C p k ≡ bounds t → roundsFrom p c0 m left t ≡ noStrategy K → Hopeless K
   unfolding roundsFrom
-  none-from zero k m K c0 t e0 n e h = absurd (let z : _≡_ {A = ℕ} 0 1 = cc in omega arith)
+  none-from zero k m K c0 t e0 n e h = clash (cc)
   none-from (suc left) k m K c0 t e0 n e h =
       none-step k m K left c0 t e0 n e (λ u f g. none-from left (suc k) (m + 1) K c0 u e0 (omega arith) f g) (round p c0 t) refl h
 
@@ -205,16 +206,16 @@ module _ (p : Plan) (sound : Sound p) where
 
   settled-of : (m : ℕ) (o : Outcome) → verdictOf p o ≡ Settled m → (c : Rows) × (o ≡ settled m c)
   settled-of m (settled k c) h = (c, let e : settled k c ≡ settled m c = cc in e)
-  settled-of m (noStrategy K) h = absurd (let z : _≡_ {A = ℕ} 0 1 = cc in omega arith)
-  settled-of m unsettled h = absurd (let z : _≡_ {A = ℕ} 0 1 = cc in omega arith)
+  settled-of m (noStrategy K) h = clash (cc)
+  settled-of m unsettled h = clash (cc)
 
   pub settled-outcome : (m : ℕ) → verdict p ≡ Settled m → (c : Rows) × (outcome p ≡ settled m c)
   settled-outcome m h = settled-of m (outcome p) h
 
   none-of : (K : ℕ) (o : Outcome) → verdictOf p o ≡ NoStrategy K → o ≡ noStrategy K
-  none-of K (settled k c) h = absurd (let z : _≡_ {A = ℕ} 0 1 = cc in omega arith)
+  none-of K (settled k c) h = clash (cc)
   none-of K (noStrategy k) h = cc
-  none-of K unsettled h = absurd (let z : _≡_ {A = ℕ} 0 1 = cc in omega arith)
+  none-of K unsettled h = clash (cc)
 
   pub none-outcome : (K : ℕ) → verdict p ≡ NoStrategy K → outcome p ≡ noStrategy K
   none-outcome K h = none-of K (outcome p) h

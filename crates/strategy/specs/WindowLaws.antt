@@ -10,6 +10,7 @@ use lib.IntN.{ℤ, pos, negℤ, _+ℤ_, _-ℤ_}
 use lib.Signed.{_≤ℤ_}
 use lib.ListN.{length}
 use borrow.Author.Tests.{lt-ltb}
+use Rattle.whole.specs.Clash.{clash}
 use Rattle.whole.specs.SplitLaws.{split-neg, split-add}
 use Rattle.whole.specs.Rules.{wholes}
 use Rattle.whole.specs.Shape.{any, _⊕_, _⊖_, le}
@@ -44,10 +45,10 @@ pub record Held (p : Plan) (u : History) : Type 0 where
 module _ (p : Plan) where
   pub place-this : (l : Letter) (i : ℕ) → isNext l ≡ false → 0 < i → i ≤ p .jobs → placeOf p l i < p .jobs
   place-this This i e lo hi = omega arith
-  place-this Next i e lo hi = absurd (let z : _≡_ {A = ℕ} 0 1 = cc in omega arith)
+  place-this Next i e lo hi = clash (cc)
 
   place-next : (l : Letter) (i : ℕ) → isNext l ≡ true → p .jobs ≤ placeOf p l i
-  place-next This i e = absurd (let z : _≡_ {A = ℕ} 0 1 = cc in omega arith)
+  place-next This i e = clash (cc)
   place-next Next i e = omega arith
 
   pub place-two : (l : Letter) (i : ℕ) → 0 < i → i ≤ p .jobs → placeOf p l i < p .jobs + p .jobs

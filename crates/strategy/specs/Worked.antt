@@ -6,6 +6,7 @@ use native.Mathlib.Omega.{arith}
 use lib.IntN.{ℤ, pos, negsuc}
 use lib.Signed.{_≤ℤ_}
 use lib.ListN.{replicate, getD}
+use Rattle.whole.specs.Clash.{clash}
 use Rattle.whole.specs.Rules.{wholes}
 use Rattle.plan.specs.declared.Letter.the-variants.{This, Next}
 use Rattle.plan.specs.declared.Kind.the-variants.{Start}
@@ -62,7 +63,7 @@ apart-sound n ds c =
     record {
       a = record { least = omega arith; most = omega arith };
       b = record { least = omega arith; most = omega arith };
-      one-this = λ e. absurd (let z : _≡_ {A = ℕ} 0 1 = cc in omega arith);
+      one-this = λ e. clash (cc);
     }
 
 P-sound : Sound P

@@ -16,6 +16,7 @@ use native.Mathlib.Omega.{arith}
 use lib.Dec.{eqb, leb, ltb}
 use lib.ListN.{length, length-append}
 use borrow.Author.Tests.{lt-ltb, le-ltb, ltb-true, ltb-false, le-leb, leb-true, eqb-false, ne-eqb}
+use Rattle.whole.specs.Clash.{clash}
 use Rattle.text.specs.Lines.{lenTo}
 use Rattle.text.specs.LineLaws.{lenTo-other}
 use Rattle.text.specs.Numbers.{zeroDigit, nineDigit, isDigit, allDigits, isPositive, digitsValue, digitsBefore, digits}
@@ -133,7 +134,7 @@ allDigits-last (a ∷ s) b h e = of (isDigit a) h (λ g. allDigits-last s b g e)
 
 isPositive-last : (s : List ℕ) (b : ℕ) → isPositive s ≡ true → isDigit b ≡ true → isPositive (s ++ (b ∷ [])) ≡ true
 unfolding isPositive
-isPositive-last [] b h e = let z : _≡_ {A = ℕ} 0 1 = cc in absurd (omega arith)
+isPositive-last [] b h e = clash (cc)
 isPositive-last (a ∷ s) b h e = of (not (eqb a zeroDigit)) h
   where
     of : (t : Bool) → (t && allDigits (a ∷ s)) ≡ true → (t && allDigits (a ∷ (s ++ (b ∷ [])))) ≡ true

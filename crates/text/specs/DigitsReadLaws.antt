@@ -18,6 +18,7 @@ use lib.Seq.{drop-cons}
 use borrow.Author.Tests.{eq-eqb, ne-eqb, le-leb, lt-leb, leb-true, leb-false}
 use mir.Syntax.{w64}
 use mir.Val.{SFits}
+use Rattle.whole.specs.Clash.{clash}
 use Rattle.whole.specs.Rules.{wholes}
 use Rattle.whole.specs.SplitLaws.{split-neg}
 use Rattle.whole.specs.Order.{fits-least, fits-below}
@@ -99,14 +100,14 @@ positiveRead-value s n e = of (isPositive s) e
   where
     of : (t : Bool) → cond t (Value (capped (digitsValue 0 s))) Bad ≡ Value n → (t ≡ true) × (capped (digitsValue 0 s) ≡ n)
     of true e = (refl, cc)
-    of false e = let z : _≡_ {A = ℕ} 0 1 = cc in absurd (omega arith)
+    of false e = clash (cc)
 
 positiveRead-bad : (s : List ℕ) → positiveRead s ≡ Bad → isPositive s ≡ false
 unfolding positiveRead
 positiveRead-bad s e = of (isPositive s) e
   where
     of : (t : Bool) → cond t (Value (capped (digitsValue 0 s))) Bad ≡ Bad → t ≡ false
-    of true e = let z : _≡_ {A = ℕ} 0 1 = cc in absurd (omega arith)
+    of true e = clash (cc)
     of false e = refl
 
 module _ (lo hi : ℤ) where

@@ -21,6 +21,7 @@ use lib.Dec.{eqb}
 use lib.ListN.{length, getD, take, drop, length-append, length-drop, drop-of-length-le}
 use lib.Seq.{drop-cons, take-all, take-length, split-at, take-at, drop-at, drop-drop, drop-append-seam}
 use borrow.Author.Tests.{eqb-true, eq-eqb, ne-eqb, lt-ltb, le-ltb, ltb-true, ltb-false}
+use Rattle.whole.specs.Clash.{clash}
 use Rattle.text.specs.Lines.{LF, lenTo, before, has, after, behindLine, nextLine, afterKey, hasKey, isSome}
 
 -- ---- the length to a byte
@@ -123,12 +124,12 @@ afterKey-back (k ∷ key) s = rw (eq-eqb k k refl) (afterKey-back key s)
 pub afterKey-split : (key s t : List ℕ) → afterKey key s ≡ some t → s ≡ key ++ t
 unfolding afterKey
 afterKey-split [] s t e = cc
-afterKey-split (k ∷ key) [] t e = let z : _≡_ {A = ℕ} 0 1 = cc in absurd (omega arith)
+afterKey-split (k ∷ key) [] t e = clash (cc)
 afterKey-split (k ∷ key) (b ∷ s) t e = at-head (eqb b k) refl e (λ g. afterKey-split key s t g)
   where
     at-head : (q : Bool) → eqb b k ≡ q → cond q (afterKey key s) none ≡ some t → (afterKey key s ≡ some t → s ≡ key ++ t) → b ∷ s ≡ k ∷ (key ++ t)
     at-head true q e more = cc (eqb-true b k q, more e)
-    at-head false q e more = let z : _≡_ {A = ℕ} 0 1 = cc in absurd (omega arith)
+    at-head false q e more = clash (cc)
 
 module _ (key s : List ℕ) (i : ℕ) where
   pub afterKey-same : i < length key → i < length s → getD s i 0 ≡ getD key i 0

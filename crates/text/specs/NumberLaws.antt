@@ -20,6 +20,7 @@ use lib.Signed.{_≤ℤ_, _<ℤ_, leZ}
 use borrow.Author.Tests.{eqb-true, ne-eqb}
 use mir.Syntax.{w64}
 use mir.Val.{SFits}
+use Rattle.whole.specs.Clash.{clash}
 use Rattle.whole.specs.Split.{up, dn}
 use Rattle.whole.specs.Rules.{wholes}
 use Rattle.text.specs.declared.NumberFault.the-variants.{Form, Range}
@@ -179,9 +180,9 @@ numberIn-value lo hi z s h = of (isNumber s) (leZ lo v) (leZ v hi) refl refl ref
     of true true true e l g h =
         let same : v ≡ z = cc in
         (record { least = omega wholes; greatest = omega wholes }, sym (number-back s e) ∙ ap decimal same)
-    of true true false e l g h = let z : _≡_ {A = ℕ} 0 1 = cc in absurd (omega arith)
-    of true false q e l g h = let z : _≡_ {A = ℕ} 0 1 = cc in absurd (omega arith)
-    of false p q e l g h = let z : _≡_ {A = ℕ} 0 1 = cc in absurd (omega arith)
+    of true true false e l g h = clash (cc)
+    of true false q e l g h = clash (cc)
+    of false p q e l g h = clash (cc)
 
 -- ---- a line
 
@@ -206,7 +207,7 @@ unfolding numberOf
 numberAfter-value key lo hi z s h = of (afterKey key s) refl h
   where
     of : (o : Option (List ℕ)) → afterKey key s ≡ o → numberOf lo hi o ≡ Value z → NumberWithin lo hi z × (s ≡ key ++ decimal z)
-    of none e h = let z : _≡_ {A = ℕ} 0 1 = cc in absurd (omega arith)
+    of none e h = clash (cc)
     of (some t) e h =
         let read = numberIn-value lo hi z t h in
         (read .0, afterKey-split key s t e ∙ ap (λ (l : List ℕ). key ++ l) (read .1))

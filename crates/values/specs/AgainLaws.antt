@@ -3,7 +3,7 @@
 use mathlib.Core.Path.{_≡_, refl, _∙_, ap}
 use mathlib.Core.List.{List, []}
 use Prim.Native.Nat.{ℕ, _+_, _*_}
-use native.Mathlib.Omega.{arith}
+use Rattle.whole.specs.Clash.{clash}
 use Rattle.plan.specs.declared.Plan.{Plan}
 use Rattle.lines.specs.declared.TextAnswer.{TextAnswer}
 use Rattle.lines.specs.declared.Refusal.{Refusal}
@@ -26,7 +26,7 @@ bared (refused r s) = bare r
 
 bared-read : (m : Reading Plan) {p : Plan} {s : List ℕ} {n : ℕ} → bared m ≡ read p s n → m ≡ read p s n
 bared-read (read q t i) e = e
-bared-read (refused r t) e = absurd (let z : _≡_ {A = ℕ} 0 1 = cc in omega arith)
+bared-read (refused r t) e = clash (cc)
 
 -- 'A plan written and read again is the same plan'
 pub accepted-again : (p : Plan) → Accepted p → planAlone (planText p) ≡ read (trimmed p) [] (6 + 4 * p .jobs + p .bounds)

@@ -14,6 +14,7 @@ use lib.Seq.{getD-take, take-take}
 use lib.Signed.{_≤ℤ_, leZ}
 use mir.Syntax.{w64}
 use mir.Val.{SFits}
+use Rattle.whole.specs.Clash.{clash}
 use Rattle.whole.specs.Rules.{whole}
 use Rattle.lines.specs.declared.Fault.the-variants as fault
 use Rattle.plan.specs.declared.Job.{Job}
@@ -50,7 +51,7 @@ use Rattle.values.specs.JudgedLength.{JobFits, BoundFits, PlanFits, plan
 
 andThen-both : (x y : TextAnswer) → andThen x y ≡ answer.Accepted → (x ≡ answer.Accepted) × (y ≡ answer.Accepted)
 andThen-both answer.Accepted y e = (refl, e)
-andThen-both (answer.Refused r) y e = absurd (let z : _≡_ {A = ℕ} 0 1 = cc in omega arith)
+andThen-both (answer.Refused r) y e = clash (cc)
 
 jobJudged-accepted : (n : ℕ) (j : Job) → jobJudged n j ≡ answer.Accepted → JobAccepted j
 unfolding jobJudged
@@ -88,12 +89,12 @@ module _ (jobs : ℕ) (given : List Bound) (n : ℕ) (d : Bound) where
           let ra = isJob-range jobs (d .a .job) hp in
           let rb = isJob-range jobs (d .b .job) hq in
           (record { a-least = ra .0; a-most = ra .1; b-least = rb .0; b-most = rb .1; c-least = omega whole; c-most = omega whole }, hw)
-      by-tests true true true true true true hp hq hl hm hw e = absurd (let z : _≡_ {A = ℕ} 0 1 = cc in omega arith)
-      by-tests true true true true false w hp hq hl hm hw e = absurd (let z : _≡_ {A = ℕ} 0 1 = cc in omega arith)
-      by-tests true true true false m w hp hq hl hm hw e = absurd (let z : _≡_ {A = ℕ} 0 1 = cc in omega arith)
-      by-tests true true false l m w hp hq hl hm hw e = absurd (let z : _≡_ {A = ℕ} 0 1 = cc in omega arith)
-      by-tests true false q l m w hp hq hl hm hw e = absurd (let z : _≡_ {A = ℕ} 0 1 = cc in omega arith)
-      by-tests false p q l m w hp hq hl hm hw e = absurd (let z : _≡_ {A = ℕ} 0 1 = cc in omega arith)
+      by-tests true true true true true true hp hq hl hm hw e = clash (cc)
+      by-tests true true true true false w hp hq hl hm hw e = clash (cc)
+      by-tests true true true false m w hp hq hl hm hw e = clash (cc)
+      by-tests true true false l m w hp hq hl hm hw e = clash (cc)
+      by-tests true false q l m w hp hq hl hm hw e = clash (cc)
+      by-tests false p q l m w hp hq hl hm hw e = clash (cc)
 
 boundsJudged-accepted : (jobs : ℕ) (given : List Bound) (n : ℕ) (ds : List Bound) → boundsJudged jobs given n ds ≡ answer.Accepted → AllBounds jobs given ds
 unfolding boundsJudged
@@ -145,10 +146,10 @@ judgedByLines-accepted p l e =
 -- the answer tells the refusal, or that there is none
 pub judgedAnswer-none : (o : Option Refusal) → judgedAnswer o ≡ answer.Accepted → o ≡ none
 judgedAnswer-none none e = refl
-judgedAnswer-none (some r) e = absurd (let z : _≡_ {A = ℕ} 0 1 = cc in omega arith)
+judgedAnswer-none (some r) e = clash (cc)
 
 pub judgedAnswer-some : (o : Option Refusal) (x : Refusal) → judgedAnswer o ≡ answer.Refused x → o ≡ some x
-judgedAnswer-some none x e = absurd (let z : _≡_ {A = ℕ} 0 1 = cc in omega arith)
+judgedAnswer-some none x e = clash (cc)
 judgedAnswer-some (some r) x e = let same : r ≡ x = cc in ap some same
 
 -- 'A plan handed over as a value is judged as its text would be': where its text would be read, it is accepted
@@ -158,7 +159,7 @@ judgedPlan-accepted p l e = judgedByLines-accepted p l (sym (judgedPlan-is p l (
   where
     by-reading : (m : Reading Plan) → planAlone (planText p) ≡ m → refusalOf m ≡ none → length (planText p) ≤ longestText
     by-reading (read q t n) d e = planAlone-fits (planText p) d
-    by-reading (refused r t) d e = absurd (let z : _≡_ {A = ℕ} 0 1 = cc in omega arith)
+    by-reading (refused r t) d e = clash (cc)
 
 -- the same of the answer a to a plan
 pub judgedAnswer-accepted : (p : Plan) → HasPlaces p → (a : TextAnswer) → a ≡ judgedAnswer (judgedPlan p) → a ≡ answer.Accepted → Accepted p

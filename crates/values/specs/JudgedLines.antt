@@ -13,6 +13,7 @@ use lib.Dec.{ltb}
 use lib.IntN.{ℤ, pos}
 use lib.ListN.{length, length-take}
 use lib.Signed.{_≤ℤ_, leZ, ltZ}
+use Rattle.whole.specs.Clash.{clash}
 use Rattle.whole.specs.Rules.{whole}
 use Rattle.text.specs.Bytes.{bytes}
 use Rattle.text.specs.Lines.{LF, comma, lenTo}
@@ -93,12 +94,12 @@ onward-accepted (Refused r) = refl
 
 -- an answer a to what comes first: a refusal is the answer to all, and where it accepts, what follows is
 pub andThen-stop : (x y a : TextAnswer) {r : Refusal} → a ≡ x → a ≡ Refused r → a ≡ andThen x y
-andThen-stop Accepted y a e d = absurd (let z : _≡_ {A = ℕ} 0 1 = cc in omega arith)
+andThen-stop Accepted y a e d = clash (cc)
 andThen-stop (Refused r) y a e d = e
 
 pub andThen-pass : (x y a : TextAnswer) → a ≡ x → a ≡ Accepted → y ≡ andThen x y
 andThen-pass Accepted y a e d = refl
-andThen-pass (Refused r) y a e d = absurd (let z : _≡_ {A = ℕ} 0 1 = cc in omega arith)
+andThen-pass (Refused r) y a e d = clash (cc)
 
 -- ---- a number in its range, or not
 
@@ -107,8 +108,8 @@ numberJudged-range lo hi z n e = by-tests (leZ lo z) (leZ z hi) refl refl e
   where
     by-tests : (a b : Bool) → leZ lo z ≡ a → leZ z hi ≡ b → cond (a && b) Accepted (Refused (Range n)) ≡ Accepted → (lo ≤ℤ z) × (z ≤ℤ hi)
     by-tests true true p q e = (omega whole, omega whole)
-    by-tests true false p q e = absurd (let z : _≡_ {A = ℕ} 0 1 = cc in omega arith)
-    by-tests false b p q e = absurd (let z : _≡_ {A = ℕ} 0 1 = cc in omega arith)
+    by-tests true false p q e = clash (cc)
+    by-tests false b p q e = clash (cc)
 
 pub numberJudged-below : (lo hi z : ℤ) (n : ℕ) → ltZ z lo ≡ true → numberJudged lo hi z n ≡ Refused (Range n)
 numberJudged-below lo hi z n h = let e : leZ lo z ≡ false = omega whole in rw e

@@ -7,9 +7,9 @@
 -- `!=` tells.
 -- Not here: the rules that `omega` is handed (`Rules`), and the laws of the order in its own words (`Order`).
 
-use mathlib.Core.Path.{_≡_, refl, sym, _∙_, ap, subst}
+use mathlib.Core.Path.{_≡_, refl, sym, _∙_, ap}
 use mathlib.Core.Logic.{_≢_, _↔_, _⊎_, inl, inr}
-use mathlib.Core.Bool.{Bool, true, false, not, cond}
+use mathlib.Core.Bool.{Bool, true, false, not, cond, true≢false}
 use Prim.Native.Nat.{ℕ, zero, suc, _+_, _*_, _-_, _^_, _≤_, _<_, min, max}
 use native.Mathlib.Nat.{mul-zero}
 use native.Mathlib.Omega.{arith}
@@ -98,37 +98,34 @@ ne-split-iff a b = (λ d. apart (up a + dn b) (up b + dn a) (λ e. d (split-uniq
 
 -- ---- the tests
 
-clash : false ≡ true → ⊥
-clash e = subst T (sym e) tt
-
 pub ltZ-true-split-iff : (a b : ℤ) → ltZ a b ≡ true ↔ up a + dn b < up b + dn a
 ltZ-true-split-iff (pos a) (pos b) = (λ e. omega (arith, ltb-true), λ h. lt-ltb a b (omega arith))
-ltZ-true-split-iff (pos a) (negsuc b) = (λ e. absurd (clash e), λ h. absurd (omega arith))
+ltZ-true-split-iff (pos a) (negsuc b) = (λ e. absurd (true≢false (sym e)), λ h. absurd (omega arith))
 ltZ-true-split-iff (negsuc a) (pos b) = (λ e. omega arith, λ h. refl)
 ltZ-true-split-iff (negsuc a) (negsuc b) = (λ e. omega (arith, ltb-true), λ h. lt-ltb b a (omega arith))
 
 pub ltZ-false-split-iff : (a b : ℤ) → ltZ a b ≡ false ↔ up b + dn a ≤ up a + dn b
 ltZ-false-split-iff (pos a) (pos b) = (λ e. omega (arith, ltb-false), λ h. le-ltb a b (omega arith))
 ltZ-false-split-iff (pos a) (negsuc b) = (λ e. omega arith, λ h. refl)
-ltZ-false-split-iff (negsuc a) (pos b) = (λ e. absurd (clash (sym e)), λ h. absurd (omega arith))
+ltZ-false-split-iff (negsuc a) (pos b) = (λ e. absurd (true≢false e), λ h. absurd (omega arith))
 ltZ-false-split-iff (negsuc a) (negsuc b) = (λ e. omega (arith, ltb-false), λ h. le-ltb b a (omega arith))
 
 pub leZ-true-split-iff : (a b : ℤ) → leZ a b ≡ true ↔ up a + dn b ≤ up b + dn a
 leZ-true-split-iff (pos a) (pos b) = (λ e. omega (arith, leb-true), λ h. le-leb a b (omega arith))
-leZ-true-split-iff (pos a) (negsuc b) = (λ e. absurd (clash e), λ h. absurd (omega arith))
+leZ-true-split-iff (pos a) (negsuc b) = (λ e. absurd (true≢false (sym e)), λ h. absurd (omega arith))
 leZ-true-split-iff (negsuc a) (pos b) = (λ e. omega arith, λ h. refl)
 leZ-true-split-iff (negsuc a) (negsuc b) = (λ e. omega (arith, leb-true), λ h. le-leb b a (omega arith))
 
 pub leZ-false-split-iff : (a b : ℤ) → leZ a b ≡ false ↔ up b + dn a < up a + dn b
 leZ-false-split-iff (pos a) (pos b) = (λ e. omega (arith, leb-false), λ h. lt-leb a b (omega arith))
 leZ-false-split-iff (pos a) (negsuc b) = (λ e. omega arith, λ h. refl)
-leZ-false-split-iff (negsuc a) (pos b) = (λ e. absurd (clash (sym e)), λ h. absurd (omega arith))
+leZ-false-split-iff (negsuc a) (pos b) = (λ e. absurd (true≢false e), λ h. absurd (omega arith))
 leZ-false-split-iff (negsuc a) (negsuc b) = (λ e. omega (arith, leb-false), λ h. lt-leb b a (omega arith))
 
 pub eqZ-true-split-iff : (a b : ℤ) → eqZ a b ≡ true ↔ up a + dn b ≡ up b + dn a
 eqZ-true-split-iff (pos a) (pos b) = (λ e. omega (arith, eqb-true), λ h. eq-eqb a b (omega arith))
-eqZ-true-split-iff (pos a) (negsuc b) = (λ e. absurd (clash e), λ h. absurd (omega arith))
-eqZ-true-split-iff (negsuc a) (pos b) = (λ e. absurd (clash e), λ h. absurd (omega arith))
+eqZ-true-split-iff (pos a) (negsuc b) = (λ e. absurd (true≢false (sym e)), λ h. absurd (omega arith))
+eqZ-true-split-iff (negsuc a) (pos b) = (λ e. absurd (true≢false (sym e)), λ h. absurd (omega arith))
 eqZ-true-split-iff (negsuc a) (negsuc b) = (λ e. omega (arith, eqb-true), λ h. eq-eqb a b (omega arith))
 
 pub eqZ-false-split-iff : (a b : ℤ) → eqZ a b ≡ false ↔ min (up a + dn b) (up b + dn a) < max (up a + dn b) (up b + dn a)
