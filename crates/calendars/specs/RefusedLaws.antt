@@ -23,7 +23,8 @@ use Rattle.rounds.specs.TextVerdictLaws.{verdictAfter-refused, verdictAfter-set
 
 -- what comes after the plan's verdict keeps a refusal
 module _ {A : Type 0} (behind : Reading Plan → Reading A) (keeps : (x : Refusal) (t : List ℕ) → behind (refused x t) ≡ refused x t) where
-  module _ (s : List ℕ) (m : Reading Plan) (tail : Tail s (leaves m)) (r : PlanRead) (d : r ≡ planRead s m) (a : TextAnswer) (x : Refusal) (e : a ≡ planAnswer.Refused x) where
+  module _ (s : List ℕ) (m : Reading Plan) (tail : Tail s (leaves m)) (r : PlanRead) (d : r ≡ planRead s m) (a : TextAnswer) (x : Refusal)
+      (e : a ≡ planAnswer.Refused x) where
     refusal-told : {t : List ℕ} → verdictAfter m ≡ refused x t → (at : ℕ) → drop at s ≡ t
         → Told (behind (verdictAfter m)) (partAt s at a) (answerNumber a) (answerValue a)
     refusal-told {t} f at p =

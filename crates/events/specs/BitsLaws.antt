@@ -8,8 +8,9 @@
 -- The next event from e on is the trailing zeros of the set moved down by e (`nextFrom-zeros`). It is not before e (`nextEvent-from`), it is in the set
 -- (`nextEvent-has`), and none from e on to it is (`nextEvent-least`). So a walk that does nothing at an event outside the set can go on at the next event
 -- (`nextEvent-skips`): a loop `let mut e = set.next(first); while e < count { ..; e = set.next(e + 1); }` does what a walk over every event does.
--- The count from e on is one for the next event and the count behind it (`countFrom-next`), and 0 where there is none (`countFrom-none`). The members from e on are those from
--- the next event on (`members-next`), which comes first among them (`members-here`); past the last event there is none (`members-none`).
+-- The count from e on is one for the next event and the count behind it (`countFrom-next`), and 0 where there is none (`countFrom-none`).
+-- The members from e on are those from the next event on (`members-next`), which comes first among them (`members-here`); past the last event there is none
+-- (`members-none`).
 
 use Prim.Native.Nat.{ℕ, zero, suc, _+_, _*_, _-_, _/_, _%_, _^_, _≤_, _<_}
 use mathlib.Core.Path.{_≡_, refl, sym, ap, _∙_}

@@ -51,7 +51,47 @@ expected c = bytes (c .output)
 abbrev pub Right : List Case → Type 0
 Right cases = map answer cases ≡ map expected cases
 
--- naming this on an `unfolding` line opens every definition between the input's bytes and the output's
+-- Naming one of these on an `unfolding` line opens the definitions of a subject.
+
+-- a plan's text, read
+unfoldable pub reading : Type 0
+unfolding bytes lenTo afterKey allDigits isPositive isNumber digitsValue numberValue numberIn numberOf digitsBefore decimal refusedLine next lined line
+reading = Unit {0}
+
+unfoldable pub readingPlans : Type 0
+unfolding linedNumber eventName sameEvent jobLines jobsAfter boundParts isGiven isWrongPair boundOf linedBound boundsAfter planLines planHead nothingAfter
+readingPlans = Unit {0}
+
+-- judgement and elimination
+unfoldable pub eliminating : Type 0
+unfolding jobAt shift earliest latest nodeOf eventOf judged least plus join at listed leastOf judgement anyBelow contradicts keptRows judgedSet
+eliminating = Unit {0}
+
+-- rounds and the verdict
+unfoldable pub settling : Type 0
+unfolding finishCell startCell thenSet withoutPlace eliminated givenBounds ranges orders ownBounds betweenBounds C0 onNext joined round sameCell sameRow
+settling = Unit {0}
+
+unfoldable pub deciding : Type 0
+unfolding sameRows failsAlone decided roundsFrom outcomeFrom outcome hasEvent eventSet thenTables beforeStarts termsOf leastCs mostCs allTerms allCs
+deciding = Unit {0}
+
+-- the calendar and its text
+unfoldable pub printing : Type 0
+unfolding calendarOf calendar termLines jobText jobTexts calendarText outcomeText answered
+printing = Unit {0}
+
+-- offers and steps
+unfoldable pub dispatching : Type 0
+unfolding membersFrom lowerTerms upperTerms greatest offers.least openingAt asked started closed finished answerAt jobSeen frontFrom moved
+dispatching = Unit {0}
+
+-- a session's text
+unfoldable pub answering : Type 0
+unfolding timed finishIn finishStep startIn startStep stepIn linedStep stepLine answerLine endsSession answeredStep afterStep dispatchedWithin judgedSession sessionOf
+answering = Unit {0}
+
+-- all of them: every definition between the input's bytes and the output's
 unfoldable pub computing : Type 0
-unfolding bytes lenTo afterKey allDigits isPositive isNumber digitsValue numberValue numberIn numberOf digitsBefore decimal refusedLine next lined line linedNumber eventName sameEvent jobLines jobsAfter boundParts isGiven isWrongPair boundOf linedBound boundsAfter planLines planHead nothingAfter jobAt shift earliest latest nodeOf eventOf judged least plus join at listed leastOf judgement anyBelow contradicts keptRows judgedSet finishCell startCell thenSet withoutPlace eliminated givenBounds ranges orders ownBounds betweenBounds C0 onNext joined round sameCell sameRow sameRows failsAlone decided roundsFrom outcomeFrom outcome hasEvent eventSet thenTables beforeStarts termsOf leastCs mostCs allTerms allCs calendarOf calendar termLines jobText jobTexts calendarText outcomeText answered membersFrom lowerTerms upperTerms greatest offers.least openingAt asked started closed finished answerAt jobSeen frontFrom moved timed finishIn finishStep startIn startStep stepIn linedStep stepLine answerLine endsSession answeredStep afterStep dispatchedWithin judgedSession sessionOf
+unfolding reading readingPlans eliminating settling deciding printing dispatching answering
 computing = Unit {0}

@@ -1,5 +1,5 @@
--- What is promised, in the words of the definitions: that a refusal moves no run, the round trips, the verdict, the offers, and which steps are taken. Each proof
--- cites where the work was done, above all `plan`, PlanLaws, and `strategy`, Theorems. That these are the answers which the programs print stands in
+-- What is promised, in the words of the definitions: that a refusal moves no run, the round trips, the verdict, the offers, and which steps are taken. Each
+-- proof cites where the work was done, above all `plan`, PlanLaws, and `strategy`, Theorems. That these are the answers which the programs print stands in
 -- `Printed`; what is promised of bytes, in the contracts of the code (docs/PROMISES.md).
 use Prim.Native.Nat.{ℕ, _+_, _*_, _-_, _≤_, _<_}
 use mathlib.Core.Path.{_≡_}
@@ -168,11 +168,13 @@ module _ (p : Plan) (good : Accepted p) where
     pub session-never-11 : (st : Step) → stepped p (calendar p c) (afterSteps p (calendar p c) newRun sts) st .answer ≡ Refused refusal.EmptyOffer → ⊥
     session-never-11 = never-11 m c accepted _ (session-kept .history) (session-kept .reached)
 
-    -- and any that is made on values, from `new_run` by `ask`, `start_at`, `start_auto` and `finish_at`: it is inside its limits too, so that `value-step` speaks of it
+    -- and any that is made on values, from `new_run` by `ask`, `start_at`, `start_auto` and `finish_at`: it is inside its limits too, so that `value-step`
+    -- speaks of it
     pub values-kept : InsideReached p (calendar p c) (afterValues p (calendar p c) newRun sts)
     values-kept = values-from-new p good m c accepted sts
 
--- what a start and a finish that were taken make of any run: it runs since the time that was told; it waits for the window's next job, or for the next window's first
+-- what a start and a finish that were taken make of any run: it runs since the time that was told; it waits for the window's next job, or for the next
+-- window's first
 module _ (p : Plan) (c : Calendar) (r : Run) (j i : ℕ) where
   pub started-runs : (choice : Choice) (t : RunTime) → stepped p c r (Start choice) .answer ≡ Started j i t
       → stepped p c r (Start choice) .run .phase ≡ Running j i t

@@ -82,7 +82,8 @@ module _ (p : Plan) (good : Accepted p) (m : ℕ) (c : Rows) (accepted : outcome
       some = omega arith
 
       of : (m : Reading Step) → stepLine (b ∷ s) n ≡ m
-          → ((st : Step) (u : List ℕ) (k : ℕ) → length u ≤ left → stepLines u k ≡ refused x part → EndsWith (answers p (calendar p c) (afterSteps p (calendar p c) newRun (sts ++ (st ∷ []))) u k) x)
+          → ((st : Step) (u : List ℕ) (k : ℕ) → length u ≤ left → stepLines u k ≡ refused x part → EndsWith
+          (answers p (calendar p c) (afterSteps p (calendar p c) newRun (sts ++ (st ∷ []))) u k) x)
           → EndsWith (answers p (calendar p c) (afterSteps p (calendar p c) newRun sts) (b ∷ s) n) x
       of (refused y u) d later =
           let f = stepLines-refused (b ∷ s) n some y u d in
@@ -107,7 +108,8 @@ refused-ends s x part e = of (planHead s) refl e
     by-outcome : (p : Plan) (u : List ℕ) (n : ℕ) → planHead s ≡ read p u n → (o : Outcome) → outcome p ≡ o
         → next (orRefused (verdictTold (verdictOf p o)) (read p u n)) (λ p. stepLines) ≡ refused x part → EndsWith (dispatchOutput s) x
     by-outcome p u n d (settled m c) a f =
-        subst (λ (out : List ℕ). EndsWith out x) (sym (session-printed s d m c a)) (steps-end p (planHead-accepted s d) m c a x part (length u) [] u n (omega arith) f)
+        subst (λ (out : List ℕ). EndsWith out x) (sym (session-printed s d m c a))
+        (steps-end p (planHead-accepted s d) m c a x part (length u) [] u n (omega arith) f)
     by-outcome p u n d (noStrategy K) a f =
         let same : refusal.NoStrategy K ≡ x = cc in
         only-line same (ap sessionOf d ∙ ap (λ (o : Outcome). judgedSession p o u n) a)
@@ -177,7 +179,8 @@ module _ (p : Plan) (good : Accepted p) (m : ℕ) (c : Rows) (accepted : outcome
       some : 0 < length (b ∷ s)
       some = omega arith
 
-      of : (m : Reading Step) → stepLine (b ∷ s) n ≡ m → ((st : Step) (u : List ℕ) (i : ℕ) → length u ≤ left → stepLines u i ≡ read tt t k → StepsTaken (done ++ (st ∷ [])) u i)
+      of : (m : Reading Step) → stepLine (b ∷ s) n ≡ m
+          → ((st : Step) (u : List ℕ) (i : ℕ) → length u ≤ left → stepLines u i ≡ read tt t k → StepsTaken (done ++ (st ∷ [])) u i)
           → StepsTaken done (b ∷ s) n
       of (refused y u) d more =
           let f = stepLines-refused (b ∷ s) n some y u d in

@@ -153,14 +153,42 @@ runs =
     -- the start of the job that runs
     ∷ record { plan = planP; calendar = calendarP; run = first (Running 1 1 (at (negsuc 0))); step = Finish (at (pos 2)); told = outside }
     -- the times of the previous window: the last time is inside, the next one is not
-    ∷ record { plan = planP; calendar = calendarP; run = later (Waiting 2 1) (ran (pos 3) (pos 100000000000000000)); step = Ask; told = offered (pos 11) (pos 15) }
+    ∷ record {
+      plan = planP;
+      calendar = calendarP;
+      run = later (Waiting 2 1) (ran (pos 3) (pos 100000000000000000));
+      step = Ask;
+      told = offered (pos 11)
+          (pos 15);
+    }
     ∷ record { plan = planP; calendar = calendarP; run = later (Waiting 2 1) (ran (pos 3) (pos 100000000000000001)); step = Ask; told = outside }
     ∷ record { plan = planP; calendar = calendarP; run = later (Waiting 2 1) (ran (negsuc 0) (pos 7)); step = Ask; told = outside }
     -- without a previous window, its times are no part of the run
-    ∷ record { plan = planP; calendar = calendarP; run = runWith 1 (Waiting 1 1) Nothing (ran (negsuc 0) (negsuc 0)) notRun; step = Ask; told = offered (pos 0) (pos 6) }
+    ∷ record {
+      plan = planP;
+      calendar = calendarP;
+      run = runWith 1 (Waiting 1 1) Nothing (ran (negsuc 0) (negsuc 0)) notRun;
+      step = Ask;
+      told = offered
+          (pos 0) (pos 6);
+    }
     -- the times of the present window, which are a part of it once job 1 has finished
-    ∷ record { plan = planWith (pos 10) 2; calendar = calendarP; run = runWith 2 (Waiting 1 1) Nothing notRun (ran (negsuc 0) (pos 2)); step = Ask; told = offered (pos 0) (pos 6) }
-    ∷ record { plan = planWith (pos 10) 2; calendar = calendarP; run = runWith 2 (Waiting 1 2) Nothing notRun (ran (negsuc 0) (pos 2)); step = Ask; told = outside }
+    ∷ record {
+      plan = planWith (pos 10) 2;
+      calendar = calendarP;
+      run = runWith 2 (Waiting 1 1) Nothing notRun
+          (ran (negsuc 0) (pos 2));
+      step = Ask;
+      told = offered (pos 0) (pos 6);
+    }
+    ∷ record {
+      plan = planWith (pos 10) 2;
+      calendar = calendarP;
+      run = runWith 2 (Waiting 1 2) Nothing notRun
+          (ran (negsuc 0) (pos 2));
+      step = Ask;
+      told = outside;
+    }
     ∷ []
 
 -- 'a calendar's low, high and c lie in the range of a bound's c, its bits name events of the previous window or of earlier jobs only'

@@ -1,6 +1,7 @@
 -- From the theorems to the bytes that the two programs print. Of a settled plan the dispatch program prints the answers to the steps behind it, each in the
 -- run after the steps before it; and `refused=4,K`, from either program, means that there is no way to choose the starts for K windows and one for every
--- smaller number, and `settled=`, from the calendar program, that there is one for every number. That the programs write these bytes is the contracts' (docs/PROMISES.md). Each proof cites where the work was done.
+-- smaller number, and `settled=`, from the calendar program, that there is one for every number. That the programs write these bytes is the contracts'
+-- (docs/PROMISES.md). Each proof cites where the work was done.
 use Prim.Native.Nat.{ℕ, _<_}
 use mathlib.Core.Path.{_≡_, refl, ap, _∙_}
 use mathlib.Core.Bool.{true, false}

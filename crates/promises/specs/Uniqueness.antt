@@ -1,5 +1,5 @@
--- No two answers meet one promise. Most crates say it of their own operations, in `Unique`; here it is said of those of `clock`, `bounds` and `rounds`. What a set of
--- bounds leaves open is told in docs/PROMISES.md.
+-- No two answers meet one promise. Most crates say it of their own operations, in `Unique`; here it is said of those of `clock`, `bounds` and `rounds`. What
+-- a set of bounds leaves open is told in docs/PROMISES.md.
 use Prim.Native.Nat.{ℕ}
 use mathlib.Core.Path.{_≡_, ap}
 use mathlib.Core.Bool.{Bool}
@@ -43,7 +43,8 @@ pub empty-unique : {ws us : List ℤ} → ws ≡ noBounds → us ≡ noBounds �
 empty-unique = only
 
 -- whether there is a contradiction, and every weight of the array
-pub put-unique : (early late : List ℤ) (y z : ℕ) (v a : ℤ) (ws : List ℤ) {b c : Bool} {us xs : List ℤ} → flat b us ≡ putAt early late y z v a ws → flat c xs ≡ putAt early late y z v a ws
+pub put-unique : (early late : List ℤ) (y z : ℕ) (v a : ℤ) (ws : List ℤ) {b c : Bool} {us xs : List ℤ} → flat b us ≡ putAt early late y z v a ws
+    → flat c xs ≡ putAt early late y z v a ws
     → (b ≡ c) × (us ≡ xs)
 put-unique early late y z v a ws e f = let s = only e f in (ap (λ (r : Flat). r .found) s, ap (λ (r : Flat). r .weights) s)
 

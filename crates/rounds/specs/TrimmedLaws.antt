@@ -26,7 +26,26 @@ use Rattle.bounds.specs.declared.Event.the-variants.{Origin, Start, Finish}
 use Rattle.bounds.specs.declared.Judgement.{Judgement}
 use Rattle.bounds.specs.Events.{isThis, jobAt, shift, earliest, latest, startNode, finishNode, eventOf, nodes}
 use Rattle.bounds.specs.Judgements.{judged}
-use Rattle.bounds.specs.Tables.{Cell, off, upto, least, Rows, at, build, Between, leastOf, judgement, isContradiction, keptCell, Set, contradiction, bounds, contradicts, keptRows, judgedSet}
+use Rattle.bounds.specs.Tables.{
+  Cell,
+  off,
+  upto,
+  least,
+  Rows,
+  at,
+  build,
+  Between,
+  leastOf,
+  judgement,
+  isContradiction,
+  keptCell,
+  Set,
+  contradiction,
+  bounds,
+  contradicts,
+  keptRows,
+  judgedSet,
+}
 use Rattle.bounds.specs.TablesLaws.{anyBelow-ext, build-ext, judgedSet-ext}
 use Rattle.bounds.specs.Elimination.{finishCell, withoutFinish, withoutStart, thenSet, withoutPlace, eliminated}
 use Rattle.rounds.specs.Given.{placeOf, meant, hasNext, givenBounds, ranges, orders, ownBounds, inOrder, betweenBounds}

@@ -1,7 +1,8 @@
--- What an answer tells of its step. An offer is for the job that the run waits for, in a window of the plan (`opening-opens`); a start that is answered was on offer and at a
--- time (`answer-started`); a finish that is answered is the step's, of the job that runs, inside its times (`answer-final`). Of the refusals only the opening gives 11
--- (`answer-empty`). And the other way: while an opening is open, an ask is answered by its offer and a start is taken exactly if it is on offer (`ask-offered`, `start-taken`,
--- `start-refused`, `start-auto`); a finish is final exactly inside its times (`finish-inside`, `finish-outside`).
+-- What an answer tells of its step. An offer is for the job that the run waits for, in a window of the plan (`opening-opens`); a start that is answered was
+-- on offer and at a time (`answer-started`); a finish that is answered is the step's, of the job that runs, inside its times (`answer-final`). Of the
+-- refusals only the opening gives 11 (`answer-empty`). And the other way: while an opening is open, an ask is answered by its offer and a start is taken
+-- exactly if it is on offer (`ask-offered`, `start-taken`, `start-refused`, `start-auto`); a finish is final exactly inside its times (`finish-inside`,
+-- `finish-outside`).
 use Prim.Native.Nat.{ℕ, _+_, _-_, _≤_, _<_}
 use mathlib.Core.Path.{_≡_, refl, sym, ap, subst, _∙_}
 use mathlib.Core.Bool.{Bool, true, false, cond, _&&_}

@@ -2,7 +2,7 @@
 use Prim.Native.Nat.{ℕ, zero, suc, _+_, _*_, _-_, _≤_, _<_}
 use mathlib.Core.Path.{_≡_, refl, sym, ap, ap₂, _∙_}
 use mathlib.Core.Bool.{Bool, true, false, cond}
-use mathlib.Core.List.{List, [], _∷_, map, foldl}
+use mathlib.Core.List.{List}
 use native.Mathlib.Numerals.{add-one}
 use native.Mathlib.Omega.{arith}
 use lib.Dec.{leb}
@@ -21,7 +21,7 @@ use Rattle.runs.specs.declared.Run.{Run}
 use Rattle.runs.specs.declared.Offer.{Offer}
 use Rattle.runs.specs.Seen.{timeAt, firstSeen}
 use Rattle.runs.specs.Offers.{termAt, lowerTerms, upperTerms, greatest, least, offerAt}
-use Rattle.runs.specs.Ends.{pickOf, pickedTime}
+use Rattle.runs.specs.Ends.{pickOf, pickedTime, endOver}
 
 -- ---- an end
 
@@ -35,12 +35,9 @@ module _ (seen cs : List ℤ) (row e : ℕ) (t : RunTime) (is : t ≡ timeAt see
   picked-read upper end u v p m =
       ap (λ (x : RunTime). x .0) p ∙ ap (λ (x : RunTime). pickOf upper (end .0) (x .0)) m ∙ ap (pickOf upper (end .0)) term-read
 
--- the terms of some events, picked one after the other
-abbrev pub endOver : (ℤ → ℤ → ℤ) → (ℕ → ℤ) → ℤ → List ℕ → ℤ
-endOver pick term end es = foldl pick end (map term es)
-
 -- two ends make the offer, where early and late are the origin's bounds on the run's clock
-module _ (d : Turn) (cs ds : List ℤ) (r : Run) (j i first count : ℕ) (f : first ≡ firstSeen (d .jobs) (r .before)) (n : count ≡ eventsAhead (d .jobs) (i - 1)) where
+module _ (d : Turn) (cs ds : List ℤ) (r : Run) (j i first count : ℕ) (f : first ≡ firstSeen (d .jobs) (r .before))
+    (n : count ≡ eventsAhead (d .jobs) (i - 1)) where
   pub offerAt-made : (early late from to : RunTime) → early ≡ onRun (d .window) j (d .terms .low) → late ≡ onRun (d .window) j (d .terms .high)
       → from .0 ≡ endOver (pickOf false) (termAt (r .seen) cs ((i - 1) * mostEvents)) (early .0) (membersFrom (d .terms .below .0) first (count - first))
       → to .0 ≡ endOver (pickOf true) (termAt (r .seen) ds ((i - 1) * mostEvents)) (late .0) (membersFrom (d .terms .above .0) first (count - first))

@@ -1,5 +1,5 @@
--- The ranges in which nothing that a step adds up wraps and every place that it looks at is one: of a plan, a calendar and a run inside their limits (`Inside`), and
--- of what is read off them.
+-- The ranges in which nothing that a step adds up wraps and every place that it looks at is one: of a plan, a calendar and a run inside their limits
+-- (`Inside`), and of what is read off them.
 use Prim.Native.Nat.{ℕ, _+_, _*_, _-_, _≤_, _<_}
 use mathlib.Core.Path.{_≡_}
 use mathlib.Core.Bool.{true, _&&_}

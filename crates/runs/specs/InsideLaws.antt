@@ -1,5 +1,5 @@
--- Of a plan, a calendar and a run inside their limits nothing that a step adds up wraps (`inside-step`), nor what a move does (`inside-move`), and no job has a place past
--- the last (`inside-job`).
+-- Of a plan, a calendar and a run inside their limits nothing that a step adds up wraps (`inside-step`), nor what a move does (`inside-move`), and no job has
+-- a place past the last (`inside-job`).
 use Prim.Native.Nat.{ℕ, zero, suc, _+_, _*_, _-_, _/_, _%_, _^_, _≤_, _<_}
 use mathlib.Core.Path.{_≡_, refl, sym, ap, subst, _∙_}
 use mathlib.Core.Logic.{_⊎_, inl, inr, ⊎-elim}
@@ -84,7 +84,8 @@ side-named p i set cs e =
       near = λ k l m.
           isC-near _
           (and-not (hasEvent k set) _
-          (anyBelow-no (eventsBefore p i) (λ e. isOut set e (getD cs (i * mostEvents + e) (pos 0))) (not-true _ (and-right (ltb set (2 ^ eventsBefore p i)) _ e)) k l) m);
+          (anyBelow-no (eventsBefore p i) (λ e. isOut set e (getD cs (i * mostEvents + e) (pos 0)))
+          (not-true _ (and-right (ltb set (2 ^ eventsBefore p i)) _ e)) k l) m);
     }
 
 terms-fit : (p : Plan) (r : Run) (i set : ℕ) (cs : List ℤ) → Named set cs (i * mostEvents) (eventsBefore p i)

@@ -1,6 +1,6 @@
--- A run at its beginning is inside its limits (`newRun-is`), and a run inside its limits stays there, whatever step comes (`stepped-keeps`): a refusal leaves it as
--- it is, a start is at a time on offer or brought with the step, and a finish is recorded at a place below the next job's. So it is for steps on values, with a plan
--- and a calendar inside theirs (`step-keeps`).
+-- A run at its beginning is inside its limits (`newRun-is`), and a run inside its limits stays there, whatever step comes (`stepped-keeps`): a refusal leaves
+-- it as it is, a start is at a time on offer or brought with the step, and a finish is recorded at a place below the next job's. So it is for steps on
+-- values, with a plan and a calendar inside theirs (`step-keeps`).
 use Prim.Native.Nat.{ℕ, zero, suc, _+_, _*_, _-_, _≤_, _<_}
 use mathlib.Core.Path.{_≡_, refl, sym, ap, subst}
 use mathlib.Core.Logic.{⊎-elim}
@@ -82,7 +82,8 @@ jobSeen-time : (jobs i : ℕ) (s t : RunTime) (seen : List ℤ) (k : ℕ) → is
     → isTime (timeAt (jobSeen jobs i s t seen) k) ≡ true
 unfolding jobSeen
 jobSeen-time jobs i s t seen k a b h =
-    timePut-time (timePut seen (eventsAhead jobs i) s) (eventsAhead jobs i + 1) k t (λ e. b) (λ n. timePut-time seen (eventsAhead jobs i) k s (λ e. a) (λ m. h m n))
+    timePut-time (timePut seen (eventsAhead jobs i) s) (eventsAhead jobs i + 1) k t (λ e. b)
+    (λ n. timePut-time seen (eventsAhead jobs i) k s (λ e. a) (λ m. h m n))
 
 front-time : (n : ℕ) (seen : List ℤ) (e left k : ℕ) → e + left ≤ n → k < e + left → ((d : ℕ) → d < n → isTime (timeAt seen (n + d)) ≡ true)
     → (k < e → isTime (timeAt seen k) ≡ true) → isTime (timeAt (frontFrom n e left seen) k) ≡ true

@@ -1,5 +1,5 @@
--- The limits as the code looks at them, one place after the other: the times that were seen (`areTimes-more`), the phase and the run by their tests, and whether
--- something is wrong from one place on (`anyFrom`), which is how a side and a calendar are walked (`isSide-walk`, `isCalendar-walk`).
+-- The limits as the code looks at them, one place after the other: the times that were seen (`areTimes-more`), the phase and the run by their tests, and
+-- whether something is wrong from one place on (`anyFrom`), which is how a side and a calendar are walked (`isSide-walk`, `isCalendar-walk`).
 use Prim.Native.Nat.{ℕ, zero, suc, _+_, _*_, _-_, _/_, _^_, _≤_, _<_}
 use mathlib.Core.Path.{_≡_, refl, sym, ap, ap₂, _∙_}
 use mathlib.Core.Bool.{Bool, true, false, not, _&&_, _||_}

@@ -1,6 +1,6 @@
 -- The calendar of a settled plan is inside its limits (`made-inside`). The settled set is fit (`settled-fit`), and so are the tables just before the starts
--- (`beforeStarts-fit`): their weights lie within 259,200,000 (`weight-in`), and so low, high and every c are in the range of a bound's c. Places that no job fills
--- hold zeros, and a set names only events before its start (`calendarOf-inside`).
+-- (`beforeStarts-fit`): their weights lie within 259,200,000 (`weight-in`), and so low, high and every c are in the range of a bound's c. Places that no job
+-- fills hold zeros, and a set names only events before its start (`calendarOf-inside`).
 use Prim.Native.Nat.{ℕ, zero, suc, _+_, _*_, _-_, _^_, _≤_, _<_}
 use mathlib.Core.Path.{_≡_, refl, sym, ap, subst, _∙_}
 use mathlib.Core.Bool.{Bool, true, false, not, cond, _&&_}
@@ -28,7 +28,22 @@ use Rattle.rounds.specs.CarriedLaws.{C0-fit, joined-fit, eliminated-fit}
 use Rattle.calendars.specs.declared.Terms.{Terms}
 use Rattle.events.specs.Bits.{hasEvent}
 use Rattle.bounds.specs.BuildLaws.{eventSet-listed-fits}
-use Rattle.calendars.specs.Calendars.{thenTables, beforeStarts, weight, nodeOfEvent, eventsBefore, termsOf, leastCs, mostCs, mostEvents, noTerms, allTerms, allCs, calendarOf, calendar}
+use Rattle.calendars.specs.Calendars.{
+  thenTables,
+  beforeStarts,
+  weight,
+  nodeOfEvent,
+  eventsBefore,
+  termsOf,
+  leastCs,
+  mostCs,
+  mostEvents,
+  noTerms,
+  allTerms,
+  allCs,
+  calendarOf,
+  calendar,
+}
 use Rattle.runs.specs.ValueLimits.{isC, isSide, areTermsOf, isCalendar}
 use Rattle.runs.specs.LimitLaws.{anyFrom-is, isC-in, outAt, isSide-walk, areTermsOf-above, termsOut, isCalendar-walk}
 
@@ -90,7 +105,8 @@ abbrev AllFit : Plan → ℕ → List Rows → Type 0
 AllFit p i [] = Unit
 AllFit p i (t ∷ ts) = Fit p (suc (startNode (p .jobs + i))) t × AllFit p (suc i) ts
 
-AllFit-more : (p : Plan) (i n : ℕ) (ts : List Rows) (u : Rows) → suc (startNode (p .jobs + (i + length ts))) ≤ n → AllFit p i ts → Fit p n u → AllFit p i (ts ++ (u ∷ []))
+AllFit-more : (p : Plan) (i n : ℕ) (ts : List Rows) (u : Rows) → suc (startNode (p .jobs + (i + length ts))) ≤ n → AllFit p i ts → Fit p n u
+    → AllFit p i (ts ++ (u ∷ []))
 AllFit-more p i n [] u h a fit = (Fit-below p n (suc (startNode (p .jobs + i))) u (omega arith) fit, tt)
 AllFit-more p i n (t ∷ ts) u h a fit = (a .0, AllFit-more p (suc i) n ts u (omega arith) (a .1) fit)
 

@@ -1,6 +1,6 @@
--- The offer as an interval, of any run value. A time is at or past an end exactly if it is at or past the origin's bound and every term in force (`endOver-iff`), and an end
--- is one of these (`endOver-one`): each for both ends at once, with the pick and its order as parameters. So the lower end is the greatest of its terms and the upper end the
--- least of its (`offerAt-from-iff`, `offerAt-from-one`, `offerAt-to-iff`, `offerAt-to-one`).
+-- The offer as an interval, of any run value. A time is at or past an end exactly if it is at or past the origin's bound and every term in force
+-- (`endOver-iff`), and an end is one of these (`endOver-one`): each for both ends at once, with the pick and its order as parameters. So the lower end is the
+-- greatest of its terms and the upper end the least of its (`offerAt-from-iff`, `offerAt-from-one`, `offerAt-to-iff`, `offerAt-to-one`).
 use Prim.Native.Nat.{ℕ, zero, suc, _+_, _*_, _-_, _≤_, _<_}
 use mathlib.Core.Path.{_≡_, refl, sym, ap, _∙_}
 use mathlib.Core.Bool.{Bool, true, false, cond}
@@ -18,7 +18,7 @@ use Rattle.runs.specs.declared.Run.{Run}
 use Rattle.runs.specs.TestLaws.{true-not-false, here-or-later}
 use Rattle.runs.specs.Seen.{firstSeen}
 use Rattle.runs.specs.Offers.{termAt, lowerTerms, upperTerms, greater, lesser, greatest, least, offerAt}
-use Rattle.runs.specs.EndLaws.{endOver}
+use Rattle.runs.specs.Ends.{endOver}
 use Rattle.runs.specs.SeenLaws.{firstSeen-most}
 
 -- ---- the terms of one end

@@ -1,6 +1,6 @@
 -- What a run has seen, place by place. A job that was seen is there at its two places (`jobSeen-start`, `jobSeen-finish`), and no other place has moved
--- (`jobSeen-other`). At a window's end each place of the previous window holds what that of the present window held (`toFront-at`), which a loop does one place after
--- the other (`front-more`, `front-none`). No place is lost (`jobSeen-length`, `toFront-length`).
+-- (`jobSeen-other`). At a window's end each place of the previous window holds what that of the present window held (`toFront-at`), which a loop does one
+-- place after the other (`front-more`, `front-none`). No place is lost (`jobSeen-length`, `toFront-length`).
 use Prim.Native.Nat.{ℕ, zero, suc, _+_, _*_, _-_, _≤_, _<_}
 use mathlib.Core.Path.{_≡_, refl, sym, ap, _∙_}
 use mathlib.Core.Logic.{⊎-elim}

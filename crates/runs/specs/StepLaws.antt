@@ -1,7 +1,8 @@
--- Steps, one case after the other, as the code takes them: a finish (`finished-on`, `finished-off`); an opening by its phase (`opening-over`, `opening-waiting`,
--- `opening-running`); the answer by the kind of step (`answer-ask`, `answer-start`, `answer-idle`, `answer-finish`); a step with an accepted plan (`acceptedStep-..`); and a step on values,
--- whose plan is judged first (`step-refused`, `step-accepted`). A step on values inside their limits is that step of the run (`step-inside`), one whose time is outside is
--- refused (`step-outside`). A refusal leaves the run as it was (`stepped-stays`, `step-stays`).
+-- Steps, one case after the other, as the code takes them: a finish (`finished-on`, `finished-off`); an opening by its phase (`opening-over`,
+-- `opening-waiting`, `opening-running`); the answer by the kind of step (`answer-ask`, `answer-start`, `answer-idle`, `answer-finish`); a step with an
+-- accepted plan (`acceptedStep-..`); and a step on values, whose plan is judged first (`step-refused`, `step-accepted`). A step on values inside their limits
+-- is that step of the run (`step-inside`), one whose time is outside is refused (`step-outside`). A refusal leaves the run as it was (`stepped-stays`,
+-- `step-stays`).
 use Prim.Native.Nat.{ℕ, _-_, _≤_, _<_}
 use mathlib.Core.Path.{_≡_, refl, sym, ap, ap₂, _∙_}
 use mathlib.Core.Bool.{Bool, true, false, _&&_}
@@ -43,7 +44,22 @@ use Rattle.runs.specs.declared.Step.the-variants.{Ask, Start, Finish}
 use Rattle.runs.specs.declared.Opening.the-variants.{Shut}
 use Rattle.runs.specs.ValueLimits.{isRun, isCalendar}
 use Rattle.runs.specs.Offers.{turnOf, offerAt, opened, openingAt}
-use Rattle.runs.specs.Steps.{asked, started, finishedSince, finished, answerAt, answerOf, moved, answeredBy, stepped, isStep, valuesRefused, unlessRefused, valuesAnswer, step}
+use Rattle.runs.specs.Steps.{
+  asked,
+  started,
+  finishedSince,
+  finished,
+  answerAt,
+  answerOf,
+  moved,
+  answeredBy,
+  stepped,
+  isStep,
+  valuesRefused,
+  unlessRefused,
+  valuesAnswer,
+  step,
+}
 use Rattle.runs.specs.TestLaws.{and-true}
 use Rattle.runs.specs.Inside.{Inside, acceptedStep, refusedWith, runOf, movedOf, FinishInside}
 

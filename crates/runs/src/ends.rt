@@ -6,12 +6,11 @@ use clock::RunTime;
 use events::Events;
 use events::MOST_EVENTS;
 ghost use mathlib.Core.Path.{_≡_};
-ghost use mathlib.Core.List.{map, foldl};
 ghost use Prim.Native.Nat.{_+_, _*_, _-_, _≤_, _<_};
 ghost use Rattle.plan.specs.Limits.{mostJobs};
 ghost use Rattle.events.specs.Bits.{mostEvents, membersFrom};
 ghost use Rattle.runs.specs.Offers.{termAt};
-ghost use Rattle.runs.specs.Ends.{pickOf, pickedTime};
+ghost use Rattle.runs.specs.Ends.{pickOf, pickedTime, endOver};
 ghost use Rattle.runs.specs.Inside.{TermsFit};
 
 // The earlier of two times at the upper end, the later one at the lower end.
@@ -45,7 +44,7 @@ pub fn end_of<'a>(
     requires { ⌜ count ≤ mostEvents ⌝ }
     requires { ⌜ row + count ≤ mostJobs * mostEvents ⌝ }
     requires { ⌜ TermsFit (now seen) (set .0) (now cs) row first count ⌝ }
-    ensures { λ r. ⌜ r .0 ≡ foldl (pickOf upper) (end .0) (map (termAt (now (seen .entry)) (now (cs .entry)) row) (membersFrom (set .0) first (count - first))) ⌝ }
+    ensures { λ r. ⌜ r .0 ≡ endOver (pickOf upper) (termAt (now (seen .entry)) (now (cs .entry)) row) (end .0) (membersFrom (set .0) first (count - first)) ⌝ }
 {
     let mut end = end;
     let mut e = set.next(first);

@@ -45,9 +45,9 @@ pub enum Before {
     Window,
 }
 
-// A run: its phase, what is before its present window, and the times that it has seen, on the run's clock. The time of event e of a calendar stands at place e: the
-// previous window's events first, then the present window's. Places of a previous window where there is none, and those of jobs that the present window has not
-// finished, are no part of the run.
+// A run: its phase, what is before its present window, and the times that it has seen, on the run's clock. The time of event e of a calendar stands at place
+// e: the previous window's events first, then the present window's. Places of a previous window where there is none, and those of jobs that the present
+// window has not finished, are no part of the run.
 pub struct Run {
     pub phase: Phase,
     pub before: Before,
@@ -111,8 +111,8 @@ pub struct Answered {
     pub run: Run,
 }
 
-// The job whose turn it is: what its plan says of windows and jobs, and for this job its limits and the terms of its calendar. A step reads nothing else of them but the
-// c of the terms, so that neither is copied from step to step.
+// The job whose turn it is: what its plan says of windows and jobs, and for this job its limits and the terms of its calendar. A step reads nothing else of
+// them but the c of the terms, so that neither is copied from step to step.
 pub struct Turn {
     pub window: i32,
     pub last: u64,

@@ -10,13 +10,14 @@ use crate::seen::put_to_front;
 use clock::RunTime;
 use events::MOST_EVENTS;
 ghost use mathlib.Core.Path.{_≡_};
+ghost use Rattle.runs.specs.Steps.{newRun, closedSince, closed};
 ghost use Rattle.runs.specs.Steps as steps;
 ghost use Rattle.runs.specs.declared.Phase.the-variants.{Running};
 ghost use Rattle.runs.specs.Inside.{runOf, movedOf, TurnInside, MoveInside};
 
 // A run at its beginning.
 pub fn new_run() -> Run
-    ensures { λ r. ⌜ r ≡ steps.newRun ⌝ }
+    ensures { λ r. ⌜ r ≡ newRun ⌝ }
 {
     let phase = Phase::Waiting { window: 1, job: 1 };
     let before = Before::Nothing;
@@ -39,7 +40,7 @@ fn close(
     t: RunTime,
 ) -> Moved
     requires { ⌜ TurnInside jobs j i ⌝ }
-    ensures { λ r. ⌜ runOf (r .phase) (r .before) (now (seen .exit)) ≡ steps.closedSince jobs (runOf (Running j i start) before (now (seen .entry))) j i start t ⌝ }
+    ensures { λ r. ⌜ runOf (r .phase) (r .before) (now (seen .exit)) ≡ closedSince jobs (runOf (Running j i start) before (now (seen .entry))) j i start t ⌝ }
 {
     let place = i - 1;
     put_job(seen, jobs, place, start, t);
@@ -77,7 +78,7 @@ fn close_in(
     t: RunTime,
 ) -> Moved
     requires { ⌜ MoveInside jobs phase ⌝ }
-    ensures { λ r. ⌜ runOf (r .phase) (r .before) (now (seen .exit)) ≡ steps.closed jobs (runOf phase before (now (seen .entry))) t phase ⌝ }
+    ensures { λ r. ⌜ runOf (r .phase) (r .before) (now (seen .exit)) ≡ closed jobs (runOf phase before (now (seen .entry))) t phase ⌝ }
 {
     match phase {
         Phase::Waiting { window: _, job: _ } => Moved {

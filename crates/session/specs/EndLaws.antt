@@ -1,5 +1,5 @@
--- Which answers go on: an opening is shut by a refusal that goes on (`opening-quiet`), so no step ends a session but an auto start outside the range of T; where that is answered
--- while the run waits and lasts, none does (`answer-goes`).
+-- Which answers go on: an opening is shut by a refusal that goes on (`opening-quiet`), so no step ends a session but an auto start outside the range of T;
+-- where that is answered while the run waits and lasts, none does (`answer-goes`).
 use Prim.Native.Nat.{ℕ, _-_, _≤_}
 use mathlib.Core.Path.{_≡_, refl, ap}
 use mathlib.Core.Bool.{Bool, true, false, cond}
@@ -80,7 +80,8 @@ finished-goes job t (Running j i s) = of (within (s .0 +ℤ job .min) (s .0 +ℤ
 -- an auto start goes on wherever the run is over or running; so it is enough to know the rest
 module _ (p : Plan) (c : Calendar) (r : Run)
     (auto : (j i : ℕ) → r .phase ≡ Waiting j i → j ≤ p .last → endsSession (answerOf p c r (Start Auto)) ≡ false) where
-  shut-goes : {x : Opening} → openingAt (turnOf p c (jobOfPhase (r .phase))) (c .«at_least») (c .«at_most») r (r .phase) ≡ x → endsSession (started Auto x) ≡ false
+  shut-goes : {x : Opening} → openingAt (turnOf p c (jobOfPhase (r .phase))) (c .«at_least») (c .«at_most») r (r .phase) ≡ x
+      → endsSession (started Auto x) ≡ false
       → endsSession (answerOf p c r (Start Auto)) ≡ false
   unfolding answerAt
   shut-goes {x} e h = rw e h

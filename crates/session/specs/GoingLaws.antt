@@ -27,7 +27,16 @@ use Rattle.session.specs.StepRead.{stepLine}
 use Rattle.session.specs.StepAt.{StepEnds}
 use Rattle.session.specs.AnswerText.{answerLine, endsSession}
 use Rattle.session.specs.Sessions.{Dispatched, dispatched, answers}
-use Rattle.session.specs.SessionLaws.{dispatched-end, dispatched-refused, dispatched-last, dispatched-more, answers-end, answers-refused, answers-last, answers-more}
+use Rattle.session.specs.SessionLaws.{
+  dispatched-end,
+  dispatched-refused,
+  dispatched-last,
+  dispatched-more,
+  answers-end,
+  answers-refused,
+  answers-last,
+  answers-more,
+}
 
 -- what the loop comes to: all answers, written, the run after them, and a bound of their length from that of the text
 pub record Done (text out₀ : List ℕ) (from at : ℕ) (whole : Dispatched) (out : List ℕ) (end : ℕ) (run : Run) : Type 0 where
@@ -79,13 +88,15 @@ module _ (p : Plan) (c : Calendar) (text out₀ : List ℕ) (from line at : ℕ)
             short = omega arith;
           }
 
-      module _ (st : Step) (next : ℕ) (a : Answered) (d : stepLine (drop place text) number ≡ read st (drop next text) (number + 1)) (q : a ≡ stepped p c run st) (s : Stored out end (answerLine (a .answer)) o e) where
+      module _ (st : Step) (next : ℕ) (a : Answered) (d : stepLine (drop place text) number ≡ read st (drop next text) (number + 1))
+          (q : a ≡ stepped p c run st) (s : Stored out end (answerLine (a .answer)) o e) where
         pub going-last : endsSession (a .answer) ≡ true → Done text out₀ from at Whole o e (a .run)
         going-last y =
             record {
               stored = g .left o e (rw (answers-last p c run (drop place text) number some st (drop next text) (number + 1) a d q y) s);
               left =
-                  sym (ap (λ (d : Dispatched). d .run) (dispatched-last p c run (drop place text) number some st (drop next text) (number + 1) a d q y)) ∙ g .same-run;
+                  sym (ap (λ (d : Dispatched). d .run) (dispatched-last p c run (drop place text) number some st (drop next text) (number + 1) a d q y))
+                  ∙ g .same-run;
               short = omega arith;
             }
 
@@ -97,7 +108,8 @@ module _ (p : Plan) (c : Calendar) (text out₀ : List ℕ) (from line at : ℕ)
             record {
               left = λ o′ e′ s′. g .left o′ e′ (rw more (stored-append s s′));
               same-run =
-                  sym (ap (λ (d : Dispatched). d .run) (dispatched-more p c run (drop place text) number some st (drop next text) (number + 1) a d q y)) ∙ g .same-run;
+                  sym (ap (λ (d : Dispatched). d .run) (dispatched-more p c run (drop place text) number some st (drop next text) (number + 1) a d q y))
+                  ∙ g .same-run;
               same = ap length (s .slice) ∙ put-length out end (answerLine (a .answer)) ∙ g .same;
               inside =
                   record {

@@ -1,5 +1,5 @@
--- A session from its plan on. What the reader of a plan answers is the session's output: its one line, where the plan is refused (`head-refused`), and else what
--- its verdict says, from the place and the line where the plan ended (`head-accepted`).
+-- A session from its plan on. What the reader of a plan answers is the session's output: its one line, where the plan is refused (`head-refused`), and else
+-- what its verdict says, from the place and the line where the plan ended (`head-accepted`).
 use Prim.Native.Nat.{ℕ, _+_, _≤_}
 use mathlib.Core.Path.{_≡_, sym, ap}
 use mathlib.Core.List.{List}

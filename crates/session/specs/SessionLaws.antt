@@ -1,6 +1,6 @@
--- The laws of a session's steps, which are answered one at a time: where nothing is left there is no answer (`dispatched-end`); a line that is no step is the last
--- (`dispatched-refused`); a step's answer is the last where it ends the session (`dispatched-last`), and else what follows comes after it (`dispatched-more`). The same of the
--- answer lines alone (`answers-..`), of which the last step's is the last (`answers-only`).
+-- The laws of a session's steps, which are answered one at a time: where nothing is left there is no answer (`dispatched-end`); a line that is no step is the
+-- last (`dispatched-refused`); a step's answer is the last where it ends the session (`dispatched-last`), and else what follows comes after it
+-- (`dispatched-more`). The same of the answer lines alone (`answers-..`), of which the last step's is the last (`answers-only`).
 
 use Prim.Native.Nat.{ℕ, zero, suc, _+_, _≤_, _<_}
 use mathlib.Core.Path.{_≡_, refl, sym, ap, _∙_}

@@ -96,7 +96,8 @@ module _ (text : List ℕ) (from line : ℕ) where
       some : 0 < length (drop place text)
       some = omega (arith, length-drop place text)
 
-      pub walking-refused : (x : Refusal) {r : StepAt} → stepLine (drop place text) number ≡ stepTold text place (number + 1) r → r ≡ stepAt.Bad x → {a : TextAnswer} → a ≡ planAnswer.Refused x
+      pub walking-refused : (x : Refusal) {r : StepAt} → stepLine (drop place text) number ≡ stepTold text place (number + 1) r → r ≡ stepAt.Bad x
+          → {a : TextAnswer} → a ≡ planAnswer.Refused x
           → Told (stepLines (drop from text) line) (partAt text place a) (answerNumber a) (answerValue a)
       walking-refused x {r} d e {a} f =
           subst (λ (m : Reading Unit). Told m (partAt text place a) (answerNumber a) (answerValue a))

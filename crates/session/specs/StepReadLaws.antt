@@ -1,7 +1,7 @@
 -- The laws of step lines, read.
--- A line that is just a text begins with it and is as long (`isText-same`, `isText-other`, `isText-length`). What a line is, test by test: `ask=offer` (`stepIn-ask`), else what
--- follows `start=` (`stepIn-start`), else what follows `finish=` (`stepIn-finish`), else no step (`stepIn-other`); after `start=` `auto` (`startIn-auto`), else a
--- time (`startIn-time`). A time that was read becomes the step's (`timed-value`), or what it lacks (`timed-bad`).
+-- A line that is just a text begins with it and is as long (`isText-same`, `isText-other`, `isText-length`). What a line is, test by test: `ask=offer`
+-- (`stepIn-ask`), else what follows `start=` (`stepIn-start`), else what follows `finish=` (`stepIn-finish`), else no step (`stepIn-other`); after `start=`
+-- `auto` (`startIn-auto`), else a time (`startIn-time`). A time that was read becomes the step's (`timed-value`), or what it lacks (`timed-bad`).
 -- A line that is a step has seven bytes at least and a time inside the limits (`stepIn-told`), also where it stands in a text. There
 -- it has no LF, or lacks something, or is a step (`stepAt-bare`, `stepAt-bad`, `stepAt-value`).
 

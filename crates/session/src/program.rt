@@ -10,8 +10,8 @@ ghost use lib.ListN.{length};
 ghost use Rattle.text.specs.Lent.{written};
 ghost use Rattle.session.specs.Sessions.{dispatchOutput, sessionAnswer, mostSessionBytes};
 
-// The answer to a session text: its plan's one line, where the plan is refused, and else the answers to its steps; 12 and not one byte changed, where it has no room. 458,808
-// bytes are room for every text.
+// The answer to a session text: its plan's one line, where the plan is refused, and else the answers to its steps; 12 and not one byte changed, where it has
+// no room. 458,808 bytes are room for every text.
 pub fn answer(text: &[u8], out: &mut [u8]) -> Written
     ensures { λ r. ⌜ r ≡ sessionAnswer (now (text .entry)) (now (out .entry)) ⌝ }
     ensures { λ _. ⌜ now (out .exit) ≡ written (dispatchOutput (now (text .entry))) (now (out .entry)) ⌝ }

@@ -17,8 +17,8 @@ ghost use Rattle.text.specs.Lent.{Stored};
 ghost use Rattle.runs.specs.Inside.{Inside};
 ghost use Rattle.session.specs.Sessions.{dispatched, answers};
 
-// The answers to the steps of a text from a place on, whose line has number line, from a run on, written from a place of out on; and the run after them. The run is held
-// in its parts, so that no step copies it.
+// The answers to the steps of a text from a place on, whose line has number line, from a run on, written from a place of out on; and the run after them. The
+// run is held in its parts, so that no step copies it.
 pub fn put_answers(
     text: &[u8],
     from: usize,

@@ -337,7 +337,8 @@ module _ (p : Plan) where
       finish-shifted-at =
           ap₂ least (same y z (omega arith) (omega arith))
           (ap₂ least into-start out-of-start
-          ∙ least-plus (onlyIf (eqb z sᵢ) (plus (at A y fᵢ) (negℤ (jobAt p i .max)))) (onlyIf (eqb y sᵢ) (plus (at A fᵢ z) (jobAt p i .min))) (moved p z -ℤ moved p y))
+          ∙ least-plus (onlyIf (eqb z sᵢ) (plus (at A y fᵢ) (negℤ (jobAt p i .max)))) (onlyIf (eqb y sᵢ) (plus (at A fᵢ z) (jobAt p i .min)))
+          (moved p z -ℤ moved p y))
           ∙ least-plus (at A y z) _ (moved p z -ℤ moved p y)
 
     pub finish-shifted : Shifted fᵢ (finishCell p i A) (finishCell p (p .jobs + i) B)

@@ -102,7 +102,8 @@ module _ (p : Plan) (sound : Sound p) where
 
   elim-judged : (low count : ℕ) (t t₂ : Rows) → Judged (nodes (low + count)) t → eliminated p low count t ≡ bounds t₂ → Judged (nodes low) t₂
   unfolding eliminated withoutPlace
-  elim-judged low zero t t₂ h e = λ y z a b. subst (λ t. keptCell (judgement p y z (at t y z)) (at t y z) ≡ at t y z) (same t t₂ e) (h y z (omega arith) (omega arith))
+  elim-judged low zero t t₂ h e = λ y z a b. subst (λ t. keptCell (judgement p y z (at t y z)) (at t y z) ≡ at t y z) (same t t₂ e)
+      (h y z (omega arith) (omega arith))
     where
       same : (t v : Rows) → bounds t ≡ bounds v → t ≡ v
       same t v e = cc

@@ -25,7 +25,19 @@ use Rattle.strategy.specs.WindowLaws.{Held}
 use Rattle.strategy.specs.SeenLaws.{length-seen, timely-seen, seen-ranFor, forced-seen, seen-forced, seen-next, seen-all, turn-after}
 use Rattle.strategy.specs.KeptLaws.{Always, held-none, held-one, held-earlier, PunctualAt, Punctual, punctual-of, kept-of, starts-punctual}
 use Rattle.strategy.specs.JoinedLaws.{Both, joined-tidy, joined-back}
-use Rattle.strategy.specs.RoundLaws.{strategy-kept, Round, round-parts, C-tidy, strategy-keeps, keeps-strategy, strategy-both, both-strategy, held-both, both-keeps, keeps-both}
+use Rattle.strategy.specs.RoundLaws.{
+  strategy-kept,
+  Round,
+  round-parts,
+  C-tidy,
+  strategy-keeps,
+  keeps-strategy,
+  strategy-both,
+  both-strategy,
+  held-both,
+  both-keeps,
+  keeps-both,
+}
 use Rattle.strategy.specs.BeginLaws.{nothing-timely, begin-game, first-held, first-strategy, strategy-first}
 use Rattle.strategy.specs.FirstLaws.{C-judged, joined-shifted, round-alone}
 use Rattle.strategy.specs.VerdictLaws.{C-next, IsSettled, settled-after}

@@ -43,13 +43,17 @@ module _ (p : Plan) (sound : Sound p) where
         above =
             byNode (λ y. y < nodes (p .jobs) → 0 < y → (x : ℤ) → Holds (leastOf (ownBounds p) 0 y) x → x ≤ℤ latest p (eventOf y))
             (λ h i. absurd (omega arith))
-            (λ k h i x g. rw (eventOf-start k) (all-own (Says 0 (startNode k) x) p (leastOf-says 0 (startNode k) x (ownBounds p) g) .ranged k (omega arith) .startUp refl refl))
-            (λ k h i x g. rw (eventOf-finish k) (all-own (Says 0 (finishNode k) x) p (leastOf-says 0 (finishNode k) x (ownBounds p) g) .ranged k (omega arith) .finishUp refl refl));
+            (λ k h i x g. rw (eventOf-start k) (all-own (Says 0 (startNode k) x) p (leastOf-says 0 (startNode k) x (ownBounds p) g) .ranged k
+            (omega arith) .startUp refl refl))
+            (λ k h i x g. rw (eventOf-finish k) (all-own (Says 0 (finishNode k) x) p (leastOf-says 0 (finishNode k) x (ownBounds p) g) .ranged k
+            (omega arith) .finishUp refl refl));
         below =
             byNode (λ y. y < nodes (p .jobs) → 0 < y → (x : ℤ) → Holds (leastOf (ownBounds p) y 0) x → x ≤ℤ negℤ (earliest p (eventOf y)))
             (λ h i. absurd (omega arith))
-            (λ k h i x g. rw (eventOf-start k) (all-own (Says (startNode k) 0 x) p (leastOf-says (startNode k) 0 x (ownBounds p) g) .ranged k (omega arith) .startDown refl refl))
-            (λ k h i x g. rw (eventOf-finish k) (all-own (Says (finishNode k) 0 x) p (leastOf-says (finishNode k) 0 x (ownBounds p) g) .ranged k (omega arith) .finishDown refl refl));
+            (λ k h i x g. rw (eventOf-start k) (all-own (Says (startNode k) 0 x) p (leastOf-says (startNode k) 0 x (ownBounds p) g) .ranged k
+            (omega arith) .startDown refl refl))
+            (λ k h i x g. rw (eventOf-finish k) (all-own (Says (finishNode k) 0 x) p (leastOf-says (finishNode k) 0 x (ownBounds p) g) .ranged k
+            (omega arith) .finishDown refl refl));
       }
 
   sized-one : (u : History) → p .jobs ≤ length u → Sized p (nodes (p .jobs)) u
@@ -182,16 +186,20 @@ module _ (p : Plan) where
   latest-next =
       byNode (λ y. y < nodes (p .jobs) → 0 < y → latest p (eventOf (nextNode p y)) ≡ latest p (eventOf y) +ℤ p .window)
       (λ h i. absurd (omega arith))
-      (λ k h i. rw (eventOf-start k, event-next-start p k, next-shift k, this-shift p k (omega arith), job-next k (omega arith)) (one-zero (jobAt p k .deadline -ℤ jobAt p k .max) (p .window)))
-      (λ k h i. rw (eventOf-finish k, event-next-finish p k, next-shift k, this-shift p k (omega arith), job-next k (omega arith)) (one-zero (jobAt p k .deadline) (p .window)))
+      (λ k h i. rw (eventOf-start k, event-next-start p k, next-shift k, this-shift p k (omega arith), job-next k (omega arith))
+      (one-zero (jobAt p k .deadline -ℤ jobAt p k .max) (p .window)))
+      (λ k h i. rw (eventOf-finish k, event-next-finish p k, next-shift k, this-shift p k (omega arith), job-next k (omega arith))
+      (one-zero (jobAt p k .deadline) (p .window)))
 
   pub earliest-next : (y : ℕ) → y < nodes (p .jobs) → 0 < y → earliest p (eventOf (nextNode p y)) ≡ earliest p (eventOf y) +ℤ p .window
   unfolding earliest
   earliest-next =
       byNode (λ y. y < nodes (p .jobs) → 0 < y → earliest p (eventOf (nextNode p y)) ≡ earliest p (eventOf y) +ℤ p .window)
       (λ h i. absurd (omega arith))
-      (λ k h i. rw (eventOf-start k, event-next-start p k, next-shift k, this-shift p k (omega arith), job-next k (omega arith)) (one-zero (jobAt p k .release) (p .window)))
-      (λ k h i. rw (eventOf-finish k, event-next-finish p k, next-shift k, this-shift p k (omega arith), job-next k (omega arith)) (one-zero (jobAt p k .release +ℤ jobAt p k .min) (p .window)))
+      (λ k h i. rw (eventOf-start k, event-next-start p k, next-shift k, this-shift p k (omega arith), job-next k (omega arith))
+      (one-zero (jobAt p k .release) (p .window)))
+      (λ k h i. rw (eventOf-finish k, event-next-finish p k, next-shift k, this-shift p k (omega arith), job-next k (omega arith))
+      (one-zero (jobAt p k .release +ℤ jobAt p k .min) (p .window)))
 
 -- ---- the set that a round starts with
 

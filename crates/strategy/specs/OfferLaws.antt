@@ -27,7 +27,21 @@ use Rattle.bounds.specs.BuildLaws.{getD-listed, length-listed}
 use Rattle.calendars.specs.declared.Terms.{Terms}
 use Rattle.events.specs.Bits.{hasEvent, eventSet}
 use Rattle.events.specs.BitsLaws.{hasEvent-set}
-use Rattle.calendars.specs.Calendars.{isOn, weight, fromBelow, fromAbove, eventsBefore, termsOf, leastCs, mostCs, mostEvents, noTerms, allTerms, allCs, calendarOf}
+use Rattle.calendars.specs.Calendars.{
+  isOn,
+  weight,
+  fromBelow,
+  fromAbove,
+  eventsBefore,
+  termsOf,
+  leastCs,
+  mostCs,
+  mostEvents,
+  noTerms,
+  allTerms,
+  allCs,
+  calendarOf,
+}
 use Rattle.runs.specs.declared.Run.{Run}
 use Rattle.runs.specs.declared.Offer.{Offer}
 use Rattle.runs.specs.declared.Turn.{Turn}
@@ -116,7 +130,8 @@ module _ (p : Plan) (few : p .jobs ≤ mostJobs) (ts : List Rows) (all : length 
       ≡ negℤ (weight (fromBelow (getD ts i []) (startNode (p .jobs + i)) e))
   unfolding calendarOf leastCs
   least-at =
-      cs-at (leastCs p) ts (λ j t g. let n = length-listed (eventsBefore p j) (λ e. negℤ (weight (fromBelow t (startNode (p .jobs + j)) e))) in omega arith) i e (omega arith)
+      cs-at (leastCs p) ts (λ j t g. let n = length-listed (eventsBefore p j)
+      (λ e. negℤ (weight (fromBelow t (startNode (p .jobs + j)) e))) in omega arith) i e (omega arith)
       (let n = length-listed (eventsBefore p i) (λ e. negℤ (weight (fromBelow (getD ts i []) (startNode (p .jobs + i)) e))) in omega arith)
       ∙ getD-listed (eventsBefore p i) _ e (pos 0) l
 
@@ -124,7 +139,8 @@ module _ (p : Plan) (few : p .jobs ≤ mostJobs) (ts : List Rows) (all : length 
       ≡ weight (fromAbove (getD ts i []) (startNode (p .jobs + i)) e)
   unfolding calendarOf mostCs
   most-at =
-      cs-at (mostCs p) ts (λ j t g. let n = length-listed (eventsBefore p j) (λ e. weight (fromAbove t (startNode (p .jobs + j)) e)) in omega arith) i e (omega arith)
+      cs-at (mostCs p) ts (λ j t g. let n = length-listed (eventsBefore p j) (λ e. weight (fromAbove t (startNode (p .jobs + j)) e)) in omega arith) i e
+      (omega arith)
       (let n = length-listed (eventsBefore p i) (λ e. weight (fromAbove (getD ts i []) (startNode (p .jobs + i)) e)) in omega arith)
       ∙ getD-listed (eventsBefore p i) _ e (pos 0) l
 
@@ -286,13 +302,15 @@ module _ (p : Plan) (few : p .jobs ≤ mostJobs) (ts : List Rows) (all : length 
               side-out p r J (eventsBefore p i) AtLeast t (λ y. at table s y) negℤ (λ τ. τ -ℤ x)
               (lower-term t (tableBegin p J)) (lower-base t (pos J *ℤ p .window) (p .window)) (calendarOf p ts .«at_least») (i * mostEvents)
               (λ e g. least-at p few ts all i e low g) lo lo-is
-              (subst (λ (X : Type 0). X) (lower-is t) (offerAt-from-iff turn (calendarOf p ts .«at_least») (calendarOf p ts .«at_most») r (suc J) (suc i) t .0 (o .least))) y (omega arith) f;
+              (subst (λ (X : Type 0). X) (lower-is t) (offerAt-from-iff turn (calendarOf p ts .«at_least») (calendarOf p ts .«at_most») r (suc J)
+              (suc i) t .0 (o .least))) y (omega arith) f;
           column =
               λ y l f.
               side-out p r J (eventsBefore p i) AtMost t (λ y. at table y s) (λ w. w) (λ τ. x -ℤ τ)
               (upper-term t (tableBegin p J)) (upper-base t (pos J *ℤ p .window) (p .window)) (calendarOf p ts .«at_most») (i * mostEvents)
               (λ e g. most-at p few ts all i e low g) hi hi-is
-              (subst (λ (X : Type 0). X) (upper-is t) (offerAt-to-iff turn (calendarOf p ts .«at_least») (calendarOf p ts .«at_most») r (suc J) (suc i) t .0 (o .most))) y (omega arith) f;
+              (subst (λ (X : Type 0). X) (upper-is t) (offerAt-to-iff turn (calendarOf p ts .«at_least») (calendarOf p ts .«at_most») r (suc J) (suc i) t .0
+              (o .most))) y (omega arith) f;
         }
 
     pub fitting-offer : Fitting t → OnOffer offered t

@@ -24,7 +24,20 @@ use Rattle.strategy.specs.CellLaws.{present}
 use Rattle.strategy.specs.SetLaws.{jobAt-turn, judged-anchored, judged-keeps, judged-back, judged-none, judged-diagonal}
 use Rattle.strategy.specs.EliminationLaws.{without-f, without-s, finish-out, finish-in, start-out, start-in, below-or-last}
 use Rattle.strategy.specs.Soundness.{Sound}
-use Rattle.strategy.specs.HistoryLaws.{length-more, ran-old, ran-new, timely-more, extreme-more, turn-min-max, forced-map, forced-split, forced-join, Fails, fails-before, fails-map}
+use Rattle.strategy.specs.HistoryLaws.{
+  length-more,
+  ran-old,
+  ran-new,
+  timely-more,
+  extreme-more,
+  turn-min-max,
+  forced-map,
+  forced-split,
+  forced-join,
+  Fails,
+  fails-before,
+  fails-map,
+}
 
 -- ---- the times of one job more
 

@@ -49,7 +49,19 @@ use Rattle.runs.specs.AnswerLaws.{answer-empty, ask-offered, start-taken, start
 use Rattle.strategy.specs.Histories.{Ran, History, ranFor, turn}
 use Rattle.strategy.specs.Strategies.{ranIn, Kept, StrategyAfter}
 use Rattle.strategy.specs.Reaching.{OnOffer, InTimes, AtTurn, ended, historyAfter, Reached, begun, more}
-use Rattle.strategy.specs.SteppedLaws.{turn-is, runningSince, Ways, same, starts, finishes, step-ways, started-running, finish-final, finish-refused, final-inside}
+use Rattle.strategy.specs.SteppedLaws.{
+  turn-is,
+  runningSince,
+  Ways,
+  same,
+  starts,
+  finishes,
+  step-ways,
+  started-running,
+  finish-final,
+  finish-refused,
+  final-inside,
+}
 use Rattle.strategy.specs.CellLaws.{present}
 use Rattle.strategy.specs.EliminationLaws.{below-or-last}
 use Rattle.plan.specs.Accepted.{Accepted}
@@ -62,7 +74,24 @@ use Rattle.strategy.specs.VerdictLaws.{IsSettled, settled-is}
 use Rattle.strategy.specs.PlaceLaws.{Tidy}
 use Rattle.strategy.specs.StageLaws.{Stages, before-tidy, length-tables}
 use Rattle.strategy.specs.OfferLaws.{Fitting, offer-fitting, fitting-offer}
-use Rattle.strategy.specs.GameLaws.{Settling, settling, Well, well-begin, WellAfter, well-more, Winning, winning-chosen, chosen-winning, tables, some-winning, AllowedAt, winning-allowed, allowed-winning, later-tidy, later-fits}
+use Rattle.strategy.specs.GameLaws.{
+  Settling,
+  settling,
+  Well,
+  well-begin,
+  WellAfter,
+  well-more,
+  Winning,
+  winning-chosen,
+  chosen-winning,
+  tables,
+  some-winning,
+  AllowedAt,
+  winning-allowed,
+  allowed-winning,
+  later-tidy,
+  later-fits,
+}
 use Rattle.strategy.specs.RunLaws.{ShowsJob, ShowsPrevious, Shows, later-fitting, fitting-later, first-fitting, fitting-first}
 
 module _ (p : Plan) (sound : Sound p) (m : ℕ) (c : Rows) (s : IsSettled p sound m c) (f : Settling p sound m c s) where
@@ -186,7 +215,8 @@ module _ (p : Plan) (r : Run) (h : History) (j i : ℕ) (sh : Shows p r h j i) (
   shows-old k u other s =
       record {
         start = ap (λ t. t .0) (jobSeen-other (p .jobs) (suc i - 1) since finish (r .seen) (2 * k) (λ e. other (omega arith)) (λ e. omega arith)) ∙ s .start;
-        finish = ap (λ t. t .0) (jobSeen-other (p .jobs) (suc i - 1) since finish (r .seen) (1 + 2 * k) (λ e. omega arith) (λ e. other (omega arith))) ∙ s .finish;
+        finish = ap (λ t. t .0) (jobSeen-other (p .jobs) (suc i - 1) since finish (r .seen) (1 + 2 * k) (λ e. omega arith) (λ e. other (omega arith)))
+            ∙ s .finish;
       }
 
   present-more : (k : ℕ) → k < suc i → ShowsJob seen (p .jobs + k) (ranIn h′ (j * p .jobs + k))
@@ -276,7 +306,8 @@ module _ (p : Plan) (sound : Sound p) (m : ℕ) (c : Rows) (s : IsSettled p soun
         i = 0;
         g = p .jobs - 1;
         phase = refl;
-        well = subst (Well p sound m c s f [] 0 0) (let a = sound .some-job in let e : p .jobs ≡ suc (p .jobs - 1) = omega arith in e) (well-begin p sound m c s f);
+        well = subst (Well p sound m c s f [] 0 0) (let a = sound .some-job in let e : p .jobs ≡ suc (p .jobs - 1) = omega arith in e)
+            (well-begin p sound m c s f);
         shows = record { places = refl; present = λ k l. absurd (omega arith); previous = refl };
       }
 
@@ -325,7 +356,8 @@ module _ (p : Plan) (sound : Sound p) (m : ℕ) (c : Rows) (s : IsSettled p soun
           i = 0;
           g = p .jobs - 1;
           phase = b .0;
-          well = subst (Well p sound m c s f (h ++ (ran ∷ [])) (suc j) 0) (let k = sound .some-job in let e : p .jobs ≡ suc (p .jobs - 1) = omega arith in e) next;
+          well = subst (Well p sound m c s f (h ++ (ran ∷ [])) (suc j) 0)
+              (let k = sound .some-job in let e : p .jobs ≡ suc (p .jobs - 1) = omega arith in e) next;
           shows = b .1;
         }
     moves-on (suc g) w next =
@@ -475,7 +507,8 @@ module _ (p : Plan) (sound : Sound p) (m : ℕ) (c : Rows) (accepted : outcome p
         shut-waiting (suc (w .j)) (suc (w .i)) (offerOf p (calendar p c) r (suc (w .j)) (suc (w .i))) (ltb (p .last) (suc (w .j))) _
         (reached-some (suc (w .j)) (suc (w .i)) (w .phase)) refl (sym (ap (openingIn p (calendar p c) r) (w .phase)) ∙ e)
     never-empty (inr w) e =
-        let o = opening-running (turnOf p (calendar p c) (jobOfPhase (r .phase))) (calendar p c .«at_least») (calendar p c .«at_most») r (r .phase) (suc (w .j)) (suc (w .i)) (w .since) (w .phase) in
+        let o = opening-running (turnOf p (calendar p c) (jobOfPhase (r .phase))) (calendar p c .«at_least») (calendar p c .«at_most») r (r .phase)
+        (suc (w .j)) (suc (w .i)) (w .since) (w .phase) in
         clash (cc)
 
     pub reached-never-empty : opening p (calendar p c) r ≡ Shut refusal.EmptyOffer → ⊥
@@ -527,7 +560,8 @@ module _ (p : Plan) (sound : Sound p) (m : ℕ) (c : Rows) (accepted : outcome p
         pub reached-taken : OnOffer (offerOf p (calendar p c) r J I) (t .0) → stepped p (calendar p c) r (Start (At t)) .answer ≡ Started J I t
         reached-taken on = start-taken _ _ _ r J I _ reached-open t (on .least) (on .most)
 
-        pub reached-refused : (OnOffer (offerOf p (calendar p c) r J I) (t .0) → ⊥) → stepped p (calendar p c) r (Start (At t)) .answer ≡ Refused refusal.OutsideOffer
+        pub reached-refused : (OnOffer (offerOf p (calendar p c) r J I) (t .0) → ⊥)
+            → stepped p (calendar p c) r (Start (At t)) .answer ≡ Refused refusal.OutsideOffer
         reached-refused off = start-refused _ _ _ r J I _ reached-open t (λ a b. off (record { least = a; most = b }))
 
     -- a finish is final exactly inside its times

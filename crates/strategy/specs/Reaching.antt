@@ -1,5 +1,5 @@
--- Offers, and runs that kept to them: a start moves a run only where it was on offer, and a finish only inside its times, so that every run that comes from the beginning
--- step by step is one.
+-- Offers, and runs that kept to them: a start moves a run only where it was on offer, and a finish only inside its times, so that every run that comes from
+-- the beginning step by step is one.
 use Prim.Native.Nat.{ℕ, _+_, _*_, _-_, _≤_}
 use mathlib.Core.Path.{_≡_}
 use mathlib.Core.List.{List, [], _∷_, _++_}

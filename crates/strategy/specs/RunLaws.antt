@@ -130,12 +130,14 @@ module _ (p : Plan) (r : Run) where
         (λ l. refl)
         (λ k l.
         later-by (startNode k) (omega arith)
-        ∙ ap (λ a. a -ℤ tableBegin p 0) (ap (λ e. timeAt (r .seen) e .0) (let e : startNode k + ownNodes p - 1 ≡ 2 * (p .jobs + k) = omega arith in e) ∙ first-job k (omega arith) .start)
+        ∙ ap (λ a. a -ℤ tableBegin p 0) (ap (λ e. timeAt (r .seen) e .0) (let e : startNode k + ownNodes p - 1 ≡ 2 * (p .jobs + k) = omega arith in e)
+        ∙ first-job k (omega arith) .start)
         ∙ window-later (ranIn h k .start) (p .window)
         ∙ sym (ap₂ (λ e m. when h e +ℤ m) (eventOf-start k) (moved-later p (startNode k) (omega arith))))
         (λ k l.
         later-by (finishNode k) (omega arith)
-        ∙ ap (λ a. a -ℤ tableBegin p 0) (ap (λ e. timeAt (r .seen) e .0) (let e : finishNode k + ownNodes p - 1 ≡ 1 + 2 * (p .jobs + k) = omega arith in e) ∙ first-job k (omega arith) .finish)
+        ∙ ap (λ a. a -ℤ tableBegin p 0) (ap (λ e. timeAt (r .seen) e .0) (let e : finishNode k + ownNodes p - 1 ≡ 1 + 2 * (p .jobs + k) = omega arith in e)
+        ∙ first-job k (omega arith) .finish)
         ∙ window-later (ranIn h k .finish) (p .window)
         ∙ sym (ap₂ (λ e m. when h e +ℤ m) (eventOf-finish k) (moved-later p (finishNode k) (omega arith))))
 
@@ -158,8 +160,10 @@ module _ (p : Plan) (few : p .jobs ≤ mostJobs) (ts : List Rows) (all : length 
     pub later-fitting : Allowed v (p .jobs + i) (λ y. when (seenFrom p j h) (eventOf y)) (t -ℤ pos j *ℤ p .window) → Fitting p few ts all i low r (suc j) t
     later-fitting a =
         record {
-          row = λ y l f. subst (λ v. Holds (at v (startNode (p .jobs + i)) y) (nodeTime p r (suc j) y -ℤ (t -ℤ tableBegin p (suc j)))) (sym v-is) (subst (Holds (at v (startNode (p .jobs + i)) y)) (sym (later-at y l)) (a .row y l));
-          column = λ y l f. subst (λ v. Holds (at v y (startNode (p .jobs + i))) ((t -ℤ tableBegin p (suc j)) -ℤ nodeTime p r (suc j) y)) (sym v-is) (subst (Holds (at v y (startNode (p .jobs + i)))) (sym (later-back y l)) (a .column y l));
+          row = λ y l f. subst (λ v. Holds (at v (startNode (p .jobs + i)) y) (nodeTime p r (suc j) y -ℤ (t -ℤ tableBegin p (suc j)))) (sym v-is)
+              (subst (Holds (at v (startNode (p .jobs + i)) y)) (sym (later-at y l)) (a .row y l));
+          column = λ y l f. subst (λ v. Holds (at v y (startNode (p .jobs + i))) ((t -ℤ tableBegin p (suc j)) -ℤ nodeTime p r (suc j) y)) (sym v-is)
+              (subst (Holds (at v y (startNode (p .jobs + i)))) (sym (later-back y l)) (a .column y l));
         }
 
     pub fitting-later : Fitting p few ts all i low r (suc j) t → Allowed v (p .jobs + i) (λ y. when (seenFrom p j h) (eventOf y)) (t -ℤ pos j *ℤ p .window)
@@ -168,11 +172,13 @@ module _ (p : Plan) (few : p .jobs ≤ mostJobs) (ts : List Rows) (all : length 
           row =
               λ y l.
               subst (Holds (at v (startNode (p .jobs + i)) y)) (later-at y l)
-              (subst (λ v. Holds (at v (startNode (p .jobs + i)) y) (nodeTime p r (suc j) y -ℤ (t -ℤ tableBegin p (suc j)))) v-is (f .row y l (all-force p r (sh .previous .0) y)));
+              (subst (λ v. Holds (at v (startNode (p .jobs + i)) y) (nodeTime p r (suc j) y -ℤ (t -ℤ tableBegin p (suc j)))) v-is
+              (f .row y l (all-force p r (sh .previous .0) y)));
           column =
               λ y l.
               subst (Holds (at v y (startNode (p .jobs + i)))) (later-back y l)
-              (subst (λ v. Holds (at v y (startNode (p .jobs + i))) ((t -ℤ tableBegin p (suc j)) -ℤ nodeTime p r (suc j) y)) v-is (f .column y l (all-force p r (sh .previous .0) y)));
+              (subst (λ v. Holds (at v y (startNode (p .jobs + i))) ((t -ℤ tableBegin p (suc j)) -ℤ nodeTime p r (suc j) y)) v-is
+              (f .column y l (all-force p r (sh .previous .0) y)));
         }
 
   -- the first window

@@ -24,7 +24,20 @@ use Rattle.strategy.specs.Keeping.{Holds, when, gap, Keeps, Timely}
 use Rattle.strategy.specs.Soundness.{Sound}
 use Rattle.strategy.specs.EliminationLaws.{keeps-more, without-s, below-or-last}
 use Rattle.strategy.specs.HistoryLaws.{length-more, timely-more, turn-min-max, forced-map, forced-split}
-use Rattle.strategy.specs.PlaceLaws.{when-old, when-start, Tidy, finish-tidy, thenSet-bounds, start-choice, start-choice-back, start-judged-back, place-keeps-at, elim-tidy, elim-keeps, elim-back}
+use Rattle.strategy.specs.PlaceLaws.{
+  when-old,
+  when-start,
+  Tidy,
+  finish-tidy,
+  thenSet-bounds,
+  start-choice,
+  start-choice-back,
+  start-judged-back,
+  place-keeps-at,
+  elim-tidy,
+  elim-keeps,
+  elim-back,
+}
 use Rattle.strategy.specs.AloneLaws.{Shifted, without-finish, without-start}
 
 -- the tables around the start at place k, of a table with rest places more
@@ -73,9 +86,11 @@ module _ (p : Plan) (sound : Sound p) (t : Rows) (k rest : ℕ) (two : suc k + r
   below q y z a b =
       let chosen = forced-map p _ _ 1 u (λ v f r. rest-after v (f .size ∙ ap (λ n. n + 1) n ∙ add-one k) r)
       (forced-split p _ 1 rest u (subst (λ g. Rest g u) (let e : suc rest ≡ 1 + rest = omega arith in e) q)) in
-      let kept = place-keeps-at p sound k (omega arith) (stage .after) after-tidy u n (stage .before) (stage .before-is) (stage .left) (stage .left-is) chosen in
+      let kept = place-keeps-at p sound k (omega arith) (stage .after) after-tidy u n (stage .before) (stage .before-is) (stage .left)
+      (stage .left-is) chosen in
       without-s k (stage .before) (λ n. pos 0) y z (gap u y z)
-      (start-judged-back p sound k (omega arith) (stage .after) after-tidy u n (stage .before) (stage .before-is) (stage .left) (stage .left-is) old kept y z a b) .0
+      (start-judged-back p sound k (omega arith) (stage .after) after-tidy u n (stage .before) (stage .before-is) (stage .left)
+      (stage .left-is) old kept y z a b) .0
 
   allowed-kept : Keeps (startNode k) (at (stage .before)) u → (x e : ℤ) → Allowed (stage .before) k (λ y. when u (eventOf y)) x
       → Keeps (finishNode k) (at (stage .before)) (ranFor u x e)

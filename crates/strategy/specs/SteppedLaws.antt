@@ -1,6 +1,7 @@
--- How a run is answered, and where it stands then, of any run with any plan and calendar. A start that is answered leaves the run running since then (`started-running`). A
--- finish is final exactly inside its times (`finish-final`, `final-inside`, `finish-refused`), and then the run waits for the window's next job (`final-next`) or for the first job
--- of the next window (`final-over`). What an answer does to run and history (`Ways`) is one of three things: nothing, a start on offer, a finish inside its times (`step-ways`).
+-- How a run is answered, and where it stands then, of any run with any plan and calendar. A start that is answered leaves the run running since then
+-- (`started-running`). A finish is final exactly inside its times (`finish-final`, `final-inside`, `finish-refused`), and then the run waits for the window's
+-- next job (`final-next`) or for the first job of the next window (`final-over`). What an answer does to run and history (`Ways`) is one of three things:
+-- nothing, a start on offer, a finish inside its times (`step-ways`).
 use Prim.Native.Nat.{ℕ, _+_, _-_, _≤_, _<_}
 use mathlib.Core.Path.{_≡_, refl, sym, ap, subst, _∙_}
 use mathlib.Core.List.{List, [], _∷_, _++_}

@@ -41,7 +41,22 @@ use Rattle.strategy.specs.KeptLaws.{Punctual}
 use Rattle.strategy.specs.RoundLaws.{C, strategy-kept, strategy-keeps, keeps-strategy}
 use Rattle.strategy.specs.VerdictLaws.{settled-is, settled-from-then, settled-strategy, settled-outcome, none-is, none-outcome}
 use Rattle.strategy.specs.GameLaws.{fewer-windows}
-use Rattle.strategy.specs.ReachedLaws.{reached-kept, reached-some, reached-offer, reached-never-11, reached-waiting, reached-running, reached-ask, reached-taken, reached-in-range, reached-refused, reached-auto, reached-on, reached-final, reached-outside}
+use Rattle.strategy.specs.ReachedLaws.{
+  reached-kept,
+  reached-some,
+  reached-offer,
+  reached-never-11,
+  reached-waiting,
+  reached-running,
+  reached-ask,
+  reached-taken,
+  reached-in-range,
+  reached-refused,
+  reached-auto,
+  reached-on,
+  reached-final,
+  reached-outside,
+}
 use Rattle.strategy.specs.SteppedLaws.{started-running, final-next, final-over}
 use Rattle.strategy.specs.StepsLaws.{steps-reached}
 

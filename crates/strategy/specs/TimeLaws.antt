@@ -1,5 +1,5 @@
--- A start after which there is a strategy lies between the release and the deadline of its job, on its window's clock (`start-released`, `start-inTime`); so in a
--- window up to `last` it is in the range of T (`start-time`).
+-- A start after which there is a strategy lies between the release and the deadline of its job, on its window's clock (`start-released`, `start-inTime`); so
+-- in a window up to `last` it is in the range of T (`start-time`).
 use Prim.Native.Nat.{ℕ, suc, _+_, _*_, _-_, _%_, _≤_, _<_}
 use mathlib.Core.Path.{_≡_, refl, subst, ap, _∙_}
 use mathlib.Core.Bool.{Bool, true, false, _&&_}
@@ -29,7 +29,8 @@ use Rattle.strategy.specs.Soundness.{Sound}
 use Rattle.strategy.specs.SoundLaws.{accepted-sound}
 use Rattle.strategy.specs.RoundLaws.{strategy-kept}
 
-module _ (p : Plan) (sound : Sound p) (h : History) (j i g : ℕ) (size : length h ≡ j * p .jobs + i) (job : i < p .jobs) (t : ℤ) (s : StrategyAfter p h t g) where
+module _ (p : Plan) (sound : Sound p) (h : History) (j i g : ℕ) (size : length h ≡ j * p .jobs + i) (job : i < p .jobs) (t : ℤ)
+    (s : StrategyAfter p h t g) where
   -- the shortest run
   abbrev shortest : ℤ
   shortest = turn p (length h) .min

@@ -12,7 +12,23 @@ use Rattle.plan.specs.declared.Plan.{Plan}
 use Rattle.bounds.specs.Tables.{Rows, Set, contradiction, bounds}
 use Rattle.bounds.specs.Elimination.{thenSet, eliminated}
 use Rattle.rounds.specs.declared.Verdict.the-variants.{Settled, NoStrategy}
-use Rattle.rounds.specs.Rounds.{C0, round, sameRows, isContradictory, failsAlone, settled, noStrategy, decided, roundsFrom, outcomeFrom, outcome, verdictOf, verdict, Outcome, unsettled}
+use Rattle.rounds.specs.Rounds.{
+  C0,
+  round,
+  sameRows,
+  isContradictory,
+  failsAlone,
+  settled,
+  noStrategy,
+  decided,
+  roundsFrom,
+  outcomeFrom,
+  outcome,
+  verdictOf,
+  verdict,
+  Outcome,
+  unsettled,
+}
 use Rattle.rounds.specs.SameLaws.{sameRows-unique}
 use Rattle.strategy.specs.Strategies.{Strategy, StrategyFor, StrategyForAll}
 use Rattle.strategy.specs.Soundness.{Sound}

@@ -33,7 +33,20 @@ use Rattle.strategy.specs.Keeping.{when, RunsWithin, Timely}
 use Rattle.strategy.specs.SetLaws.{jobAt-turn}
 use Rattle.strategy.specs.EliminationLaws.{below-or-last}
 use Rattle.strategy.specs.Soundness.{Sound}
-use Rattle.strategy.specs.GivenLaws.{places-listed, listed-sound, All, BetweenKept, Below, Ranged, OwnAll, own-all, all-own, AcrossAll, across-all, all-across}
+use Rattle.strategy.specs.GivenLaws.{
+  places-listed,
+  listed-sound,
+  All,
+  BetweenKept,
+  Below,
+  Ranged,
+  OwnAll,
+  own-all,
+  all-own,
+  AcrossAll,
+  across-all,
+  all-across,
+}
 
 -- the plan's bounds that u can have broken, and each start of its first window leaves room for the longest run
 pub record Held (p : Plan) (u : History) : Type 0 where

@@ -95,9 +95,17 @@ P3-sound =
     bounds zero h = close-sound 1 (P3 .bound) (pos 9)
     bounds (suc k) h = absurd (omega arith)
 
--- naming this on an `unfolding` line opens every definition of the verdict
+-- naming one of these on an `unfolding` line opens the definitions of a subject: judgement, elimination and rounds; the last one all of them
+judging : Type 0
+unfolding jobAt shift earliest latest nodeOf eventOf judged least plus join at listed leastOf judgement anyBelow contradicts keptRows judgedSet
+judging = Unit {0}
+
+settling : Type 0
+unfolding finishCell startCell thenSet withoutPlace eliminated givenBounds ranges orders ownBounds betweenBounds C0 onNext joined round sameCell sameRow
+settling = Unit {0}
+
 computing : Type 0
-unfolding jobAt shift earliest latest nodeOf eventOf judged least plus join at listed leastOf judgement anyBelow contradicts keptRows judgedSet finishCell startCell thenSet withoutPlace eliminated givenBounds ranges orders ownBounds betweenBounds C0 onNext joined round sameCell sameRow sameRows failsAlone decided roundsFrom outcomeFrom outcome
+unfolding judging settling sameRows failsAlone decided roundsFrom outcomeFrom outcome
 computing = Unit {0}
 
 P-settled : verdict P ≡ Settled 1

@@ -122,5 +122,6 @@ no-bound : (v : ℤ) → mag v < 2147483648 → eqb (ofZ w32 v) 2147483647 ≡ e
 no-bound v p = bits-eqb {b = pos 2147483647} (told-fits w32 v p) (sfits-lit tt)
 
 -- A product that the machine makes, of a natural that was cast and a signed local.
-product-is : (n : ℕ) (z : ℤ) → SFits w64 (pos n) → SFits w64 z → SFits w64 (toZ w64 n *ℤ toZ w64 (ofZ w64 z)) → toZ w64 (ofZ w64 (toZ w64 n *ℤ toZ w64 (ofZ w64 z))) ≡ pos n *ℤ z
+product-is : (n : ℕ) (z : ℤ) → SFits w64 (pos n) → SFits w64 z → SFits w64 (toZ w64 n *ℤ toZ w64 (ofZ w64 z))
+    → toZ w64 (ofZ w64 (toZ w64 n *ℤ toZ w64 (ofZ w64 z))) ≡ pos n *ℤ z
 product-is n z f g h = mul-back h (toZ-ofZ f) (toZ-ofZ g)

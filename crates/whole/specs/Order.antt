@@ -133,7 +133,11 @@ eqZ-false-iff a b = (λ e d. omega whole, λ d. eqZ-false-split-iff a b .1 (ne-s
 -- ---- products
 
 within-iff : (n : ℕ) (z : ℤ) → Within n z ↔ up z + dn z ≤ n
-within-iff n z = (λ p. ⊎-elim (λ e. omega (whole, split-neg (pos n))) (λ e. omega (whole, split-neg (pos n))) (split-one z), λ h. omega (whole, split-neg (pos n)))
+within-iff n z = (
+  λ p. ⊎-elim (λ e. omega (whole, split-neg (pos n))) (λ e. omega (whole, split-neg (pos n))) (split-one z),
+  λ h. omega
+      (whole, split-neg (pos n)),
+)
 
 pub mul-within : {m n : ℕ} {a b : ℤ} → Within m a → Within n b → Within (m * n) (a *ℤ b)
 mul-within {m} {n} {a} {b} p q = within-iff (m * n) (a *ℤ b) .1 (omega (arith, split-times a b, mul-le-mul (within-iff m a .0 p) (within-iff n b .0 q)))

@@ -9,8 +9,43 @@ use Prim.Native.Nat.{ℕ, _+_}
 use native.Mathlib.Omega.{arith}
 use lib.IntN.{ℤ, _+ℤ_, _-ℤ_}
 use Rattle.whole.specs.Split.{up, dn}
-use Rattle.whole.specs.SplitLaws.{split-one, split-add, split-sub, le-split-iff, lt-split-iff, eq-split-iff, ltZ-true-split-iff, ltZ-false-split-iff, leZ-true-split-iff, leZ-false-split-iff, eqZ-true-split-iff, eqZ-false-split-iff, fits-split-iff, split-back}
-use Rattle.whole.specs.Shape.{Shape, any, _⊕_, _⊖_, Each, Fact, le, lt, eq, eq-true, eq-false, lt-is, le-is, Says, Counts, Reads, Shows, Fitting, ReadsBack}
+use Rattle.whole.specs.SplitLaws.{
+  split-one,
+  split-add,
+  split-sub,
+  le-split-iff,
+  lt-split-iff,
+  eq-split-iff,
+  ltZ-true-split-iff,
+  ltZ-false-split-iff,
+  leZ-true-split-iff,
+  leZ-false-split-iff,
+  eqZ-true-split-iff,
+  eqZ-false-split-iff,
+  fits-split-iff,
+  split-back,
+}
+use Rattle.whole.specs.Shape.{
+  Shape,
+  any,
+  _⊕_,
+  _⊖_,
+  Each,
+  Fact,
+  le,
+  lt,
+  eq,
+  eq-true,
+  eq-false,
+  lt-is,
+  le-is,
+  Says,
+  Counts,
+  Reads,
+  Shows,
+  Fitting,
+  ReadsBack,
+}
 
 each : (s : Shape) (K : ℤ → ℕ → ℕ → Type 0) → ((a : ℤ) (p n : ℕ) → up a + n ≡ p + dn a → K a p n) → Each s K
 each any K f = λ a. f a (up a) (dn a) refl

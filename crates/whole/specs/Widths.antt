@@ -1,5 +1,5 @@
--- What a number's width tells, at 32 and at 64 bits: an i32 lies in its range (`i32-least`, `i32-most`), a number in that range fits (`i32-fits`), and an i32 is
--- the same number at 64 bits (`i32-wide`, `i32-widened`).
+-- What a number's width tells, at 32 and at 64 bits: an i32 lies in its range (`i32-least`, `i32-most`), a number in that range fits (`i32-fits`), and an i32
+-- is the same number at 64 bits (`i32-wide`, `i32-widened`).
 use mathlib.Core.Path.{_≡_, _∙_, ap}
 use lib.IntN.{ℤ, pos, negsuc}
 use lib.Signed.{_≤ℤ_}

@@ -22,8 +22,9 @@ enum-known-told c = search needs
 length-told : (c : tie.After-known-told) → let s = c .before .before .before .before .before .before .before .before .before in
     EntryTold (now (s .args .text)) (now (s .args .out)) (c .before .told .given .0 .0)
 length-told c =
-    let s = c .before .before .before .before .before .before .before .before .before in
-    entry-length (now (s .args .text)) (now (s .args .out)) (c .before .before .before .before .before .answer .ensures .0) _ (c .before .told .given .1)
+    let at-answer = c .before .before .before .before .before in
+    let s = at-answer .before .before .before .before in
+    entry-length (now (s .args .text)) (now (s .args .out)) (at-answer .answer .ensures .0) _ (c .before .told .given .1)
 
 length-small : (c : tie.After-known-told) → c .before .told .given .0 .0 < 2 ^ 63
 length-small c =
@@ -45,8 +46,9 @@ number-requires c κs = search needs
 refused-told : (c : tie.After-number) → let s = c .before .before .before .before .before .before .before .before .before .before in
     NoRoomTold (now (s .args .text)) (now (s .args .out)) (c .number .result)
 refused-told c =
-    let s = c .before .before .before .before .before .before .before .before .before .before in
-    entry-refused (now (s .args .text)) (now (s .args .out)) (c .before .before .before .before .before .before .answer .ensures .0) _ _ (c .before .before .told2 .given .1) (c .number .ensures)
+    let at-answer = c .before .before .before .before .before .before in
+    let s = at-answer .before .before .before .before in
+    entry-refused (now (s .args .text)) (now (s .args .out)) (at-answer .answer .ensures .0) _ _ (c .before .before .told2 .given .1) (c .number .ensures)
 
 cast-wide : tie.Need-cast-wide
 cast-wide c = rw (refused-told c .is) (sfits-lit tt)
@@ -67,7 +69,9 @@ less : {n : ℕ} → n ≡ 12 → toZ w64 (ofZ w64 (pos 0 -ℤ toZ w64 n)) ≡ n
 less e = rw (e) refl
 
 returns-2 : tie.Need-returns-2
-returns-2 c = (less (refused-told c .is) ∙ refused-told c .answer, c .before .before .before .before .before .before .answer .ensures .1)
+returns-2 c =
+    let at-answer = c .before .before .before .before .before .before in
+    (less (refused-told c .is) ∙ refused-told c .answer, at-answer .answer .ensures .1)
 
 pub gekumosari-session-spec : {M : Type 1} → statement M
 gekumosari-session-spec =

@@ -19,13 +19,15 @@ returns-2 c =
     let e = c .before .before .before in
     let a = e .before .args in
     sym
-    (isBetween-late (a .from) (a .to) (a .t) (sym (e .is-earlier .ensures) ∙ c .before .before .if1 .left) (sym (c .before .is-earlier2 .ensures) ∙ c .if2 .taken))
+    (isBetween-late (a .from) (a .to) (a .t) (sym (e .is-earlier .ensures) ∙ c .before .before .if1 .left)
+    (sym (c .before .is-earlier2 .ensures) ∙ c .if2 .taken))
 
 returns-3 : tie.Need-returns-3
 returns-3 c =
     let e = c .before .before .before in
     let a = e .before .args in
-    sym (isBetween-on (a .from) (a .to) (a .t) (sym (e .is-earlier .ensures) ∙ c .before .before .if1 .left) (sym (c .before .is-earlier2 .ensures) ∙ c .if2 .left))
+    sym (isBetween-on (a .from) (a .to) (a .t) (sym (e .is-earlier .ensures) ∙ c .before .before .if1 .left)
+    (sym (c .before .is-earlier2 .ensures) ∙ c .if2 .left))
 
 pub is-between-spec : {M : Type 1} → statement M
 is-between-spec =

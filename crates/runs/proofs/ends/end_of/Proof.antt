@@ -12,8 +12,8 @@ use mir.Val.{SFits}
 use Rattle.events.specs.Bits.{hasEvent, nextEvent, membersFrom}
 use Rattle.events.specs.BitsLaws.{nextEvent-from, nextEvent-has, members-here, members-none, members-next}
 use Rattle.runs.specs.Offers.{termAt}
-use Rattle.runs.specs.Ends.{pickOf}
-use Rattle.runs.specs.EndLaws.{endOver, term-read, picked-read}
+use Rattle.runs.specs.Ends.{pickOf, endOver}
+use Rattle.runs.specs.EndLaws.{term-read, picked-read}
 use borrow.Author.Needs.{needs}
 use Rattle.runs.proofs.ends.end_of.Statement.{statement}
 use Rattle.runs.proofs.ends.end_of.Tie as tie
@@ -72,20 +72,25 @@ next-requires-2 c κs = omega arith
 
 loop-less : tie.Need-loop-less Inv-loop μ-loop
 loop-less c =
-    let l = c .before .before .before .before .before .before .loop in
-    let s = c .before .before .before .before .before .before .before .before in
+    let at-loop = c .before .before .before .before .before .before in
+    let s = at-loop .before .before in
+    let l = at-loop .loop in
     omega (arith, c .next2 .ensures, nextEvent-from (s .args .set .0) (l .e + 1))
 
 loop-again : tie.Need-loop-again Inv-loop μ-loop
 loop-again c =
-    let l = c .before .before .before .before .before .before .loop in
-    let s = c .before .before .before .before .before .before .before .before in
+    let at-time-at = c .before .before .before .before in
+    let at-loop-test = at-time-at .before in
+    let at-loop = at-loop-test .before in
+    let s = at-loop .before .before in
+    let l = at-loop .loop in
     let a = s .args in
     let n = c .next2 .ensures in
-    let h = c .before .before .before .before .before .loop-test .taken in
+    let h = at-loop-test .loop-test .taken in
     let g : SFits w32 (getD (now (a .cs)) (a .row + l .e) (pos 0)) = record { sfits = c .before .before .before .c .given } in
-    let t = c .before .before .before .before .time-at .ensures in
-    let picked = picked-read (now (a .seen)) (now (a .cs)) (a .row) (l .e) _ t g (a .upper) (l .end) _ _ (c .before .picked .ensures) (c .before .before .moved-by .ensures) in
+    let t = at-time-at .time-at .ensures in
+    let picked = picked-read (now (a .seen)) (now (a .cs)) (a .row) (l .e) _ t g (a .upper) (l .end) _ _ (c .before .picked .ensures)
+    (c .before .before .moved-by .ensures) in
     let from = nextEvent-from (a .set .0) (l .e + 1) in
     let term = termAt (now (a .seen)) (now (a .cs)) (a .row) in
     let same =

@@ -63,14 +63,16 @@ end-of-requires : tie.Need-end-of-requires
 end-of-requires c κs =
     let f = c .before .before in
     let s = start f in
-    let fits = subst (λ (n : ℕ). TermsFit (now (s .args .seen)) (s .args .turn .terms .below .0) (now (s .args .least)) ((s .args .i - 1) * mostEvents) n (eventsAhead (s .args .turn .jobs) (s .args .i - 1))) (sym (f .first-seen .ensures)) (s .pre .lower) in
+    let fits = subst (λ (n : ℕ). TermsFit (now (s .args .seen)) (s .args .turn .terms .below .0) (now (s .args .least)) ((s .args .i - 1) * mostEvents) n
+    (eventsAhead (s .args .turn .jobs) (s .args .i - 1))) (sym (f .first-seen .ensures)) (s .pre .lower) in
     (first-low f, (count-fits f, (row-fits f, fits)))
 
 end-of-requires-2 : tie.Need-end-of-requires-2
 end-of-requires-2 c κs =
     let f = c .before .before .before in
     let s = start f in
-    let fits = subst (λ (n : ℕ). TermsFit (now (s .args .seen)) (s .args .turn .terms .above .0) (now (s .args .most)) ((s .args .i - 1) * mostEvents) n (eventsAhead (s .args .turn .jobs) (s .args .i - 1))) (sym (f .first-seen .ensures)) (s .pre .upper) in
+    let fits = subst (λ (n : ℕ). TermsFit (now (s .args .seen)) (s .args .turn .terms .above .0) (now (s .args .most)) ((s .args .i - 1) * mostEvents) n
+    (eventsAhead (s .args .turn .jobs) (s .args .i - 1))) (sym (f .first-seen .ensures)) (s .pre .upper) in
     (first-low f, (count-fits f, (row-fits f, fits)))
 
 returns : tie.Need-returns

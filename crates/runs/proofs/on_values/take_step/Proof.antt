@@ -24,7 +24,8 @@ returns : tie.Need-returns
 returns c =
     let j = c .before .before .before in
     let a = j .before .args in
-    c .step-accepted .ensures ∙ step-accepted (a .p) (a .c) (a .run) (a .st) (j .judge-plan .result) (j .judge-plan .ensures .0) (c .before .enum-told .given .1)
+    c .step-accepted .ensures ∙ step-accepted (a .p) (a .c) (a .run) (a .st) (j .judge-plan .result) (j .judge-plan .ensures .0)
+    (c .before .enum-told .given .1)
 
 returns-2 : tie.Need-returns-2
 returns-2 c =

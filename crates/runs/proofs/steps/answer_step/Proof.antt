@@ -38,7 +38,8 @@ enum-known-phase c = search needs
 
 finished-since-requires : tie.Need-finished-since-requires
 finished-since-requires c κs =
-    let s = c .before .before .before .before .before .before .before in s .pre .running _ _ _ (c .before .before .phase .given .1)
+    let at-before = c .before .before .before .before .before .before .before in
+    let s = at-before in s .pre .running _ _ _ (c .before .before .phase .given .1)
 
 -- the run of what is handed over
 abbrev run : tie.Start → Run
@@ -62,9 +63,10 @@ returns-3 c =
 
 returns-4 : tie.Need-returns-4
 returns-4 c =
-    let s = c .before .before .before .before .before .before .before .before in
+    let at-st2 = c .before .before .before .before .before .before in
+    let s = at-st2 .before .before in
     c .finished-since .ensures
-    ∙ answer-finish (s .args .turn) _ _ (run s) (s .args .st) _ (c .before .before .before .before .before .before .st2 .given .1) _ _ _ (c .before .before .before .phase .given .1)
+    ∙ answer-finish (s .args .turn) _ _ (run s) (s .args .st) _ (at-st2 .st2 .given .1) _ _ _ (c .before .before .before .phase .given .1)
 
 pub answer-step-spec : {M : Type 1} → statement M
 answer-step-spec =

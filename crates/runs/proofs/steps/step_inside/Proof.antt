@@ -83,7 +83,8 @@ returns c =
     let m = c .before .before in
     let a = start (m .before) .args in
     let e = answer-is m in
-    ap₂ (λ (x : Answer) (y : Run). record { answer = x; run = y }) e (moved-made _ _ _ (c .move-run .ensures .0) (c .move-run .ensures .1) ∙ ap (moved (a .t1 .jobs) (a .run)) e)
+    ap₂ (λ (x : Answer) (y : Run). record { answer = x; run = y }) e
+    (moved-made _ _ _ (c .move-run .ensures .0) (c .move-run .ensures .1) ∙ ap (moved (a .t1 .jobs) (a .run)) e)
 
 pub step-inside-spec : {M : Type 1} → statement M
 step-inside-spec =

@@ -23,8 +23,9 @@ new-run-requires c κs = search needs
 
 put-answers-requires : tie.Need-put-answers-requires
 put-answers-requires c κs =
-    let s = c .before .before .before .before .before .before .before in
-    let t = c .before .before .before .before .tell-verdict in
+    let at-tell-verdict = c .before .before .before .before in
+    let s = at-tell-verdict .before .before .before in
+    let t = at-tell-verdict .tell-verdict in
     let j = s .pre .1 .1 .1 in
     let inside = judged-inside (s .args .p) (s .args .v) (s .args .c) j (t .result) (t .ensures) _ (c .before .before .enum-told .given .1) in (
       s .pre .0,
@@ -42,13 +43,16 @@ same-length c = search needs
 
 returns : tie.Need-returns
 returns c =
-    let s = c .before .before .before .before .before .before .before .before .before .before in
-    let t = c .before .before .before .before .before .before .before .tell-verdict in
+    let at-new-run = c .before .before .before .before in
+    let at-enum-told = at-new-run .before in
+    let at-tell-verdict = at-enum-told .before .before in
+    let s = at-tell-verdict .before .before .before in
+    let t = at-tell-verdict .tell-verdict in
     let a = s .args in
     let w = c .before .before .put-answers .ensures in
     let steps = drop (a .from) (now (a .text)) in
-    let j = judged-settled (a .p) (a .v) (a .c) (s .pre .1 .1 .1) steps (a .line) (t .result) (t .ensures) _ (c .before .before .before .before .before .enum-told .given .1) in
-    let new = ap (λ (r : Run). answers (a .p) (a .c) r steps (a .line)) (c .before .before .before .before .new-run .ensures) in
+    let j = judged-settled (a .p) (a .v) (a .c) (s .pre .1 .1 .1) steps (a .line) (t .result) (t .ensures) _ (at-enum-told .enum-told .given .1) in
+    let new = ap (λ (r : Run). answers (a .p) (a .c) r steps (a .line)) (at-new-run .new-run .ensures) in
     (stored-as (new ∙ j) (w .0), omega (arith, w .1 .1, s .pre .0))
 
 same-length-2 : tie.Need-same-length-2
@@ -56,12 +60,14 @@ same-length-2 c = search needs
 
 returns-2 : tie.Need-returns-2
 returns-2 c =
-    let s = c .before .before .before .before .before .before .before .before .before .before in
-    let t = c .before .before .before .before .before .before .before .tell-verdict in
+    let at-told = c .before .before .before .before .before in
+    let at-tell-verdict = at-told .before .before in
+    let s = at-tell-verdict .before .before .before in
+    let t = at-tell-verdict .tell-verdict in
     let a = s .args in
     let w = c .before .before .put-refused .ensures in
     let steps = drop (a .from) (now (a .text)) in
-    let j = judged-refused (a .p) (a .v) (a .c) (s .pre .1 .1 .1) steps (a .line) (t .result) (t .ensures) _ (c .before .before .before .before .before .told .given .1) in
+    let j = judged-refused (a .p) (a .v) (a .c) (s .pre .1 .1 .1) steps (a .line) (t .result) (t .ensures) _ (at-told .told .given .1) in
     (stored-as j (w .0), omega (arith, w .1, s .pre .0))
 
 pub put-session-spec : {M : Type 1} → statement M

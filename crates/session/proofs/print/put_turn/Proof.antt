@@ -24,11 +24,17 @@ same-length c = search needs
 
 returns : tie.Need-returns
 returns c =
-    let a = c .before .before .before .before .before .before .before .before .before .before .before .before .before .args in
-    let first = c .before .before .before .before .before .before .before .before .before .before .put-ended-count .ensures in
-    let second = c .before .before .before .before .before .before .put-ended-count2 .ensures in
-    let third = c .before .before .put-ended-time .ensures in
-    (turnText-stored (a .j) (a .i) (a .t .0) (first .0) (second .0) (third .0), omega (arith, first .1, second .0 .place, length-append (digits (a .i)) (comma ∷ []), digits-length-one (a .i) (omega arith), third .1))
+    let at-put-ended-count2 = c .before .before .before .before .before .before in
+    let at-put-ended-count = at-put-ended-count2 .before .before .before .before in
+    let start = at-put-ended-count .before .before .before in
+    let a = start .args in
+    let first = at-put-ended-count .put-ended-count .ensures in
+    let second = at-put-ended-count2 .put-ended-count2 .ensures in
+    let third = c .before .before .put-ended-time .ensures in (
+      turnText-stored (a .j) (a .i) (a .t .0) (first .0) (second .0) (third .0),
+      omega
+          (arith, first .1, second .0 .place, length-append (digits (a .i)) (comma ∷ []), digits-length-one (a .i) (omega arith), third .1),
+    )
 
 pub put-turn-spec : {M : Type 1} → statement M
 put-turn-spec =

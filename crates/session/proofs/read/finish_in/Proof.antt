@@ -23,14 +23,17 @@ line-lacks-requires c κs = search needs
 
 returns : tie.Need-returns
 unfolding finishIn
-returns c = sym (timed-value Finish (now (c .before .before .before .before .before .args .s)) _ (sym (c .before .before .before .read-number .ensures) ∙ c .before .n .given .1))
+returns c =
+    let start = c .before .before .before .before .before in
+    sym (timed-value Finish (now (start .args .s)) _ (sym (c .before .before .before .read-number .ensures) ∙ c .before .n .given .1))
 
 returns-2 : tie.Need-returns-2
 unfolding finishIn
 returns-2 c =
     let q = c .before in
     ap Bad (c .line-lacks .ensures)
-    ∙ sym (timed-bad Finish (now (q .before .before .before .before .before .args .s)) _ (sym (q .before .before .before .read-number .ensures) ∙ q .before .n2 .given .1))
+    ∙ sym (timed-bad Finish (now (q .before .before .before .before .before .args .s)) _
+    (sym (q .before .before .before .read-number .ensures) ∙ q .before .n2 .given .1))
 
 pub finish-in-spec : {M : Type 1} → statement M
 finish-in-spec =

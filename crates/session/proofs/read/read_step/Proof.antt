@@ -29,7 +29,9 @@ has-key-requires c κs = search needs
 
 sub-start-in : tie.Need-sub-start-in
 unfolding bytes
-sub-start-in c = hasKey-fits (bytes "start=") (now (c .before .before .before .before .before .before .before .args .l)) (sym (c .before .has-key .ensures) ∙ c .if2 .taken)
+sub-start-in c =
+    let start = c .before .before .before .before .before .before .before in
+    hasKey-fits (bytes "start=") (now (start .args .l)) (sym (c .before .has-key .ensures) ∙ c .if2 .taken)
 
 part-start-in-start : tie.Need-part-start-in-start
 part-start-in-start c = sub-start-in c
@@ -43,9 +45,13 @@ start-in-requires c κs = search needs
 returns-2 : tie.Need-returns-2
 unfolding bytes
 returns-2 c =
-    let l = now (c .before .before .before .before .before .before .before .before .before .args .l) in
+    let at-if1 = c .before .before .before .before .before in
+    let at-is-text = at-if1 .before in
+    let start = at-is-text .before .before .before in
+    let l = now (start .args .l) in
     c .start-in .ensures ∙ ap startIn (drop-rest 6 l)
-    ∙ sym (stepIn-start l (sym (c .before .before .before .before .before .before .is-text .ensures) ∙ c .before .before .before .before .before .if1 .left) (sym (c .before .before .before .has-key .ensures) ∙ c .before .before .if2 .taken))
+    ∙ sym (stepIn-start l (sym (at-is-text .is-text .ensures) ∙ at-if1 .if1 .left)
+    (sym (c .before .before .before .has-key .ensures) ∙ c .before .before .if2 .taken))
 
 slice-aggregate-has-key-2 : tie.Need-slice-aggregate-has-key-2
 slice-aggregate-has-key-2 c = search needs
@@ -55,7 +61,9 @@ has-key-requires-2 c κs = search needs
 
 sub-finish-in : tie.Need-sub-finish-in
 unfolding bytes
-sub-finish-in c = hasKey-fits (bytes "finish=") (now (c .before .before .before .before .before .before .before .before .before .before .args .l)) (sym (c .before .has-key2 .ensures) ∙ c .if3 .taken)
+sub-finish-in c =
+    let start = c .before .before .before .before .before .before .before .before .before .before in
+    hasKey-fits (bytes "finish=") (now (start .args .l)) (sym (c .before .has-key2 .ensures) ∙ c .if3 .taken)
 
 part-finish-in-start : tie.Need-part-finish-in-start
 part-finish-in-start c = sub-finish-in c
@@ -69,17 +77,24 @@ finish-in-requires c κs = search needs
 returns-3 : tie.Need-returns-3
 unfolding bytes
 returns-3 c =
-    let l = now (c .before .before .before .before .before .before .before .before .before .before .before .before .args .l) in
-    let e = c .before .before .before .before .before .before .before in
+    let at-if2 = c .before .before .before .before .before in
+    let at-has-key = at-if2 .before in
+    let e = at-has-key .before in
+    let start = e .before .before .before .before .before in
+    let l = now (start .args .l) in
     c .finish-in .ensures ∙ ap finishIn (drop-rest 7 l)
-    ∙ sym (stepIn-finish l (sym (e .before .before .is-text .ensures) ∙ e .before .if1 .left) (sym (c .before .before .before .before .before .before .has-key .ensures) ∙ c .before .before .before .before .before .if2 .left) (sym (c .before .before .before .has-key2 .ensures) ∙ c .before .before .if3 .taken))
+    ∙ sym (stepIn-finish l (sym (e .before .before .is-text .ensures) ∙ e .before .if1 .left) (sym (at-has-key .has-key .ensures) ∙ at-if2 .if2 .left)
+    (sym (c .before .before .before .has-key2 .ensures) ∙ c .before .before .if3 .taken))
 
 returns-4 : tie.Need-returns-4
 unfolding bytes
 returns-4 c =
-    let l = now (c .before .before .before .before .before .before .before .before .before .before .args .l) in
-    let e = c .before .before .before .before .before in
-    sym (stepIn-other l (sym (e .before .before .is-text .ensures) ∙ e .before .if1 .left) (sym (c .before .before .before .before .has-key .ensures) ∙ c .before .before .before .if2 .left) (sym (c .before .has-key2 .ensures) ∙ c .if3 .left))
+    let at-has-key = c .before .before .before .before in
+    let e = at-has-key .before in
+    let start = e .before .before .before .before .before in
+    let l = now (start .args .l) in
+    sym (stepIn-other l (sym (e .before .before .is-text .ensures) ∙ e .before .if1 .left)
+    (sym (at-has-key .has-key .ensures) ∙ c .before .before .before .if2 .left) (sym (c .before .has-key2 .ensures) ∙ c .if3 .left))
 
 pub read-step-spec : {M : Type 1} → statement M
 read-step-spec =

@@ -53,7 +53,8 @@ returns-2 c =
     let n = m .before .before .before in
     let b = n .before .before in
     let a = b .args in
-    stepAt-value (now (a .s)) (a .at) (a .line) (n .next-line .result) (b .pre) (n .next-line .ensures) _ (omega arith) (sym (m .read-step .ensures) ∙ c .before .read .given .1)
+    stepAt-value (now (a .s)) (a .at) (a .line) (n .next-line .result) (b .pre) (n .next-line .ensures) _ (omega arith)
+    (sym (m .read-step .ensures) ∙ c .before .read .given .1)
 
 returns-3 : tie.Need-returns-3
 returns-3 c =
@@ -61,7 +62,8 @@ returns-3 c =
     let n = m .before .before .before in
     let b = n .before .before in
     let a = b .args in
-    stepAt-bad (now (a .s)) (a .at) (a .line) (n .next-line .result) (b .pre) (n .next-line .ensures) _ _ (omega arith) (sym (m .read-step .ensures) ∙ c .before .before .read2 .given .1) (c .fault-at .ensures)
+    stepAt-bad (now (a .s)) (a .at) (a .line) (n .next-line .result) (b .pre) (n .next-line .ensures) _ _ (omega arith)
+    (sym (m .read-step .ensures) ∙ c .before .before .read2 .given .1) (c .fault-at .ensures)
 
 pub read-step-at-spec : {M : Type 1} → statement M
 read-step-at-spec =

@@ -36,10 +36,13 @@ step-refusal-requires c κs = search needs
 
 returns : tie.Need-returns Inv-loop μ-loop
 returns c =
-    let l = c .before .before .before .before .before .loop in
-    let a = c .before .before .before .before .before .before .before .args in
+    let at-loop-test = c .before .before .before .before in
+    let at-loop = at-loop-test .before in
+    let start = at-loop .before .before in
+    let l = at-loop .loop in
+    let a = start .args in
     let bad = c .before .enum-told .given .1 in
-    walking-refused (now (a .text)) (a .from) (a .line) (l .place) (l .number) (l .inv) (c .before .before .before .before .loop-test .taken) _
+    walking-refused (now (a .text)) (a .from) (a .line) (l .place) (l .number) (l .inv) (at-loop-test .loop-test .taken) _
     (c .before .before .before .read-step-at .ensures .0) bad (ap Refused (c .step-refusal .ensures ∙ ap stepRefusal bad))
 
 add-number : tie.Need-add-number Inv-loop μ-loop
@@ -53,10 +56,14 @@ loop-less c =
 
 loop-again : tie.Need-loop-again Inv-loop μ-loop
 loop-again c =
-    let l = c .before .before .before .before .before .loop in
-    let a = c .before .before .before .before .before .before .before .args in
+    let at-loop-test = c .before .before .before .before in
+    let at-loop = at-loop-test .before in
+    let start = at-loop .before .before in
+    let l = at-loop .loop in
+    let a = start .args in
     let w = c .before .before .before .read-step-at .ensures in
-    walking-more (now (a .text)) (a .from) (a .line) (l .place) (l .number) (l .inv) (c .before .before .before .before .loop-test .taken) _ _ (w .0) (c .before .read .given .1) (w .1)
+    walking-more (now (a .text)) (a .from) (a .line) (l .place) (l .number) (l .inv) (at-loop-test .loop-test .taken) _ _ (w .0) (c .before .read .given .1)
+    (w .1)
 
 returns-2 : tie.Need-returns-2 Inv-loop μ-loop
 returns-2 c =

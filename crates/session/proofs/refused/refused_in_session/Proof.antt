@@ -27,8 +27,10 @@ tell-refusal-requires c κs = search needs
 
 returns : tie.Need-returns
 returns c =
-    let r = c .before .before .before .before .before .read-head in
-    let s = now (c .before .before .before .before .before .before .before .args .text) in
+    let at-read-head = c .before .before .before .before .before in
+    let start = at-read-head .before .before in
+    let r = at-read-head .read-head in
+    let s = now (start .args .text) in
     let q = c .before .before .before .enum-told2 .given .1 in
     let t = told-lines stepsBehind stepsBehind-keeps s (planHead s) (planHead-tail s) (r .result) (r .ensures) (r .result .answer) _ q q in
     let e = c .tell-refusal .ensures in
@@ -50,8 +52,11 @@ enum-told-3 c = search needs
 
 read-steps-requires : tie.Need-read-steps-requires
 read-steps-requires c κs =
-    let r = c .before .before .before .before .before .before .before .read-head in
-    let h = head-accepted (now (c .before .before .before .before .before .before .before .before .before .args .text)) (r .result) (r .ensures) (c .before .before .before .before .before .enum-told .given .1) in
+    let at-enum-told = c .before .before .before .before .before in
+    let at-read-head = at-enum-told .before .before in
+    let start = at-read-head .before .before in
+    let r = at-read-head .read-head in
+    let h = head-accepted (now (start .args .text)) (r .result) (r .ensures) (at-enum-told .enum-told .given .1) in
     (h .placed, (h .short, h .numbered))
 
 tell-refusal-requires-2 : tie.Need-tell-refusal-requires-2
@@ -59,10 +64,16 @@ tell-refusal-requires-2 c κs = search needs
 
 returns-2 : tie.Need-returns-2
 returns-2 c =
-    let r = c .before .before .before .before .before .before .before .before .before .before .before .read-head in
-    let s = now (c .before .before .before .before .before .before .before .before .before .before .before .before .before .args .text) in
-    let q = c .before .before .before .before .before .before .before .before .before .enum-told .given .1 in
-    let v = sym (ap verdictTold (c .before .before .before .before .before .before .before .decide .ensures .0)) ∙ sym (c .before .before .before .before .before .before .tell-verdict .ensures) ∙ c .before .before .before .before .enum-told3 .given .1 in
+    let at-enum-told3 = c .before .before .before .before in
+    let at-tell-verdict = at-enum-told3 .before .before in
+    let at-decide = at-tell-verdict .before in
+    let at-enum-told = at-decide .before .before in
+    let at-read-head = at-enum-told .before .before in
+    let start = at-read-head .before .before in
+    let r = at-read-head .read-head in
+    let s = now (start .args .text) in
+    let q = at-enum-told .enum-told .given .1 in
+    let v = sym (ap verdictTold (at-decide .decide .ensures .0)) ∙ sym (at-tell-verdict .tell-verdict .ensures) ∙ at-enum-told3 .enum-told3 .given .1 in
     let m = sessionRead-settled s (r .result) (r .ensures) q _ v in
     let t = c .before .before .before .read-steps .ensures in
     let e = c .tell-refusal2 .ensures in
@@ -73,10 +84,16 @@ tell-refusal-requires-3 c κs = search needs
 
 returns-3 : tie.Need-returns-3
 returns-3 c =
-    let r = c .before .before .before .before .before .before .before .before .before .before .before .read-head in
-    let s = now (c .before .before .before .before .before .before .before .before .before .before .before .before .before .args .text) in
-    let q = c .before .before .before .before .before .before .before .before .before .enum-told .given .1 in
-    let v = sym (ap verdictTold (c .before .before .before .before .before .before .before .decide .ensures .0)) ∙ sym (c .before .before .before .before .before .before .tell-verdict .ensures) ∙ c .before .before .before .before .verdict .given .1 in
+    let at-verdict = c .before .before .before .before in
+    let at-tell-verdict = at-verdict .before .before in
+    let at-decide = at-tell-verdict .before in
+    let at-enum-told = at-decide .before .before in
+    let at-read-head = at-enum-told .before .before in
+    let start = at-read-head .before .before in
+    let r = at-read-head .read-head in
+    let s = now (start .args .text) in
+    let q = at-enum-told .enum-told .given .1 in
+    let v = sym (ap verdictTold (at-decide .decide .ensures .0)) ∙ sym (at-tell-verdict .tell-verdict .ensures) ∙ at-verdict .verdict .given .1 in
     let t = told-verdict stepsBehind stepsBehind-keeps s (planHead s) (planHead-tail s) (r .result) (r .ensures) _ _ refl q v _ refl in
     let e = c .tell-refusal3 .ensures in
     (e .0 ∙ t .part-is, (e .1 .0 ∙ t .number-is, e .1 .1 ∙ t .value-is))

@@ -1,5 +1,5 @@
--- `put_answers`: the invariant is `Going`, that whatever writes the answers that are left has written all of them, and that the run after them is the run after all; one law a
--- way, `going-..`. A step is the same three calls as on values: whose turn it is, the answer, what it makes of the run.
+-- `put_answers`: the invariant is `Going`, that whatever writes the answers that are left has written all of them, and that the run after them is the run
+-- after all; one law a way, `going-..`. A step is the same three calls as on values: whose turn it is, the answer, what it makes of the run.
 use Prim.Native.Nat.{ℕ, _+_, _-_, _≤_, _<_}
 use mathlib.Core.Path.{_≡_, refl, sym, ap, subst, _∙_}
 use mathlib.Core.Bool.{Bool}
@@ -103,7 +103,8 @@ returns c =
     let a = start l .args in
     let w = c .before .before .put-refused in
     let d =
-    going-refused (a .t4) (a .t5) (now (a .text)) (now (a .out)) (a .from) (a .line) (a .at) (a .run) (l .loop .out) (run l) (l .loop .place) (l .loop .number) (l .loop .end)
+    going-refused (a .t4) (a .t5) (now (a .text)) (now (a .out)) (a .from) (a .line) (a .at) (a .run) (l .loop .out) (run l) (l .loop .place)
+    (l .loop .number) (l .loop .end)
     (l .loop .inv) (f .before .before .before .before .before .loop-test .taken) (w .last .0) (w .result) (omega (arith, w .ensures .1)) _ (line-refused f)
     (w .ensures .0) in
     (d .stored, (d .left, d .short))
@@ -233,8 +234,10 @@ returns-2 c =
     let a = begin k .args in
     let l = at-loop k in
     let w =
-    going-last (a .t4) (a .t5) (now (a .text)) (now (a .out)) (a .from) (a .line) (a .at) (a .run) (l .loop .out) (run l) (l .loop .place) (l .loop .number) (l .loop .end)
-    (l .loop .inv) (k .before .before .before .before .before .loop-test .taken) _ _ (put m .put-answer .ensures .1) (step k) (next k) (answered k) (step-read k) refl (stored m)
+    going-last (a .t4) (a .t5) (now (a .text)) (now (a .out)) (a .from) (a .line) (a .at) (a .run) (l .loop .out) (run l) (l .loop .place) (l .loop .number)
+    (l .loop .end)
+    (l .loop .inv) (k .before .before .before .before .before .loop-test .taken) _ _ (put m .put-answer .ensures .1) (step k) (next k) (answered k)
+    (step-read k) refl (stored m)
     (sym (ap endsSession (answer-is (e m))) ∙ sym (c .before .ends-session .ensures) ∙ c .if1 .taken) in
     (w .stored, (sym (run-is m) ∙ w .left, w .short))
 
@@ -260,8 +263,10 @@ loop-again c =
     Going (a .t4) (a .t5) (now (a .text)) (now (a .out)) (a .from) (a .line) (a .at) (a .run) (put m .put-answer .last .0) r (next k) (l .loop .number + 1)
     (put m .put-answer .result))
     (run-is m)
-    (going-more (a .t4) (a .t5) (now (a .text)) (now (a .out)) (a .from) (a .line) (a .at) (a .run) (l .loop .out) (run l) (l .loop .place) (l .loop .number) (l .loop .end)
-    (l .loop .inv) (k .before .before .before .before .before .loop-test .taken) _ _ (put m .put-answer .ensures .1) (step k) (next k) (answered k) (step-read k) refl (stored m)
+    (going-more (a .t4) (a .t5) (now (a .text)) (now (a .out)) (a .from) (a .line) (a .at) (a .run) (l .loop .out) (run l) (l .loop .place)
+    (l .loop .number) (l .loop .end)
+    (l .loop .inv) (k .before .before .before .before .before .loop-test .taken) _ _ (put m .put-answer .ensures .1) (step k) (next k) (answered k)
+    (step-read k) refl (stored m)
     (sym (ap endsSession (answer-is (e m))) ∙ sym (c .before .ends-session .ensures) ∙ c .if1 .left) (k .before .before .read .given .1)
     (k .before .before .before .before .read-step-at .ensures .1))
 
@@ -273,7 +278,8 @@ returns-3 c =
     let l = c .before in
     let a = start l .args in
     let w =
-    going-end (a .t4) (a .t5) (now (a .text)) (now (a .out)) (a .from) (a .line) (a .at) (a .run) (l .loop .out) (run l) (l .loop .place) (l .loop .number) (l .loop .end)
+    going-end (a .t4) (a .t5) (now (a .text)) (now (a .out)) (a .from) (a .line) (a .at) (a .run) (l .loop .out) (run l) (l .loop .place) (l .loop .number)
+    (l .loop .end)
     (l .loop .inv) (c .loop-test .left) in
     (w .stored, (w .left, w .short))
 
