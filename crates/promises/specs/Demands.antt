@@ -39,6 +39,7 @@ use Rattle.runs.specs.Offers.{offerOf}
 use Rattle.runs.specs.Steps.{newRun, isStep, stepped, step}
 use Rattle.runs.specs.Inside.{Inside}
 use Rattle.runs.specs.StepLaws as step-laws
+use Rattle.runs.specs.ValueStepLaws as value-laws
 use Rattle.strategy.specs.Histories.{History, ranFor, turn}
 use Rattle.strategy.specs.Strategies.{Kept, StrategyAfter, StrategyFor, StrategyForAll}
 use Rattle.strategy.specs.Reaching.{OnOffer, InTimes, AtTurn, Reached, afterSteps, afterValues, ReachedWith}
@@ -55,7 +56,7 @@ module _ (p : Plan) (c : Calendar) (r : Run) (st : Step) where
 
   -- a step on values inside their limits is the step that demand 3 speaks of
   pub value-step : Inside p c r → isStep st ≡ true → step p c r st ≡ stepped p c r st
-  value-step = step-laws.step-inside p c r st
+  value-step = value-laws.step-inside p c r st
 
 -- ---- demand 2: 'A plan written and read again is the same plan; an accepted text is written back byte for byte'
 

@@ -16,7 +16,7 @@ use Rattle.runs.specs.declared.Step.{Step}
 use Rattle.runs.specs.declared.Answered.{Answered}
 use Rattle.runs.specs.Steps.{newRun, isStep, step}
 use Rattle.runs.specs.Inside.{Inside}
-use Rattle.runs.specs.StepLaws.{step-inside, step-outside}
+use Rattle.runs.specs.ValueStepLaws.{step-inside, step-outside}
 use Rattle.runs.specs.KeepsLaws.{newRun-is, step-keeps}
 use Rattle.runs.specs.MadeLaws.{made-inside}
 use Rattle.strategy.specs.Reaching.{begun, afterValues, ReachedWith}

@@ -31,7 +31,7 @@ use Rattle.runs.specs.Offers.{turnOf}
 use Rattle.runs.specs.Steps.{newRun, answerOf, closedSince, closed, moved, stepped, isStep, step}
 use Rattle.runs.specs.Inside.{Inside}
 use Rattle.runs.specs.SeenLaws.{firstSeen-most}
-use Rattle.runs.specs.StepLaws.{step-inside, step-outside}
+use Rattle.runs.specs.ValueStepLaws.{step-inside, step-outside}
 use Rattle.runs.specs.InsideLaws.{OnTurn, run-phase, run-seen, areTimes-at, waiting-turn, running-turn, running-time}
 use Rattle.runs.specs.AnswerLaws.{answer-started, answer-final}
 

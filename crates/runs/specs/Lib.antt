@@ -15,6 +15,7 @@ pub mod SeenLaws
 pub mod EndLaws
 pub mod LimitLaws
 pub mod StepLaws
+pub mod ValueStepLaws
 pub mod InsideLaws
 pub mod AnswerLaws
 pub mod OfferLaws

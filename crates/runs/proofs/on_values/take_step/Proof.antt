@@ -1,6 +1,6 @@
 -- `take_step` meets its contract, by the answer to its plan: `step-refused` and `step-accepted`.
 use mathlib.Core.Path.{_∙_}
-use Rattle.runs.specs.StepLaws.{step-refused, step-accepted}
+use Rattle.runs.specs.ValueStepLaws.{step-refused, step-accepted}
 use borrow.Author.Needs.{needs}
 use Rattle.runs.proofs.on_values.take_step.Statement.{statement}
 use Rattle.runs.proofs.on_values.take_step.Tie as tie

@@ -1,7 +1,7 @@
 -- `step_accepted` meets its contract: what is outside its limits is refused before the step, and the rest is inside them.
 use mathlib.Core.Path.{sym, _∙_}
 use borrow.Author.Tests.{not-true, not-false}
-use Rattle.runs.specs.StepLaws.{acceptedStep-run, acceptedStep-calendar, acceptedStep-step, acceptedStep-inside}
+use Rattle.runs.specs.ValueStepLaws.{acceptedStep-run, acceptedStep-calendar, acceptedStep-step, acceptedStep-inside}
 use borrow.Author.Needs.{needs}
 use Rattle.runs.proofs.steps.step_accepted.Statement.{statement}
 use Rattle.runs.proofs.steps.step_accepted.Tie as tie
