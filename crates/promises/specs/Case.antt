@@ -86,12 +86,16 @@ unfoldable pub dispatching : Type 0
 unfolding membersFrom lowerTerms upperTerms greatest offers.least openingAt asked started closed finished answerAt jobSeen frontFrom moved
 dispatching = Unit {0}
 
--- a session's text
+-- a session's text: its steps, read, and their answers
+unfoldable pub readingSteps : Type 0
+unfolding timed finishIn finishStep startIn startStep stepIn linedStep stepLine
+readingSteps = Unit {0}
+
 unfoldable pub answering : Type 0
-unfolding timed finishIn finishStep startIn startStep stepIn linedStep stepLine answerLine endsSession answeredStep afterStep dispatchedWithin judgedSession sessionOf
+unfolding answerLine endsSession answeredStep afterStep dispatchedWithin judgedSession sessionOf
 answering = Unit {0}
 
 -- all of them: every definition between the input's bytes and the output's
 unfoldable pub computing : Type 0
-unfolding reading readingPlans eliminating settling deciding printing dispatching answering
+unfolding reading readingPlans eliminating settling deciding printing dispatching readingSteps answering
 computing = Unit {0}

@@ -1,6 +1,7 @@
--- Steps, one case after the other, as the code takes them: whose turn it is (`turnOf-made`); a run put together again (`moved-made`); a finish (`finished-on`,
--- `finished-off`); an opening by its phase (`opening-over`, `opening-waiting`, `opening-running`); the answer by the kind of step (`answer-ask`, `answer-start`,
--- `answer-idle`, `answer-finish`). A refusal leaves the run as it was (`stepped-stays`, `step-stays`). Steps on values are in `ValueStepLaws`.
+-- Steps, one case after the other, as the code takes them: whose turn it is (`turnOf-made`); a run put together again (`moved-made`); a finish
+-- (`finished-on`, `finished-off`); an opening by its phase (`opening-over`, `opening-waiting`, `opening-running`); the answer by the kind of step
+-- (`answer-ask`, `answer-start`, `answer-idle`, `answer-finish`). A refusal leaves the run as it was (`stepped-stays`, `step-stays`). Steps on values are
+-- in `ValueStepLaws`.
 use Prim.Native.Nat.{ℕ, _-_, _≤_, _<_}
 use mathlib.Core.Path.{_≡_, sym, _∙_}
 use mathlib.Core.Bool.{true, false}

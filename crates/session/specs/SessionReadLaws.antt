@@ -25,7 +25,7 @@ use Rattle.runs.specs.declared.Step.{Step}
 use Rattle.session.specs.declared.StepAt.{StepAt}
 use Rattle.session.specs.declared.StepAt.the-variants as stepAt
 use Rattle.session.specs.StepRead.{stepLine}
-use Rattle.session.specs.StepAt.{stepTold, StepEnds}
+use Rattle.session.specs.StepAt.{stepTold, StepsTold, StepEnds}
 use Rattle.session.specs.SessionRead.{stepsWithin, stepLines, sessionRead}
 use Rattle.session.specs.SessionLaws.{stepLine-shorter}
 
@@ -87,7 +87,7 @@ module _ (text : List ℕ) (from line : ℕ) where
 
   module _ (place number : ℕ) (w : Walking text from line place number) where
     pub walking-end : length text ≤ place → {a : TextAnswer} (at : ℕ) → a ≡ planAnswer.Accepted
-        → Told (stepLines (drop from text) line) (partAt text at a) (answerNumber a) (answerValue a)
+        → StepsTold text from line at a
     walking-end h {a} at e =
         subst (λ (m : Reading Unit). Told m (partAt text at a) (answerNumber a) (answerValue a)) (sym (w .left ∙ stepLines-end text place number h))
         (told-none text a at tt [] number e)
@@ -98,7 +98,7 @@ module _ (text : List ℕ) (from line : ℕ) where
 
       pub walking-refused : (x : Refusal) {r : StepAt} → stepLine (drop place text) number ≡ stepTold text place (number + 1) r → r ≡ stepAt.Bad x
           → {a : TextAnswer} → a ≡ planAnswer.Refused x
-          → Told (stepLines (drop from text) line) (partAt text place a) (answerNumber a) (answerValue a)
+          → StepsTold text from line place a
       walking-refused x {r} d e {a} f =
           subst (λ (m : Reading Unit). Told m (partAt text place a) (answerNumber a) (answerValue a))
           (sym (w .left ∙ stepLines-refused (drop place text) number some x (drop place text) (d ∙ ap (stepTold text place (number + 1)) e)))

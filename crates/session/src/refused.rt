@@ -10,17 +10,17 @@ use rounds::VerdictTold;
 use rounds::tell_verdict;
 ghost use mathlib.Core.Path.{_≡_};
 ghost use Prim.Native.Nat.{_+_, _≤_};
-ghost use lib.ListN.{length, drop};
+ghost use lib.ListN.{length};
 ghost use Rattle.lines.specs.Reading.{longestText, refusedNumber, refusedValue, faultyPart};
-ghost use Rattle.lines.specs.Answers.{answerNumber, answerValue, partAt, Told};
-ghost use Rattle.session.specs.SessionRead.{stepLines, sessionRead};
+ghost use Rattle.session.specs.SessionRead.{sessionRead};
+ghost use Rattle.session.specs.StepAt.{StepsTold};
 
 // The first step line of a text that is refused, from a place on, whose line has number line.
 fn read_steps(text: &[u8], from: usize, line: usize) -> StepsRead
     requires { ⌜ from ≤ length (now text) ⌝ }
     requires { ⌜ length (now text) ≤ longestText ⌝ }
     requires { ⌜ line ≤ longestText + 1 ⌝ }
-    ensures { λ r. ⌜ Told (stepLines (drop from (now (text .entry))) line) (partAt (now (text .entry)) (r .at) (r .answer)) (answerNumber (r .answer)) (answerValue (r .answer)) ⌝ }
+    ensures { λ r. ⌜ StepsTold (now (text .entry)) from line (r .at) (r .answer) ⌝ }
 {
     let mut place = from;
     let mut number = line;
