@@ -1,7 +1,7 @@
 # Explains the refusals of an answer: awk -v command=.. -v program=.. -v cut=.. -f explain.awk ANSWER TEXT
 #
 # command is the name to speak under, program the one that answered, and cut is 1 where the text's last line lacks its LF. A refused plan has one
-# explanation. Of a session's steps each number of refusal has one, at the first step that it refused. Faults are told as document 01 orders them:
+# explanation. Of a session's steps each number of refusal has one, at the first step that it refused. Faults are named in the order of document 01:
 # where line D is faulty, all lines before it are right.
 
 FILENAME != "-" { answers[++count] = $0; next }
@@ -117,12 +117,12 @@ function explain_line(number, line,    key, text) {
     if (number == 1) explain_form(key, line, text)
     else if (number == 2) explain_range(key, line, text)
     else explain_pair(line, text)
-    if (key == "step") also("The answers before this step stand; the steps behind it were not read.")
+    if (key == "step") also("The answers before this step stand; the steps after it were not read.")
 }
 
 function explain_form(key, line, text,    before) {
     also("should be: " form(key, line))
-    before = told
+    before = hints
     if (line > last) hint("A line is missing: each line is ended by one LF, the last one too.")
     if (cut && line == last) hint("It lacks its LF: the last line is ended by one, as the others are.")
     if (text ~ /\r$/) hint("It ends with CR LF, and has to end with LF alone: tr -d '\\r' takes the CR out.")
@@ -135,10 +135,10 @@ function explain_form(key, line, text,    before) {
     if (key == "bound" && text !~ /^bound=/) hint("bounds=" bounds " says how many bound= lines follow it.")
     if (key ~ /^(step|end)$/ && text ~ /^bound=/) hint("bounds=" bounds " in line " bounds_line " has to count the bound= lines.")
     if (key == "end" && text ~ /^(ask|start|finish)=/) hint("This is a session: gekumosari dispatch answers its steps.")
-    if (told == before) hint("What stands in it, and in which order, gekumosari-" program "(1) tells.")
+    if (hints == before) hint("gekumosari-" program "(1) says what stands in it, and in which order.")
 }
 
-function hint(words) { told++; also(words) }
+function hint(words) { hints++; also(words) }
 
 function explain_range(key, line, text,    low_end) {
     also("should be: " (key == "bound" ? "c from " range(key) ", and job digits from 1 to " jobs : \
@@ -164,7 +164,7 @@ function explain_plan(number, value) {
     if (number == 1) {
         say("refused=1,0: the text has more than 65,536 bytes")
         also(program == "calendar" ? "No plan is that long: nine jobs and 64 bounds have some 2,000 bytes." : \
-            "Drop the asks: they change nothing. If it is still too long, end this session behind a whole window and begin a new one.")
+            "Drop the asks: they change nothing. If it is still too long, end this session after a whole window and begin a new one.")
     } else if (number == 2) {
         say("refused=2,0: a time is out of range: it is 0 to 100,000,000,000,000,000")
     } else if (number == 4) {
@@ -195,7 +195,7 @@ function explain_step(number, line,    min, max) {
         number == 9 ? "the finish is earlier than start + min or later than start + max" : number == 10 ? "the run is over" : \
         number == 11 ? "the offer is empty" : "the answer is longer than the lent slice"))
     if (number == 6) also("Job " job " runs since " start ". Tell its finish first. If it was cancelled, see 'Cancel before max' in the guide.")
-    if (number == 7) also("Its start was refused, or its finish was told before.")
+    if (number == 7) also("Its start was refused, or its finish was reported before.")
     if (number == 8) {
         also(asked ? "The offer was from " low " to " high ", both included." : "ask=offer before it tells from when to when it may start.")
         also("Too early: wait. Too late: no later start keeps all bounds for sure; see 'A missed offer' in the guide.")

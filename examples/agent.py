@@ -44,7 +44,7 @@ def next_job(entry, plan, steps):
 
 def main():
     with open(sys.argv[1], 'rb') if len(sys.argv) > 1 else sys.stdin.buffer as file:
-        # One byte more than the longest text, so that a longer one is told.
+        # One byte more than the longest text, so that a longer one is noticed.
         text = file.read(LONGEST_TEXT + 1)
     sys.stdout.buffer.write(answer(library(), text))
     sys.stdout.buffer.flush()

@@ -19,10 +19,10 @@
  * WHAT GOES IN
  *
  *     text, length   A session: a plan, followed by steps, one line each. Any bytes are allowed, and
- *                    any length; what is no session is answered by its one line `refused=N,D`. The
+ *                    any length; a text that is not a session is answered by one line `refused=N,D`. The
  *                    bytes are read and never written.
- *     out, room      A slice that the caller lends for the answer. Its bytes are written, as told
- *                    below, and never read.
+ *     out, room      A slice that the caller lends for the answer. Its bytes are written, as
+ *                    described below, and never read.
  *
  * Both slices stay the caller's and are not kept after the call. They must not overlap. A slice of
  * length 0 is allowed, and its pointer is not looked at: it may be a null pointer.

@@ -60,7 +60,7 @@ fn check(dice: &mut Dice, plan: &Plan, game: &Game, subject: &dyn Subject, count
     }
 }
 
-/// The first line that is printed for the plan with so many rounds; `settled` alone where the round is not told.
+/// The first line that is printed for the plan with so many rounds; `settled` alone where no round is given.
 fn verdict(plan: &Plan, rounds: i64, subject: &dyn Subject, counts: &mut Counts) -> Result<String, String> {
     let text = plan::text(&Plan { rounds, ..plan.clone() });
     counts.verdicts += 1;

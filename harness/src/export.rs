@@ -43,7 +43,7 @@ mod linked {
 #[cfg(feature = "export")]
 pub use linked::{Export, ENTRY};
 
-/// This implementation behind an entry of the same form, for the fuzzer in C.
+/// This implementation, under an entry of the same form, for the fuzzer in C.
 ///
 /// # Safety
 /// `text` is valid for `len` bytes and `out` for `room`, and nothing else uses `out` meanwhile.

@@ -157,7 +157,7 @@ impl<'p> Game<'p> {
         whole.then_some(good)
     }
 
-    /// Visits every position that a run can come to while it keeps to what is on offer. Runs that agree in the last window and
+    /// Visits every position that a run can reach while it keeps to what is on offer. Runs that agree in the last window and
     /// in this one so far are in the same position.
     pub fn visit_positions(&self, lasting: &Lasting, visit: &mut Visit) -> Result<(), String> {
         let mut reached = HashSet::new();

@@ -323,7 +323,7 @@ fn damage(dice: &mut Dice, mut text: Vec<u8>) -> Vec<u8> {
             text.pop();
         }
         9 | 10 => return wrong_pair(dice, &text),
-        // What comes behind the last line; an LF alone is the least of it.
+        // What comes after the last line; an LF alone is the least of it.
         11 => text.extend_from_slice(dice.choose(&[b"\n".as_slice(), b"\n", b"\n", b"ask=offer\n", b"bound=ts1,tf1,0\n", b"\r\n", b"x"])),
         _ => return edited_number(dice, &text),
     }
@@ -341,7 +341,7 @@ fn edited_lines(dice: &mut Dice, text: &[u8]) -> Vec<u8> {
         return text.to_vec();
     }
     let (i, j) = (dice.below(lines.len()), dice.below(lines.len()));
-    // Also behind the last line.
+    // Also after the last line.
     let between = dice.below(lines.len() + 1);
     match dice.between(0, 5) {
         0 => drop(lines.remove(i)),

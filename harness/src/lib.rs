@@ -47,7 +47,7 @@ pub fn session(input: &[u8], out: &mut [u8]) -> i64 {
     }
 }
 
-/// Reads a plan, alone in its text or with steps behind it, and gives its calendar.
+/// Reads a plan, alone in its text or followed by steps, and gives its calendar.
 fn judged(input: &[u8], alone: bool) -> Result<(Plan, Calendar, Lines<'_>), Refusal<'_>> {
     let mut lines = Lines::of(input)?;
     let plan = plan::read(&mut lines)?;

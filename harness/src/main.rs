@@ -221,7 +221,7 @@ const FIGURES: &str = "\
 one process and called on the same texts, in turns, 41 batches of each, now the one first and now the other. That is done in five processes,
 one after the other, since where a process happens to lie in memory moves the ratio more than the batches do. Times are the processor's
 microseconds of one call: the median of the five medians, and their range in parentheses. The ratio is the export's time to that of the second
-implementation, batch by batch, and of its five medians the same is told. Stack is the bytes that a call needs below its caller, measured on a
+implementation, batch by batch, and its column gives the median of its five medians. Stack is the bytes that a call needs below its caller, measured on a
 stack that is painted before the call.
 
 - read: a plan of nine jobs and 64 bounds that is refused at its last line, so that there is no verdict

@@ -151,7 +151,7 @@ fn unit(length: i64) -> (&'static str, i64) {
     }
 }
 
-/// A number with one digit behind the point at most.
+/// A number with one digit after the point at most.
 fn short(t: i64, each: i64) -> f64 {
     (t as f64 / each as f64 * 10.0).round() / 10.0
 }
