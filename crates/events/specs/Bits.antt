@@ -4,6 +4,7 @@ use Prim.Native.Nat.{ℕ, zero, suc, _+_, _*_, _/_, _-_, _%_, _^_, _<_}
 use mathlib.Core.Bool.{Bool, true, false, cond}
 use mathlib.Core.List.{List, [], _∷_}
 use lib.Dec.{eqb}
+use Rattle.text.specs.Numbers.{isEmpty}
 use Rattle.plan.specs.Limits.{mostJobs}
 use Rattle.events.specs.declared.Events.{Events}
 
@@ -76,3 +77,7 @@ nextEvent s e = nextFrom s e mostBits
 unfoldable pub membersFrom : ℕ → ℕ → ℕ → List ℕ
 membersFrom set e zero = []
 membersFrom set e (suc n) = let later = membersFrom set (suc e) n in cond (hasEvent e set) (e ∷ later) later
+
+-- whether every event of a set is below count: none from there on is in it
+abbrev pub isBelow : ℕ → ℕ → Bool
+isBelow count s = isEmpty (membersFrom s count mostBits)

@@ -5,6 +5,8 @@
 -- more, or none (`eventSet-more`). A set and an event has that event (`hasEvent-with`) and no other more (`hasEvent-with-other`), and needs no bits beyond both
 -- (`withEvent-fits`); it is the bits of both (`withEvent-or`).
 -- The count is the count of ones (`eventCount-ones`); of `eventSet` it is the count of the places that hold true (`eventCount-set`).
+-- Every event of a set is below count where nothing is left of the set moved down by count (`isBelow-shift`), and where the set is below 2^count
+-- (`isBelow-fits`).
 -- The next event from e on is the trailing zeros of the set moved down by e (`nextFrom-zeros`). It is not before e (`nextEvent-from`), it is in the set
 -- (`nextEvent-has`), and none from e on to it is (`nextEvent-least`). So a walk that does nothing at an event outside the set can go on at the next event
 -- (`nextEvent-skips`): a loop `let mut e = set.next(first); while e < count { ..; e = set.next(e + 1); }` does what a walk over every event does.
@@ -24,8 +26,9 @@ use lib.Bits.{bitOr, or-step, or-zero-r, or-lt}
 use lib.Count.{ones, ones-step, trailingZeros, under}
 use lib.Dec.{eqb, leb, ltb}
 use lib.ListN.{length, getD}
-use lib.Pow.{pow-lt, pow-mono}
+use lib.Pow.{pow-lt, pow-mono, shr-lt}
 use borrow.Author.Tests.{eqb-true, eqb-false, eq-eqb, ne-eqb, leb-true, leb-false, ltb-true, ltb-false}
+use Rattle.text.specs.Numbers.{isEmpty}
 use Rattle.events.specs.Bits.{
   hasEvent,
   eventSet,
@@ -35,6 +38,7 @@ use Rattle.events.specs.Bits.{
   mostBits,
   countFrom,
   eventCount,
+  isBelow,
   nextFrom,
   nextEvent,
   membersFrom,
@@ -204,6 +208,63 @@ ones-set (b ∷ bs) =
 
 pub eventCount-set : (bs : List Bool) → length bs ≤ mostBits → eventCount (eventSet bs) ≡ countTrue bs
 eventCount-set bs h = eventCount-ones (eventSet bs) (omega (arith, eventSet-fits bs, pow-mono h)) ∙ ones-set bs
+
+-- ---- below a count
+
+-- whether some event from e on is in a set is asked of the set moved down
+none-suc : (s e n : ℕ) → isEmpty (membersFrom s (suc e) n) ≡ isEmpty (membersFrom (s / 2) e n)
+unfolding membersFrom hasEvent
+none-suc s e zero = refl
+none-suc s e (suc n) = of (hasEvent e (s / 2)) (none-suc s (suc e) n)
+  where
+    of : (b : Bool) → isEmpty (membersFrom s (suc (suc e)) n) ≡ isEmpty (membersFrom (s / 2) (suc e) n)
+        → isEmpty (cond b (suc e ∷ membersFrom s (suc (suc e)) n) (membersFrom s (suc (suc e)) n))
+        ≡ isEmpty (cond b (e ∷ membersFrom (s / 2) (suc e) n) (membersFrom (s / 2) (suc e) n))
+    of true h = refl
+    of false h = h
+
+none-shift : (s e n : ℕ) → isEmpty (membersFrom s e n) ≡ isEmpty (membersFrom (s / 2 ^ e) 0 n)
+none-shift s zero n = rw (div-one)
+none-shift s (suc e) n = none-suc s e n ∙ none-shift (s / 2) e n ∙ ap (λ (x : ℕ). isEmpty (membersFrom x 0 n)) (shift-suc s e)
+
+none-past : (s k e n : ℕ) → s < 2 ^ k → k ≤ e → membersFrom s e n ≡ []
+unfolding membersFrom
+none-past s k e zero h l = refl
+none-past s k e (suc n) h l = rw (hasEvent-past k e s h l) (none-past s k (suc e) n h (omega arith))
+
+none-zero : (n s : ℕ) → s < 2 ^ n → isEmpty (membersFrom s 0 n) ≡ true → s ≡ 0
+unfolding membersFrom
+none-zero zero s h e = omega arith
+none-zero (suc n) s h e = of (hasEvent 0 s) refl (λ f. none-zero n (s / 2) (omega arith) (sym (none-suc s 0 n) ∙ f)) e
+  where
+    of : (b : Bool) → hasEvent 0 s ≡ b → (isEmpty (membersFrom s 1 n) ≡ true → s / 2 ≡ 0)
+        → isEmpty (cond b (0 ∷ membersFrom s 1 n) (membersFrom s 1 n)) ≡ true → s ≡ 0
+    of true d half f = absurd (true≢false (sym f))
+    of false d half f =
+        let digit : s % 2 ≡ 0 = hasEvent-digit s ∙ ap (λ (b : Bool). cond b 1 0) d in
+        let rest = half f in
+        omega arith
+
+pub isBelow-fits : (count s : ℕ) → s < 2 ^ count → isBelow count s ≡ true
+isBelow-fits count s h = ap isEmpty (none-past s count count mostBits h (omega arith))
+
+pub isBelow-shift : (count s : ℕ) → s < 2 ^ mostBits → isBelow count s ≡ eqb (s / 2 ^ count) 0
+isBelow-shift count s h = none-shift s count mostBits ∙ of (isEmpty (membersFrom (s / 2 ^ count) 0 mostBits)) refl
+  where
+    more : mostBits ≤ mostBits + count
+    more = omega arith
+
+    below : s / 2 ^ count < 2 ^ mostBits
+    below = shr-lt mostBits count (omega (arith, h, pow-mono more))
+
+    of : (b : Bool) → isEmpty (membersFrom (s / 2 ^ count) 0 mostBits) ≡ b → b ≡ eqb (s / 2 ^ count) 0
+    of true e = sym (eq-eqb _ 0 (none-zero mostBits (s / 2 ^ count) below e))
+    of false e =
+        sym
+        (ne-eqb _ 0
+        (λ z.
+        true≢false
+        (sym (ap isEmpty (none-past 0 0 0 mostBits (omega arith) (omega arith))) ∙ ap (λ (x : ℕ). isEmpty (membersFrom x 0 mostBits)) (sym z) ∙ e)))
 
 -- ---- the next event
 

@@ -6,7 +6,7 @@ use mathlib.Core.Bool.{Bool}
 use mathlib.Core.List.{[]}
 use Rattle.text.specs.Unique.{only}
 use Rattle.events.specs.declared.Events.{Events}
-use Rattle.events.specs.Bits.{hasEvent, eventSet, withEvent, withIf, withFirst, eventCount, nextEvent}
+use Rattle.events.specs.Bits.{hasEvent, eventSet, withEvent, withIf, withFirst, eventCount, isBelow, nextEvent}
 
 events-unique : {r q : Events} {n : ℕ} → r .0 ≡ n → q .0 ≡ n → r ≡ q
 events-unique d e = ap (λ (n : ℕ). record { 0 = n }) (only d e)
@@ -28,6 +28,9 @@ with-first-unique on s = events-unique
 
 pub count-unique : (s : Events) {r q : ℕ} → r ≡ eventCount (s .0) → q ≡ eventCount (s .0) → r ≡ q
 count-unique s = only
+
+pub is-below-unique : (s : Events) (count : ℕ) {r q : Bool} → r ≡ isBelow count (s .0) → q ≡ isBelow count (s .0) → r ≡ q
+is-below-unique s count = only
 
 pub next-unique : (s : Events) (e : ℕ) {r q : ℕ} → r ≡ nextEvent (s .0) e → q ≡ nextEvent (s .0) e → r ≡ q
 next-unique s e = only

@@ -5,7 +5,7 @@ use crate::MOST_BITS;
 ghost use mathlib.Core.Path.{_≡_};
 ghost use mathlib.Core.List.{[]};
 ghost use Prim.Native.Nat.{_<_};
-ghost use Rattle.events.specs.Bits.{hasEvent, eventSet, withEvent, withIf, mostBits, HasRoom, withFirst, eventCount, nextEvent};
+ghost use Rattle.events.specs.Bits.{hasEvent, eventSet, withEvent, withIf, mostBits, HasRoom, withFirst, eventCount, isBelow, nextEvent};
 
 impl Events {
     // The set of no events.
@@ -66,6 +66,18 @@ impl Events {
     {
         let s = self.0;
         u64::count_ones(s)
+    }
+
+    // Whether every event of the set is below count.
+    pub fn is_below(self, count: usize) -> bool
+        ensures { λ r. ⌜ r ≡ isBelow count (self .0) ⌝ }
+    {
+        let s = self.0;
+        if count < MOST_BITS {
+            let rest = s >> count;
+            return rest == 0;
+        }
+        true
     }
 
     // The first event of the set from event e on; e + MOST_BITS, where there is none.
