@@ -1,9 +1,9 @@
--- What an answer tells of its step. An offer is for the job that the run waits for, in a window of the plan (`opening-opens`); a start that is answered was
--- on offer and at a time (`answer-started`); a finish that is answered is the step's, of the job that runs, inside its times (`answer-final`). Of the
+-- What follows from an answer for its step. An offer is for the job that the run waits for, in a window of the plan (`opening-opens`); a start that is answered
+-- was on offer and at a time (`answer-started`); a finish that is answered is the step's, of the job that runs, inside its times (`answer-final`). Of the
 -- refusals only the opening gives 11 (`answer-empty`). And the other way: while an opening is open, an ask is answered by its offer and a start is taken
 -- exactly if it is on offer (`ask-offered`, `start-taken`, `start-refused`, `start-auto`); a finish is final exactly inside its times (`finish-inside`,
 -- `finish-outside`).
-use Prim.Native.Nat.{ℕ, _+_, _-_, _≤_, _<_}
+use Prim.Native.Nat.{ℕ, _+_, _-_, _≤_}
 use mathlib.Core.Path.{_≡_, refl, sym, ap, subst, _∙_}
 use mathlib.Core.Bool.{Bool, true, false, cond, _&&_}
 use mathlib.Core.List.{List}
@@ -31,11 +31,10 @@ use Rattle.runs.specs.declared.Choice.{Choice}
 use Rattle.runs.specs.declared.Choice.the-variants.{At, Auto}
 use Rattle.runs.specs.declared.Step.{Step}
 use Rattle.runs.specs.declared.Step.the-variants.{Ask, Start, Finish}
-use Rattle.runs.specs.declared.Answer.{Answer}
 use Rattle.runs.specs.declared.Answer.the-variants.{Offered, Started, Final, Refused}
 use Rattle.runs.specs.ValueLimits.{isTime}
 use Rattle.runs.specs.Offers.{offerAt, opened, openingAt}
-use Rattle.runs.specs.Steps.{asked, startedBy, started, finishedSince, finished, answerAt, isStep}
+use Rattle.runs.specs.Steps.{asked, started, finished, answerAt, isStep}
 
 -- ---- between two ends
 
@@ -92,7 +91,7 @@ module _ (d : Turn) (cs ds : List ℤ) (r : Run) where
   window-opens j i o k l true e x = clash (cc)
   window-opens j i o k l false e x = opened-opens j i o k l (offerAt d cs ds r k l) (ltb-false (d .last) k e) refl _ refl x
 
-  pub opening-opens : (j i : ℕ) (o : Offer) (f : Phase) → openingAt d cs ds r f ≡ Open j i o → Opens j i o f
+  opening-opens : (j i : ℕ) (o : Offer) (f : Phase) → openingAt d cs ds r f ≡ Open j i o → Opens j i o f
   unfolding openingAt
   opening-opens j i o (Waiting k l) x = window-opens j i o k l (ltb (d .last) k) refl x
   opening-opens j i o (Running k l t) x = clash (cc)

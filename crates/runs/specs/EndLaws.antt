@@ -1,20 +1,16 @@
 -- The two ends of an offer as the code makes them: a term is what it reads (`term-read`, `picked-read`), and two ends are the offer (`offerAt-made`).
-use Prim.Native.Nat.{ℕ, zero, suc, _+_, _*_, _-_, _≤_, _<_}
-use mathlib.Core.Path.{_≡_, refl, sym, ap, ap₂, _∙_}
-use mathlib.Core.Bool.{Bool, true, false, cond}
+use Prim.Native.Nat.{ℕ, _+_, _*_, _-_}
+use mathlib.Core.Path.{_≡_, ap, ap₂, _∙_}
+use mathlib.Core.Bool.{Bool, true, false}
 use mathlib.Core.List.{List}
-use native.Mathlib.Numerals.{add-one}
-use native.Mathlib.Omega.{arith}
-use lib.Dec.{leb}
 use lib.IntN.{ℤ, pos, _+ℤ_}
 use lib.ListN.{getD}
-use borrow.Author.Tests.{leb-true, leb-false}
 use mir.Syntax.{w32}
 use mir.Val.{SFits, toZ, ofZ}
 use mir.Facts.{toZ-ofZ}
 use Rattle.clock.specs.declared.RunTime.{RunTime}
 use Rattle.clock.specs.Clock.{onRun, movedBy}
-use Rattle.events.specs.Bits.{membersFrom}
+use Rattle.events.specs.Bits.{bitsOf, membersFrom}
 use Rattle.calendars.specs.Calendars.{eventsAhead, mostEvents}
 use Rattle.runs.specs.declared.Turn.{Turn}
 use Rattle.runs.specs.declared.Run.{Run}
@@ -39,8 +35,8 @@ module _ (seen cs : List ℤ) (row e : ℕ) (t : RunTime) (is : t ≡ timeAt see
 module _ (d : Turn) (cs ds : List ℤ) (r : Run) (j i first count : ℕ) (f : first ≡ firstSeen (d .jobs) (r .before))
     (n : count ≡ eventsAhead (d .jobs) (i - 1)) where
   pub offerAt-made : (early late from to : RunTime) → early ≡ onRun (d .window) j (d .terms .low) → late ≡ onRun (d .window) j (d .terms .high)
-      → from .0 ≡ endOver (pickOf false) (termAt (r .seen) cs ((i - 1) * mostEvents)) (early .0) (membersFrom (d .terms .below .0) first (count - first))
-      → to .0 ≡ endOver (pickOf true) (termAt (r .seen) ds ((i - 1) * mostEvents)) (late .0) (membersFrom (d .terms .above .0) first (count - first))
+      → from .0 ≡ endOver (pickOf false) (termAt (r .seen) cs ((i - 1) * mostEvents)) (early .0) (membersFrom (bitsOf (d .terms .below)) first (count - first))
+      → to .0 ≡ endOver (pickOf true) (termAt (r .seen) ds ((i - 1) * mostEvents)) (late .0) (membersFrom (bitsOf (d .terms .above)) first (count - first))
       → _≡_ {A = Offer} (record { from = from; to = to }) (offerAt d cs ds r j i)
   unfolding lowerTerms upperTerms greatest least
   offerAt-made early late from to e l x y =

@@ -1,6 +1,6 @@
 -- The ranges in which nothing that a step adds up wraps and every place that it looks at is one: of a plan, a calendar and a run inside their limits
 -- (`Inside`), and of what is read off them.
-use Prim.Native.Nat.{ℕ, _+_, _*_, _-_, _≤_, _<_}
+use Prim.Native.Nat.{ℕ, _*_, _-_, _≤_, _<_}
 use mathlib.Core.Path.{_≡_}
 use mathlib.Core.Bool.{true, _&&_}
 use mathlib.Core.List.{List}
@@ -14,10 +14,10 @@ use Rattle.clock.specs.Spans.{Spanned, Near}
 use Rattle.plan.specs.declared.Job.{Job}
 use Rattle.plan.specs.declared.Plan.{Plan}
 use Rattle.lines.specs.declared.Refusal.{Refusal}
-use Rattle.plan.specs.Limits.{mostJobs}
+use Rattle.plan.specs.Limits.{mostJobs, mostWindows}
 use Rattle.plan.specs.Accepted.{Accepted}
 use Rattle.calendars.specs.declared.Calendar.{Calendar}
-use Rattle.events.specs.Bits.{hasEvent}
+use Rattle.events.specs.Bits.{bitsOf, hasEvent}
 use Rattle.calendars.specs.Calendars.{eventsAhead, mostEvents}
 use Rattle.runs.specs.declared.Before.{Before}
 use Rattle.runs.specs.declared.Turn.{Turn}
@@ -69,8 +69,8 @@ pub record OfferInside (d : Turn) (cs ds : List ℤ) (r : Run) (j i : ℕ) : Typ
   pub jobs-most : d .jobs ≤ mostJobs
   pub job-least : 1 ≤ i
   pub job-most : i ≤ d .jobs
-  pub lower : TermsFit (r .seen) (d .terms .below .0) cs ((i - 1) * mostEvents) (firstSeen (d .jobs) (r .before)) (eventsAhead (d .jobs) (i - 1))
-  pub upper : TermsFit (r .seen) (d .terms .above .0) ds ((i - 1) * mostEvents) (firstSeen (d .jobs) (r .before)) (eventsAhead (d .jobs) (i - 1))
+  pub lower : TermsFit (r .seen) (bitsOf (d .terms .below)) cs ((i - 1) * mostEvents) (firstSeen (d .jobs) (r .before)) (eventsAhead (d .jobs) (i - 1))
+  pub upper : TermsFit (r .seen) (bitsOf (d .terms .above)) ds ((i - 1) * mostEvents) (firstSeen (d .jobs) (r .before)) (eventsAhead (d .jobs) (i - 1))
 
 -- of the finish of a job that runs since t
 pub record FinishInside (job : Job) (t : RunTime) : Type 0 where
@@ -86,7 +86,7 @@ pub record StepInside (d : Turn) (cs ds : List ℤ) (r : Run) : Type 0 where
 
 -- of a move of job i in window j
 pub record TurnInside (jobs j i : ℕ) : Type 0 where
-  pub window-most : j ≤ 1000000000
+  pub window-most : j ≤ mostWindows
   pub jobs-most : jobs ≤ mostJobs
   pub job-least : 1 ≤ i
   pub job-most : i ≤ jobs

@@ -1,15 +1,14 @@
 -- Of a plan, a calendar and a run inside their limits nothing that a step adds up wraps (`inside-step`), nor what a move does (`inside-move`), and no job has
 -- a place past the last (`inside-job`).
-use Prim.Native.Nat.{ℕ, zero, suc, _+_, _*_, _-_, _/_, _%_, _^_, _≤_, _<_}
+use Prim.Native.Nat.{ℕ, zero, suc, _+_, _*_, _-_, _≤_, _<_}
 use mathlib.Core.Path.{_≡_, refl, sym, ap, subst, _∙_}
 use mathlib.Core.Logic.{_⊎_, inl, inr, ⊎-elim}
 use mathlib.Core.Bool.{Bool, true, false, not, _&&_}
-use mathlib.Core.List.{List, [], _∷_}
-use native.Mathlib.Nat.{zero-add, add-assoc}
+use mathlib.Core.List.{List}
 use native.Mathlib.Omega.{arith}
-use lib.Dec.{eqb, leb, ltb}
+use lib.Dec.{eqb, leb}
 use lib.IntN.{ℤ, pos, _+ℤ_}
-use lib.ListN.{getD, take}
+use lib.ListN.{getD}
 use lib.Signed.{_≤ℤ_, leZ}
 use borrow.Author.Tests.{not-true, not-false, leb-true, eqb-true, ne-eqb}
 use mir.Syntax.{w64}
@@ -20,11 +19,10 @@ use Rattle.clock.specs.declared.RunTime.{RunTime}
 use Rattle.clock.specs.Spans.{Near}
 use Rattle.plan.specs.declared.Plan.{Plan}
 use Rattle.plan.specs.Limits.{leastC, greatestC, mostJobs}
-use Rattle.bounds.specs.Tables.{anyBelow}
+use Rattle.bounds.specs.BuildLaws.{anyBelow-none}
 use Rattle.calendars.specs.declared.Terms.{Terms}
 use Rattle.calendars.specs.declared.Calendar.{Calendar}
-use Rattle.events.specs.Bits.{hasEvent}
-use Rattle.events.specs.BitsLaws.{hasEvent-shift}
+use Rattle.events.specs.Bits.{bitsOf, hasEvent, isBelow}
 use Rattle.calendars.specs.Calendars.{eventsBefore, mostEvents}
 use Rattle.runs.specs.declared.Turn.{Turn}
 use Rattle.runs.specs.declared.Phase.{Phase}
@@ -32,15 +30,9 @@ use Rattle.runs.specs.declared.Phase.the-variants.{Waiting, Running}
 use Rattle.runs.specs.declared.Run.{Run}
 use Rattle.runs.specs.Seen.{timeAt, firstSeen}
 use Rattle.runs.specs.ValueLimits.{lastTime, isTime, areTimes, isTurn, isPhase, jobOfPhase, isRun, isC, isOut, isSide, areTermsOf, areTerms, isCalendar}
-use Rattle.runs.specs.TestLaws.{here-or-later, and-left, and-right, and-not, or-left, or-neither-left, or-neither-right}
+use Rattle.runs.specs.TestLaws.{here-or-later, and-left, and-right, and-not, or-left}
 use Rattle.runs.specs.Offers.{turnOf}
 use Rattle.runs.specs.Inside.{Inside, TermsFit, OfferInside, FinishInside, StepInside, MoveInside}
-
-anyBelow-no : (n : ℕ) (f : ℕ → Bool) → anyBelow n f ≡ false → (k : ℕ) → k < n → f k ≡ false
-unfolding anyBelow
-anyBelow-no zero f e k h = absurd (omega arith)
-anyBelow-no (suc n) f e zero h = or-neither-left (f 0) _ e
-anyBelow-no (suc n) f e (suc k) h = anyBelow-no n (λ i. f (suc i)) (or-neither-right (f 0) _ e) k (omega arith)
 
 -- ---- what has its times, and a c in range
 
@@ -77,15 +69,15 @@ term-fits t c p q = omega wholes
 record Named (set : ℕ) (cs : List ℤ) (at count : ℕ) : Type 0 where
   near : (k : ℕ) → k < count → hasEvent k set ≡ true → Near (getD cs (at + k) (pos 0))
 
-side-named : (p : Plan) (i set : ℕ) (cs : List ℤ) → isSide p i set cs ≡ true → Named set cs (i * mostEvents) (eventsBefore p i)
+side-named : (p : Plan) (i set : ℕ) (cs : List ℤ) → isSide (p .jobs) i set cs ≡ true → Named set cs (i * mostEvents) (eventsBefore p i)
 unfolding isSide
 side-named p i set cs e =
     record {
       near = λ k l m.
           isC-near _
           (and-not (hasEvent k set) _
-          (anyBelow-no (eventsBefore p i) (λ e. isOut set e (getD cs (i * mostEvents + e) (pos 0)))
-          (not-true _ (and-right (ltb set (2 ^ eventsBefore p i)) _ e)) k l) m);
+          (anyBelow-none (eventsBefore p i) (λ e. isOut set e (getD cs (i * mostEvents + e) (pos 0)))
+          (not-true _ (and-right (isBelow (eventsBefore p i) set) _ e)) k l) m);
     }
 
 terms-fit : (p : Plan) (r : Run) (i set : ℕ) (cs : List ℤ) → Named set cs (i * mostEvents) (eventsBefore p i)
@@ -101,13 +93,13 @@ terms-fit p r i set cs n t =
 -- ---- the run
 
 module _ (p : Plan) (r : Run) (e : isRun p r ≡ true) where
-  pub run-phase : isPhase p (r .phase) ≡ true
+  pub run-phase : isPhase (p .last) (p .jobs) (r .phase) ≡ true
   unfolding isRun
   run-phase = and-left _ _ e
 
   pub run-seen : areTimes (r .seen) (firstSeen (p .jobs) (r .before)) (eventsBefore p (jobOfPhase (r .phase) - 1) - firstSeen (p .jobs) (r .before)) ≡ true
   unfolding isRun
-  run-seen = and-right (isPhase p (r .phase)) _ e
+  run-seen = and-right (isPhase (p .last) (p .jobs) (r .phase)) _ e
 
 pub record OnTurn (p : Plan) (j i : ℕ) : Type 0 where
   pub window-least : 1 ≤ j
@@ -115,7 +107,7 @@ pub record OnTurn (p : Plan) (j i : ℕ) : Type 0 where
   pub job-least : 1 ≤ i
   pub job-most : i ≤ p .jobs
 
-turn-of : (p : Plan) (j i : ℕ) → isTurn p j i ≡ true → OnTurn p j i
+turn-of : (p : Plan) (j i : ℕ) → isTurn (p .last) (p .jobs) j i ≡ true → OnTurn p j i
 turn-of p j i e =
     let windows = and-left (leb 1 j && leb j (p .last)) _ e in
     let jobs = and-right (leb 1 j && leb j (p .last)) _ e in
@@ -126,27 +118,28 @@ turn-of p j i e =
       job-most = leb-true i (p .jobs) (and-right (leb 1 i) _ jobs);
     }
 
-pub waiting-turn : (p : Plan) (f : Phase) (j i : ℕ) → isPhase p f ≡ true → f ≡ Waiting j i → j ≤ p .last → OnTurn p j i
+pub waiting-turn : (p : Plan) (f : Phase) (j i : ℕ) → isPhase (p .last) (p .jobs) f ≡ true → f ≡ Waiting j i → j ≤ p .last → OnTurn p j i
 unfolding isPhase
 waiting-turn p f j i h e l =
-    let w : isPhase p (Waiting j i) ≡ true = ap (isPhase p) (sym e) ∙ h in
-    turn-of p j i (or-left (isTurn p j i) _ w (rw (ne-eqb j (p .last + 1) (λ x. omega arith))))
+    let w : isPhase (p .last) (p .jobs) (Waiting j i) ≡ true = ap (isPhase (p .last) (p .jobs)) (sym e) ∙ h in
+    turn-of p j i (or-left (isTurn (p .last) (p .jobs) j i) _ w (rw (ne-eqb j (p .last + 1) (λ x. omega arith))))
 
-pub running-turn : (p : Plan) (f : Phase) (j i : ℕ) (t : RunTime) → isPhase p f ≡ true → f ≡ Running j i t → OnTurn p j i
+pub running-turn : (p : Plan) (f : Phase) (j i : ℕ) (t : RunTime) → isPhase (p .last) (p .jobs) f ≡ true → f ≡ Running j i t → OnTurn p j i
 unfolding isPhase
 running-turn p f j i t h e =
-    let w : isPhase p (Running j i t) ≡ true = ap (isPhase p) (sym e) ∙ h in turn-of p j i (and-left (isTurn p j i) _ w)
+    let w : isPhase (p .last) (p .jobs) (Running j i t) ≡ true = ap (isPhase (p .last) (p .jobs)) (sym e) ∙ h in
+    turn-of p j i (and-left (isTurn (p .last) (p .jobs) j i) _ w)
 
-pub running-time : (p : Plan) (f : Phase) (j i : ℕ) (t : RunTime) → isPhase p f ≡ true → f ≡ Running j i t → isTime t ≡ true
+pub running-time : (p : Plan) (f : Phase) (j i : ℕ) (t : RunTime) → isPhase (p .last) (p .jobs) f ≡ true → f ≡ Running j i t → isTime t ≡ true
 unfolding isPhase
 running-time p f j i t h e =
-    let w : isPhase p (Running j i t) ≡ true = ap (isPhase p) (sym e) ∙ h in and-right (isTurn p j i) _ w
+    let w : isPhase (p .last) (p .jobs) (Running j i t) ≡ true = ap (isPhase (p .last) (p .jobs)) (sym e) ∙ h in and-right (isTurn (p .last) (p .jobs) j i) _ w
 
 record Since (p : Plan) (j i : ℕ) (t : RunTime) : Type 0 where
   turn : OnTurn p j i
   timed : Timed (t .0)
 
-running-since : (p : Plan) (f : Phase) (j i : ℕ) (t : RunTime) → isPhase p f ≡ true → f ≡ Running j i t → Since p j i t
+running-since : (p : Plan) (f : Phase) (j i : ℕ) (t : RunTime) → isPhase (p .last) (p .jobs) f ≡ true → f ≡ Running j i t → Since p j i t
 running-since p f j i t h e = record { turn = running-turn p f j i t h e; timed = isTime-timed t (running-time p f j i t h e) }
 
 -- ---- the calendar
@@ -154,39 +147,39 @@ running-since p f j i t h e = record { turn = running-turn p f j i t h e; timed 
 record TermsInside (p : Plan) (i : ℕ) (t : Terms) (cs ds : List ℤ) : Type 0 where
   low : Near (t .low .0)
   high : Near (t .high .0)
-  lower : Named (t .below .0) cs (i * mostEvents) (eventsBefore p i)
-  upper : Named (t .above .0) ds (i * mostEvents) (eventsBefore p i)
+  lower : Named (bitsOf (t .below)) cs (i * mostEvents) (eventsBefore p i)
+  upper : Named (bitsOf (t .above)) ds (i * mostEvents) (eventsBefore p i)
 
-terms-inside : (p : Plan) (i : ℕ) (t : Terms) (cs ds : List ℤ) → areTermsOf p i t cs ds ≡ true → TermsInside p i t cs ds
+terms-inside : (p : Plan) (i : ℕ) (t : Terms) (cs ds : List ℤ) → areTermsOf (p .jobs) i t cs ds ≡ true → TermsInside p i t cs ds
 unfolding areTermsOf
 terms-inside p i t cs ds e =
-    let three = and-left (isC (t .low .0) && isC (t .high .0) && isSide p i (t .below .0) cs) _ e in
+    let three = and-left (isC (t .low .0) && isC (t .high .0) && isSide (p .jobs) i (bitsOf (t .below)) cs) _ e in
     let two = and-left (isC (t .low .0) && isC (t .high .0)) _ three in
     record {
       low = isC-near _ (and-left _ _ two);
       high = isC-near _ (and-right (isC (t .low .0)) _ two);
-      lower = side-named p i (t .below .0) cs (and-right (isC (t .low .0) && isC (t .high .0)) _ three);
-      upper = side-named p i (t .above .0) ds (and-right (isC (t .low .0) && isC (t .high .0) && isSide p i (t .below .0) cs) _ e);
+      lower = side-named p i (bitsOf (t .below)) cs (and-right (isC (t .low .0) && isC (t .high .0)) _ three);
+      upper = side-named p i (bitsOf (t .above)) ds (and-right (isC (t .low .0) && isC (t .high .0) && isSide (p .jobs) i (bitsOf (t .below)) cs) _ e);
     }
 
 calendar-terms : (p : Plan) (c : Calendar) → isCalendar p c ≡ true → (i : ℕ) → i < p .jobs → areTerms p c i ≡ true
 unfolding isCalendar
-calendar-terms p c e i h = not-false _ (anyBelow-no (p .jobs) (λ i. not (areTerms p c i)) (not-true _ e) i h)
+calendar-terms p c e i h = not-false _ (anyBelow-none (p .jobs) (λ i. not (areTerms p c i)) (not-true _ e) i h)
 
 -- ---- the phase
 
 -- the job of a phase is one of the plan's, or the first where the run is over
-pub phase-job : (p : Plan) (f : Phase) → isPhase p f ≡ true → (jobOfPhase f ≤ p .jobs) ⊎ (jobOfPhase f ≡ 1)
+phase-job : (p : Plan) (f : Phase) → isPhase (p .last) (p .jobs) f ≡ true → (jobOfPhase f ≤ p .jobs) ⊎ (jobOfPhase f ≡ 1)
 unfolding isPhase
-phase-job p (Waiting j i) e = go (isTurn p j i) refl
+phase-job p (Waiting j i) e = go (isTurn (p .last) (p .jobs) j i) refl
   where
-    go : (b : Bool) → isTurn p j i ≡ b → (i ≤ p .jobs) ⊎ (i ≡ 1)
+    go : (b : Bool) → isTurn (p .last) (p .jobs) j i ≡ b → (i ≤ p .jobs) ⊎ (i ≡ 1)
     go true x = inl (turn-of p j i x .job-most)
     go false x = let over : (eqb j (p .last + 1) && eqb i 1) ≡ true = (rw (x) at e) in inr (eqb-true i 1 (and-right (eqb j (p .last + 1)) _ over))
-phase-job p (Running j i t) e = inl (turn-of p j i (and-left (isTurn p j i) _ e) .job-most)
+phase-job p (Running j i t) e = inl (turn-of p j i (and-left (isTurn (p .last) (p .jobs) j i) _ e) .job-most)
 
 -- no more jobs have finished in the present window than it has
-pub phase-done : (p : Plan) (f : Phase) → isPhase p f ≡ true → jobOfPhase f - 1 ≤ p .jobs
+pub phase-done : (p : Plan) (f : Phase) → isPhase (p .last) (p .jobs) f ≡ true → jobOfPhase f - 1 ≤ p .jobs
 phase-done p f e = ⊎-elim (λ (h : jobOfPhase f ≤ p .jobs). omega arith) (λ (h : jobOfPhase f ≡ 1). omega arith) (phase-job p f e)
 
 -- ---- a step

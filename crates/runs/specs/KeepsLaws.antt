@@ -3,7 +3,6 @@
 -- values, with a plan and a calendar inside theirs (`step-keeps`).
 use Prim.Native.Nat.{ℕ, zero, suc, _+_, _*_, _-_, _≤_, _<_}
 use mathlib.Core.Path.{_≡_, refl, sym, ap, subst}
-use mathlib.Core.Logic.{⊎-elim}
 use mathlib.Core.Bool.{Bool, true, false, cond}
 use mathlib.Core.List.{List, [], _∷_}
 use native.Mathlib.Omega.{arith}
@@ -23,11 +22,9 @@ use Rattle.runs.specs.declared.Phase.{Phase}
 use Rattle.runs.specs.declared.Phase.the-variants.{Waiting, Running}
 use Rattle.runs.specs.declared.Run.{Run}
 use Rattle.runs.specs.declared.Step.{Step}
-use Rattle.runs.specs.declared.Step.the-variants.{Finish}
 use Rattle.runs.specs.TestLaws.{and-true, or-of-true, or-with-true}
 use Rattle.runs.specs.Seen.{timeAt, timePut, firstSeen, jobSeen, frontFrom, toFront}
 use Rattle.runs.specs.ValueLimits.{isTime, areTimes, isTurn, isPhase, jobOfPhase, isRun}
-use Rattle.runs.specs.Offers.{turnOf}
 use Rattle.runs.specs.Steps.{newRun, answerOf, closedSince, closed, moved, stepped, isStep, step}
 use Rattle.runs.specs.Inside.{Inside}
 use Rattle.runs.specs.SeenLaws.{firstSeen-most}
@@ -35,7 +32,7 @@ use Rattle.runs.specs.ValueStepLaws.{step-inside, step-outside}
 use Rattle.runs.specs.InsideLaws.{OnTurn, run-phase, run-seen, areTimes-at, waiting-turn, running-turn, running-time}
 use Rattle.runs.specs.AnswerLaws.{answer-started, answer-final}
 
--- ---- runs put together
+-- ---- a run from its phase and its times
 
 areTimes-all : (seen : List ℤ) (n e : ℕ) → ((k : ℕ) → e ≤ k → k < e + n → isTime (timeAt seen k) ≡ true) → areTimes seen e n ≡ true
 unfolding areTimes
@@ -47,21 +44,21 @@ areTimes-all seen (suc n) e h =
 abbrev SeenTo : Plan → Run → ℕ → Type 0
 SeenTo p r i = (k : ℕ) → firstSeen (p .jobs) (r .before) ≤ k → k < eventsBefore p i → isTime (timeAt (r .seen) k) ≡ true
 
-isRun-of : (p : Plan) (r : Run) → isPhase p (r .phase) ≡ true → SeenTo p r (jobOfPhase (r .phase) - 1) → isRun p r ≡ true
+isRun-of : (p : Plan) (r : Run) → isPhase (p .last) (p .jobs) (r .phase) ≡ true → SeenTo p r (jobOfPhase (r .phase) - 1) → isRun p r ≡ true
 unfolding isRun
 isRun-of p r a h = and-true _ _ a (areTimes-all (r .seen) _ _ (λ k l m. h k l (omega (arith, firstSeen-most (p .jobs) (r .before)))))
 
 run-times : (p : Plan) (r : Run) → isRun p r ≡ true → SeenTo p r (jobOfPhase (r .phase) - 1)
 run-times p r e k l m = areTimes-at (r .seen) _ _ (run-seen p r e) k l (omega (arith, firstSeen-most (p .jobs) (r .before)))
 
-turn-is : (p : Plan) (j i : ℕ) → OnTurn p j i → isTurn p j i ≡ true
-turn-is p j i t =
+isTurn-on : (p : Plan) (j i : ℕ) → OnTurn p j i → isTurn (p .last) (p .jobs) j i ≡ true
+isTurn-on p j i t =
     and-true _ _ (and-true _ _ (le-leb 1 j (t .window-least)) (le-leb j (p .last) (t .window-most)))
     (and-true _ _ (le-leb 1 i (t .job-least)) (le-leb i (p .jobs) (t .job-most)))
 
-waiting-is : (p : Plan) (j i : ℕ) → OnTurn p j i → isPhase p (Waiting j i) ≡ true
+waiting-is : (p : Plan) (j i : ℕ) → OnTurn p j i → isPhase (p .last) (p .jobs) (Waiting j i) ≡ true
 unfolding isPhase
-waiting-is p j i t = or-of-true (isTurn p j i) _ (turn-is p j i t)
+waiting-is p j i t = or-of-true (isTurn (p .last) (p .jobs) j i) _ (isTurn-on p j i t)
 
 -- ---- times that were put
 
@@ -110,17 +107,17 @@ module _ (p : Plan) (r : Run) (e : isRun p r ≡ true) where
       → isRun p (record { phase = Running j i t; before = r .before; seen = r .seen }) ≡ true
   unfolding isPhase
   started-keeps j i t w l h =
-      isRun-of p _ (and-true _ _ (turn-is p j i (waiting-turn p (r .phase) j i (run-phase p r e) w l)) h)
+      isRun-of p _ (and-true _ _ (isTurn-on p j i (waiting-turn p (r .phase) j i (run-phase p r e) w l)) h)
       (subst (λ (f : Phase). SeenTo p r (jobOfPhase f - 1)) w (run-times p r e))
 
   -- the first window past the last is the run's end
-  over-or-next : (j i : ℕ) → OnTurn p j i → 1 ≤ p .jobs → (b : Bool) → leb (j + 1) (p .last) ≡ b → isPhase p (Waiting (j + 1) 1) ≡ true
+  over-or-next : (j i : ℕ) → OnTurn p j i → 1 ≤ p .jobs → (b : Bool) → leb (j + 1) (p .last) ≡ b → isPhase (p .last) (p .jobs) (Waiting (j + 1) 1) ≡ true
   unfolding isPhase
   over-or-next j i t h true x =
       waiting-is p (j + 1) 1
       (record { window-least = omega arith; window-most = leb-true (j + 1) (p .last) x; job-least = omega arith; job-most = h })
   over-or-next j i t h false x =
-      or-with-true (isTurn p (j + 1) 1) _
+      or-with-true (isTurn (p .last) (p .jobs) (j + 1) 1) _
       (and-true _ _ (eq-eqb (j + 1) (p .last + 1) (omega (arith, leb-false (j + 1) (p .last) x, t .window-most))) (eq-eqb 1 1 refl))
 
   module _ (j i : ℕ) (s t : RunTime) (runs : r .phase ≡ Running j i s) (h : isTime t ≡ true) where

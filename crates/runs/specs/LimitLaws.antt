@@ -1,18 +1,16 @@
 -- The limits as the code looks at them, one place after the other: the times that were seen (`areTimes-more`), the phase and the run by their tests, and
 -- whether something is wrong from one place on (`anyFrom`), which is how a side and a calendar are walked (`isSide-walk`, `isCalendar-walk`).
-use Prim.Native.Nat.{ℕ, zero, suc, _+_, _*_, _-_, _/_, _^_, _≤_, _<_}
+use Prim.Native.Nat.{ℕ, zero, suc, _+_, _*_, _-_, _≤_, _<_}
 use mathlib.Core.Path.{_≡_, refl, sym, ap, ap₂, _∙_}
 use mathlib.Core.Bool.{Bool, true, false, not, _&&_, _||_}
 use mathlib.Core.List.{List}
-use native.Mathlib.Nat.{div-eq-of-lt, le-div-iff-mul-le, add-zero, add-suc, suc-add, zero-add}
+use native.Mathlib.Nat.{add-zero, add-suc, suc-add, zero-add}
 use native.Mathlib.Numerals.{add-one}
 use native.Mathlib.Omega.{arith}
-use lib.Dec.{eqb, leb}
+use lib.Dec.{eqb}
 use lib.IntN.{ℤ, pos}
 use lib.ListN.{getD}
-use lib.Pow.{pow-pos}
 use lib.Signed.{_≤ℤ_, leZ}
-use borrow.Author.Tests.{lt-ltb, le-ltb, leb-true, leb-false}
 use Rattle.whole.specs.Rules.{whole}
 use Rattle.clock.specs.declared.RunTime.{RunTime}
 use Rattle.bounds.specs.Tables.{anyBelow}
@@ -20,7 +18,8 @@ use Rattle.plan.specs.declared.Plan.{Plan}
 use Rattle.plan.specs.Limits.{leastC, greatestC}
 use Rattle.calendars.specs.declared.Terms.{Terms}
 use Rattle.calendars.specs.declared.Calendar.{Calendar}
-use Rattle.calendars.specs.Calendars.{eventsBefore, mostEvents, noTerms}
+use Rattle.events.specs.Bits.{bitsOf, isBelow}
+use Rattle.calendars.specs.Calendars.{eventsAhead, eventsBefore, mostEvents, noTerms}
 use Rattle.runs.specs.declared.Phase.{Phase}
 use Rattle.runs.specs.declared.Phase.the-variants.{Waiting, Running}
 use Rattle.runs.specs.declared.Run.{Run}
@@ -41,31 +40,31 @@ module _ (seen : List ℤ) (e count : ℕ) where
 
 -- ---- the phase
 
-module _ (p : Plan) (f : Phase) (j i : ℕ) where
-  pub isPhase-turn : f ≡ Waiting j i → isTurn p j i ≡ true → isPhase p f ≡ true
+module _ (last jobs : ℕ) (f : Phase) (j i : ℕ) where
+  pub isPhase-turn : f ≡ Waiting j i → isTurn last jobs j i ≡ true → isPhase last jobs f ≡ true
   unfolding isPhase
-  isPhase-turn e h = rw (e) (or-of-true (isTurn p j i) _ h)
+  isPhase-turn e h = rw (e) (or-of-true (isTurn last jobs j i) _ h)
 
-  pub isPhase-over : f ≡ Waiting j i → isTurn p j i ≡ false → isPhase p f ≡ (eqb j (p .last + 1) && eqb i 1)
+  pub isPhase-over : f ≡ Waiting j i → isTurn last jobs j i ≡ false → isPhase last jobs f ≡ (eqb j (last + 1) && eqb i 1)
   unfolding isPhase
-  isPhase-over e h = rw (e) (or-of-false (isTurn p j i) _ h)
+  isPhase-over e h = rw (e) (or-of-false (isTurn last jobs j i) _ h)
 
-  pub isPhase-running : (t : RunTime) → f ≡ Running j i t → isTurn p j i ≡ true → isPhase p f ≡ isTime t
+  pub isPhase-running : (t : RunTime) → f ≡ Running j i t → isTurn last jobs j i ≡ true → isPhase last jobs f ≡ isTime t
   unfolding isPhase
-  isPhase-running t e h = rw (e) (and-of-true (isTurn p j i) _ h)
+  isPhase-running t e h = rw (e) (and-of-true (isTurn last jobs j i) _ h)
 
-  pub isPhase-never : (t : RunTime) → f ≡ Running j i t → isTurn p j i ≡ false → isPhase p f ≡ false
+  pub isPhase-never : (t : RunTime) → f ≡ Running j i t → isTurn last jobs j i ≡ false → isPhase last jobs f ≡ false
   unfolding isPhase
-  isPhase-never t e h = rw (e) (and-of-false (isTurn p j i) _ h)
+  isPhase-never t e h = rw (e) (and-of-false (isTurn last jobs j i) _ h)
 
 -- ---- the run
 
 module _ (p : Plan) (r : Run) where
-  pub isRun-phase : isPhase p (r .phase) ≡ false → isRun p r ≡ false
+  pub isRun-phase : isPhase (p .last) (p .jobs) (r .phase) ≡ false → isRun p r ≡ false
   unfolding isRun
   isRun-phase h = rw (h)
 
-  pub isRun-seen : isPhase p (r .phase) ≡ true → (first count : ℕ) → first ≡ firstSeen (p .jobs) (r .before)
+  pub isRun-seen : isPhase (p .last) (p .jobs) (r .phase) ≡ true → (first count : ℕ) → first ≡ firstSeen (p .jobs) (r .before)
       → count ≡ eventsBefore p (jobOfPhase (r .phase) - 1) → isRun p r ≡ areTimes (r .seen) first (count - first)
   unfolding isRun
   isRun-seen h first count e f = rw (h, e, f)
@@ -109,59 +108,44 @@ module _ (f : ℕ → Bool) where
 pub isC-in : (c : ℤ) → leastC ≤ℤ c → c ≤ℤ greatestC → isC c ≡ true
 isC-in c g h = let l : leZ leastC c ≡ true = omega whole in let k : leZ c greatestC ≡ true = omega whole in rw (l, k)
 
--- a set that has a bit past so many events
-pub shift-some : (set count : ℕ) → (set / 2 ^ count ≡ 0 → ⊥) → 2 ^ count ≤ set
-shift-some set count h = go (leb (2 ^ count) set) refl
-  where
-    go : (b : Bool) → leb (2 ^ count) set ≡ b → 2 ^ count ≤ set
-    go true e = leb-true (2 ^ count) set e
-    go false e = absurd (h (div-eq-of-lt (leb-false (2 ^ count) set e)))
-
-pub shift-none : (set count : ℕ) → set / 2 ^ count ≡ 0 → set < 2 ^ count
-shift-none set count h = go (leb (2 ^ count) set) refl
-  where
-    go : (b : Bool) → leb (2 ^ count) set ≡ b → set < 2 ^ count
-    go true e = let p : 1 ≤ set / 2 ^ count = le-div-iff-mul-le (pow-pos count) .1 (omega (arith, leb-true (2 ^ count) set e)) in absurd (omega arith)
-    go false e = leb-false (2 ^ count) set e
-
 -- whether something is wrong with event e
 abbrev pub outAt : ℕ → ℕ → List ℤ → ℕ → Bool
 outAt i set cs e = isOut set e (getD cs (i * mostEvents + e) (pos 0))
 
-module _ (p : Plan) (i set : ℕ) (cs : List ℤ) where
-  pub isSide-past : 2 ^ eventsBefore p i ≤ set → isSide p i set cs ≡ false
+module _ (jobs i set : ℕ) (cs : List ℤ) where
+  pub isSide-past : isBelow (eventsAhead jobs i) set ≡ false → isSide jobs i set cs ≡ false
   unfolding isSide
-  isSide-past h = rw (le-ltb set (2 ^ eventsBefore p i) h)
+  isSide-past h = rw h
 
-  pub isSide-walk : set < 2 ^ eventsBefore p i → (b : Bool) → anyFrom (outAt i set cs) 0 (eventsBefore p i) ≡ b → isSide p i set cs ≡ not b
+  pub isSide-walk : isBelow (eventsAhead jobs i) set ≡ true → (b : Bool) → anyFrom (outAt i set cs) 0 (eventsAhead jobs i) ≡ b → isSide jobs i set cs ≡ not b
   unfolding isSide
-  isSide-walk h b e = rw (lt-ltb set (2 ^ eventsBefore p i) h, anyFrom-is (outAt i set cs) (eventsBefore p i) ∙ e)
+  isSide-walk h b e = rw (h, anyFrom-is (outAt i set cs) (eventsAhead jobs i) ∙ e)
 
 -- ---- the calendar
 
-module _ (p : Plan) (i : ℕ) (t : Terms) (cs ds : List ℤ) where
-  pub areTermsOf-low : isC (t .low .0) ≡ false → areTermsOf p i t cs ds ≡ false
+module _ (jobs i : ℕ) (t : Terms) (cs ds : List ℤ) where
+  pub areTermsOf-low : isC (t .low .0) ≡ false → areTermsOf jobs i t cs ds ≡ false
   unfolding areTermsOf
   areTermsOf-low a = rw (a)
 
-  pub areTermsOf-high : isC (t .low .0) ≡ true → isC (t .high .0) ≡ false → areTermsOf p i t cs ds ≡ false
+  pub areTermsOf-high : isC (t .low .0) ≡ true → isC (t .high .0) ≡ false → areTermsOf jobs i t cs ds ≡ false
   unfolding areTermsOf
   areTermsOf-high a b = rw (a, b)
 
-  pub areTermsOf-below : isC (t .low .0) ≡ true → isC (t .high .0) ≡ true → isSide p i (t .below .0) cs ≡ false → areTermsOf p i t cs ds ≡ false
+  pub areTermsOf-below : isC (t .low .0) ≡ true → isC (t .high .0) ≡ true → isSide jobs i (bitsOf (t .below)) cs ≡ false → areTermsOf jobs i t cs ds ≡ false
   unfolding areTermsOf
   areTermsOf-below a b k = rw (a, b, k)
 
-  pub areTermsOf-above : isC (t .low .0) ≡ true → isC (t .high .0) ≡ true → isSide p i (t .below .0) cs ≡ true
-      → areTermsOf p i t cs ds ≡ isSide p i (t .above .0) ds
+  pub areTermsOf-above : isC (t .low .0) ≡ true → isC (t .high .0) ≡ true → isSide jobs i (bitsOf (t .below)) cs ≡ true
+      → areTermsOf jobs i t cs ds ≡ isSide jobs i (bitsOf (t .above)) ds
   unfolding areTermsOf
   areTermsOf-above a b k = rw (a, b, k)
 
--- whether the terms of job i are outside the limits
-abbrev pub termsOut : Plan → List Terms → List ℤ → List ℤ → ℕ → Bool
-termsOut p ts cs ds i = not (areTermsOf p i (getD ts i noTerms) cs ds)
+-- whether the terms of the job at place i are outside the limits
+abbrev pub termsOut : ℕ → List Terms → List ℤ → List ℤ → ℕ → Bool
+termsOut jobs ts cs ds i = not (areTermsOf jobs i (getD ts i noTerms) cs ds)
 
-pub isCalendar-walk : (p : Plan) (c : Calendar) (b : Bool) → anyFrom (termsOut p (c .terms) (c .«at_least») (c .«at_most»)) 0 (p .jobs) ≡ b
+pub isCalendar-walk : (p : Plan) (c : Calendar) (b : Bool) → anyFrom (termsOut (p .jobs) (c .terms) (c .«at_least») (c .«at_most»)) 0 (p .jobs) ≡ b
     → isCalendar p c ≡ not b
 unfolding isCalendar
-isCalendar-walk p c b e = rw (anyFrom-is (termsOut p (c .terms) (c .«at_least») (c .«at_most»)) (p .jobs) ∙ e)
+isCalendar-walk p c b e = rw (anyFrom-is (termsOut (p .jobs) (c .terms) (c .«at_least») (c .«at_most»)) (p .jobs) ∙ e)

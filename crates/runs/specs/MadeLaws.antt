@@ -1,12 +1,12 @@
 -- The calendar of a settled plan is inside its limits (`made-inside`). The settled set is fit (`settled-fit`), and so are the tables just before the starts
--- (`beforeStarts-fit`): their weights lie within 259,200,000 (`weight-in`), and so low, high and every c are in the range of a bound's c. Places that no job
--- fills hold zeros, and a set names only events before its start (`calendarOf-inside`).
-use Prim.Native.Nat.{ℕ, zero, suc, _+_, _*_, _-_, _^_, _≤_, _<_}
+-- (`beforeStarts-fit`): no weight is beyond the latest deadline and the longest running time together (`weight-in`), and so low, high and every c are in the
+-- range of a bound's c. Places that no job fills hold zeros, and a set names only events before its start (`calendarOf-inside`).
+use Prim.Native.Nat.{ℕ, zero, suc, _+_, _*_, _-_, _≤_, _<_}
 use mathlib.Core.Path.{_≡_, refl, sym, ap, subst, _∙_}
 use mathlib.Core.Bool.{Bool, true, false, not, cond, _&&_}
 use mathlib.Core.List.{List, [], _∷_, _++_}
 use native.Mathlib.Omega.{arith}
-use lib.IntN.{ℤ, pos, negℤ, _-ℤ_}
+use lib.IntN.{ℤ, pos, negℤ, _+ℤ_, _-ℤ_}
 use lib.ListN.{length, getD, replicate, length-append}
 use lib.Pow.{pow-pos}
 use lib.Signed.{_≤ℤ_}
@@ -14,7 +14,7 @@ use Rattle.whole.specs.Clash.{clash}
 use Rattle.whole.specs.Rules.{wholes}
 use Rattle.whole.specs.SplitLaws.{split-neg, split-sub}
 use Rattle.plan.specs.declared.Plan.{Plan}
-use Rattle.plan.specs.Limits.{mostJobs}
+use Rattle.plan.specs.Limits.{mostJobs, longestRunning, latestDeadline}
 use Rattle.plan.specs.PlanLines.{filled}
 use Rattle.plan.specs.Accepted.{Accepted}
 use Rattle.bounds.specs.Events.{startNode, finishNode, nodes}
@@ -26,7 +26,8 @@ use Rattle.bounds.specs.FitLaws.{least-weight, most-weight, withoutFinish-fit, 
 use Rattle.rounds.specs.Rounds.{C0, joined, round, sameRows, Outcome, settled, decided, roundsFrom, outcomeFrom, outcome}
 use Rattle.rounds.specs.CarriedLaws.{C0-fit, joined-fit, eliminated-fit}
 use Rattle.calendars.specs.declared.Terms.{Terms}
-use Rattle.events.specs.Bits.{hasEvent}
+use Rattle.events.specs.Bits.{bitsOf, hasEvent, isBelow}
+use Rattle.events.specs.BitsLaws.{isBelow-fits}
 use Rattle.bounds.specs.BuildLaws.{eventSet-listed-fits}
 use Rattle.calendars.specs.Calendars.{
   thenTables,
@@ -190,16 +191,18 @@ getD-filled n (suc k) (x ∷ xs) d = getD-filled n k xs d
 record TermsIn (p : Plan) (i : ℕ) (x : Terms) : Type 0 where
   low : isC (x .low .0) ≡ true
   high : isC (x .high .0) ≡ true
-  below : x .below .0 < 2 ^ eventsBefore p i
-  above : x .above .0 < 2 ^ eventsBefore p i
+  below : isBelow (eventsBefore p i) (bitsOf (x .below)) ≡ true
+  above : isBelow (eventsBefore p i) (bitsOf (x .above)) ≡ true
 
 noTerms-in : (p : Plan) (i : ℕ) → TermsIn p i noTerms
-noTerms-in p i = record { low = zero-c; high = zero-c; below = pow-pos (eventsBefore p i); above = pow-pos (eventsBefore p i) }
+noTerms-in p i =
+    let none = isBelow-fits (eventsBefore p i) 0 (pow-pos (eventsBefore p i)) in
+    record { low = zero-c; high = zero-c; below = none; above = none }
 
 -- a weight of a fit table, or the 0 of no bound
 record WeightIn (w : ℤ) : Type 0 where
-  least : negℤ (pos 259200000) ≤ℤ w
-  greatest : w ≤ℤ pos 259200000
+  least : negℤ (latestDeadline +ℤ longestRunning) ≤ℤ w
+  greatest : w ≤ℤ (latestDeadline +ℤ longestRunning)
 
 weight-c : (w : ℤ) → WeightIn w → isC w ≡ true
 weight-c w h = let l = h .least in let g = h .greatest in isC-in w (omega wholes) (omega wholes)
@@ -245,8 +248,8 @@ module _ (p : Plan) (a : Accepted p) where
         record {
           low = low-c _ (cell-in s 0 (omega arith) (omega arith));
           high = high-c _ (cell-in 0 s (omega arith) (omega arith));
-          below = eventSet-listed-fits (eventsBefore p i) _;
-          above = eventSet-listed-fits (eventsBefore p i) _;
+          below = isBelow-fits (eventsBefore p i) _ (eventSet-listed-fits (eventsBefore p i) _);
+          above = isBelow-fits (eventsBefore p i) _ (eventSet-listed-fits (eventsBefore p i) _);
         }
 
     leastCs-in : EachC (leastCs p i t)
@@ -279,15 +282,15 @@ module _ (p : Plan) (a : Accepted p) where
   never-out true c e = ap not e
   never-out false c e = refl
 
-  side-in : (i set : ℕ) (cs : List ℤ) → set < 2 ^ eventsBefore p i → EachC cs → isSide p i set cs ≡ true
+  side-in : (i set : ℕ) (cs : List ℤ) → isBelow (eventsBefore p i) set ≡ true → EachC cs → isSide (p .jobs) i set cs ≡ true
   side-in i set cs h each =
-      isSide-walk p i set cs h false
+      isSide-walk (p .jobs) i set cs h false
       (sym (anyFrom-is (outAt i set cs) (eventsBefore p i)) ∙ anyBelow-no (eventsBefore p i) (outAt i set cs)
       (λ e l. never-out (hasEvent e set) (isC (getD cs (i * mostEvents + e) (pos 0))) (each (i * mostEvents + e))))
 
-  terms-in : (i : ℕ) (x : Terms) (cs ds : List ℤ) → TermsIn p i x → EachC cs → EachC ds → areTermsOf p i x cs ds ≡ true
+  terms-in : (i : ℕ) (x : Terms) (cs ds : List ℤ) → TermsIn p i x → EachC cs → EachC ds → areTermsOf (p .jobs) i x cs ds ≡ true
   terms-in i x cs ds h c d =
-      areTermsOf-above p i x cs ds (h .low) (h .high) (side-in i (x .below .0) cs (h .below) c) ∙ side-in i (x .above .0) ds (h .above) d
+      areTermsOf-above (p .jobs) i x cs ds (h .low) (h .high) (side-in i (bitsOf (x .below)) cs (h .below) c) ∙ side-in i (bitsOf (x .above)) ds (h .above) d
 
   calendarOf-inside : (ts : List Rows) → StartsFit p (p .jobs) ts → isCalendar p (calendarOf p ts) ≡ true
   unfolding calendarOf
@@ -303,8 +306,8 @@ module _ (p : Plan) (a : Accepted p) where
       let most : EachC (c .«at_most»)
       = EachC-filled (mostJobs * mostEvents) (allCs (mostCs p) 0 ts) (allCs-in (mostCs p) mostCs-in 0 ts (omega arith) (s .fit)) in
       isCalendar-walk p c false
-      (sym (anyFrom-is (termsOut p (c .terms) (c .«at_least») (c .«at_most»)) (p .jobs))
-      ∙ anyBelow-no (p .jobs) (termsOut p (c .terms) (c .«at_least») (c .«at_most»))
+      (sym (anyFrom-is (termsOut (p .jobs) (c .terms) (c .«at_least») (c .«at_most»)) (p .jobs))
+      ∙ anyBelow-no (p .jobs) (termsOut (p .jobs) (c .terms) (c .«at_least») (c .«at_most»))
       (λ i h. ap not (terms-in i (getD (c .terms) i noTerms) (c .«at_least») (c .«at_most») (terms i) least most)))
 
   tables-inside : (s : Set) → ((u : Rows) → s ≡ bounds u → Fit p (nodes (p .jobs + p .jobs)) u)

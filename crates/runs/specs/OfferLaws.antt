@@ -5,13 +5,13 @@ use Prim.Native.Nat.{ℕ, zero, suc, _+_, _*_, _-_, _≤_, _<_}
 use mathlib.Core.Path.{_≡_, refl, sym, ap, _∙_}
 use mathlib.Core.Bool.{Bool, true, false, cond}
 use mathlib.Core.Logic.{_↔_, _⊎_, inl, inr, ⊎-elim}
-use mathlib.Core.List.{List, [], _∷_, map, foldl}
+use mathlib.Core.List.{List, _∷_}
 use native.Mathlib.Omega.{arith}
-use lib.IntN.{ℤ, pos, _+ℤ_}
+use lib.IntN.{ℤ}
 use lib.Signed.{_≤ℤ_, ltZ}
 use Rattle.whole.specs.Rules.{whole}
 use Rattle.clock.specs.Clock.{onRun}
-use Rattle.events.specs.Bits.{hasEvent, membersFrom}
+use Rattle.events.specs.Bits.{bitsOf, hasEvent, membersFrom}
 use Rattle.calendars.specs.Calendars.{eventsAhead, mostEvents}
 use Rattle.runs.specs.declared.Turn.{Turn}
 use Rattle.runs.specs.declared.Run.{Run}
@@ -19,7 +19,6 @@ use Rattle.runs.specs.TestLaws.{true-not-false, here-or-later}
 use Rattle.runs.specs.Seen.{firstSeen}
 use Rattle.runs.specs.Offers.{termAt, lowerTerms, upperTerms, greater, lesser, greatest, least, offerAt}
 use Rattle.runs.specs.Ends.{endOver}
-use Rattle.runs.specs.SeenLaws.{firstSeen-most}
 
 -- ---- the terms of one end
 
@@ -82,7 +81,7 @@ module _
     past-rest n end e t false eq next h =
         next _ (record { origin = h .origin; terms = λ k l m y. h .terms k (omega arith) (omega arith) y })
 
-    pub endOver-iff : (n : ℕ) (end : ℤ) (e : ℕ) (t : ℤ) → order (endOver pick term end (membersFrom set e n)) t ↔ Past order term set end e n t
+    endOver-iff : (n : ℕ) (end : ℤ) (e : ℕ) (t : ℤ) → order (endOver pick term end (membersFrom set e n)) t ↔ Past order term set end e n t
     unfolding membersFrom
     endOver-iff zero end e t = (λ h. record { origin = h; terms = λ k l m y. absurd (omega arith) }, λ h. h .origin)
     endOver-iff (suc n) end e t = (
@@ -104,7 +103,7 @@ module _
     one-first n end e false eq next =
         ⊎-elim (λ h. inl h) (λ h. inr (record { event = h .event; from = omega arith; to = omega arith; member = h .member; is = h .is })) (next end)
 
-    pub endOver-one : (n : ℕ) (end : ℤ) (e : ℕ)
+    endOver-one : (n : ℕ) (end : ℤ) (e : ℕ)
         → let w = endOver pick term end (membersFrom set e n) in (w ≡ end) ⊎ OneOf term set e n w
     unfolding membersFrom
     endOver-one zero end e = inl refl
@@ -136,10 +135,10 @@ one-of : (x : Bool) (a b : ℤ) → (cond x b a ≡ a) ⊎ (cond x b a ≡ b)
 one-of true a b = inr refl
 one-of false a b = inl refl
 
-pub greater-one : (a b : ℤ) → (greater a b ≡ a) ⊎ (greater a b ≡ b)
+greater-one : (a b : ℤ) → (greater a b ≡ a) ⊎ (greater a b ≡ b)
 greater-one a b = one-of (ltZ a b) a b
 
-pub lesser-one : (a b : ℤ) → (lesser a b ≡ a) ⊎ (lesser a b ≡ b)
+lesser-one : (a b : ℤ) → (lesser a b ≡ a) ⊎ (lesser a b ≡ b)
 lesser-one a b = one-of (ltZ b a) a b
 
 -- ---- the offer
@@ -154,10 +153,10 @@ module _ (d : Turn) (cs ds : List ℤ) (r : Run) (j i : ℕ) where
 
   -- t is at or above the origin's lower bound and every lower term in force, at or below the upper ones
   abbrev pub AboveLower : ℤ → Type 0
-  AboveLower t = Past AtLeast (termAt (r .seen) cs ((i - 1) * mostEvents)) (d .terms .below .0) (onRun (d .window) j (d .terms .low) .0) first count t
+  AboveLower t = Past AtLeast (termAt (r .seen) cs ((i - 1) * mostEvents)) (bitsOf (d .terms .below)) (onRun (d .window) j (d .terms .low) .0) first count t
 
   abbrev pub BelowUpper : ℤ → Type 0
-  BelowUpper t = Past AtMost (termAt (r .seen) ds ((i - 1) * mostEvents)) (d .terms .above .0) (onRun (d .window) j (d .terms .high) .0) first count t
+  BelowUpper t = Past AtMost (termAt (r .seen) ds ((i - 1) * mostEvents)) (bitsOf (d .terms .above)) (onRun (d .window) j (d .terms .high) .0) first count t
 
   pub offerAt-from-iff : (t : ℤ) → (offerAt d cs ds r j i .from .0) ≤ℤ t ↔ AboveLower t
   unfolding lowerTerms greatest
@@ -170,12 +169,12 @@ module _ (d : Turn) (cs ds : List ℤ) (r : Run) (j i : ℕ) where
   -- both ends are among the bounds that they bound
   pub offerAt-from-one :
       (offerAt d cs ds r j i .from .0 ≡ onRun (d .window) j (d .terms .low) .0)
-      ⊎ OneOf (termAt (r .seen) cs ((i - 1) * mostEvents)) (d .terms .below .0) first count (offerAt d cs ds r j i .from .0)
+      ⊎ OneOf (termAt (r .seen) cs ((i - 1) * mostEvents)) (bitsOf (d .terms .below)) first count (offerAt d cs ds r j i .from .0)
   unfolding lowerTerms greatest
   offerAt-from-one = endOver-one greater AtLeast greater-iff greater-one _ _ count _ first
 
   pub offerAt-to-one :
       (offerAt d cs ds r j i .to .0 ≡ onRun (d .window) j (d .terms .high) .0)
-      ⊎ OneOf (termAt (r .seen) ds ((i - 1) * mostEvents)) (d .terms .above .0) first count (offerAt d cs ds r j i .to .0)
+      ⊎ OneOf (termAt (r .seen) ds ((i - 1) * mostEvents)) (bitsOf (d .terms .above)) first count (offerAt d cs ds r j i .to .0)
   unfolding upperTerms least
   offerAt-to-one = endOver-one lesser AtMost lesser-iff lesser-one _ _ count _ first

@@ -1,6 +1,6 @@
 -- The offer (document 01, 'Offers and runs': 'The offer is from the greatest lower bound to the least upper bound, both ends included').
-use Prim.Native.Nat.{ℕ, zero, suc, _+_, _*_, _-_}
-use mathlib.Core.Bool.{Bool, cond}
+use Prim.Native.Nat.{ℕ, _+_, _*_, _-_}
+use mathlib.Core.Bool.{cond}
 use mathlib.Core.List.{List, [], _∷_, map, foldl}
 use lib.Dec.{ltb}
 use lib.IntN.{ℤ, pos, _+ℤ_}
@@ -11,7 +11,7 @@ use Rattle.plan.specs.declared.Plan.{Plan}
 use Rattle.lines.specs.declared.Refusal.the-variants as refusal
 use Rattle.plan.specs.PlanLines.{noJob}
 use Rattle.calendars.specs.declared.Calendar.{Calendar}
-use Rattle.events.specs.Bits.{membersFrom}
+use Rattle.events.specs.Bits.{bitsOf, membersFrom}
 use Rattle.calendars.specs.Calendars.{eventsAhead, mostEvents, noTerms}
 use Rattle.runs.specs.declared.Turn.{Turn}
 use Rattle.runs.specs.declared.Phase.{Phase}
@@ -39,25 +39,25 @@ turnOf p c i =
 -- ---- the terms in force
 
 -- the events that bound the start of the job at place i, of those that the run has seen before it
-abbrev pub inForce : ℕ → Run → ℕ → ℕ → List ℕ
+abbrev inForce : ℕ → Run → ℕ → ℕ → List ℕ
 inForce jobs r i set = let first = firstSeen jobs (r .before) in membersFrom set first (eventsAhead jobs i - first)
 
--- the term of event e, whose c stands at place row + e
+-- the term of event e, whose c is at place row + e
 abbrev pub termAt : List ℤ → List ℤ → ℕ → ℕ → ℤ
 termAt seen cs row e = timeAt seen e .0 +ℤ getD cs (row + e) (pos 0)
 
 -- the terms on one side of the start of the job at place i: the origin's first, then those in force
-abbrev pub termsFrom : ℤ → ℕ → Run → ℕ → ℕ → List ℤ → List ℤ
+abbrev termsFrom : ℤ → ℕ → Run → ℕ → ℕ → List ℤ → List ℤ
 termsFrom origin jobs r i set cs = origin ∷ map (termAt (r .seen) cs (i * mostEvents)) (inForce jobs r i set)
 
 -- the terms of job i (from 1) in window j
 unfoldable pub lowerTerms : Turn → List ℤ → Run → ℕ → ℕ → List ℤ
 lowerTerms d cs r j i =
-    let t = d .terms in termsFrom (onRun (d .window) j (t .low) .0) (d .jobs) r (i - 1) (t .below .0) cs
+    let t = d .terms in termsFrom (onRun (d .window) j (t .low) .0) (d .jobs) r (i - 1) (bitsOf (t .below)) cs
 
 unfoldable pub upperTerms : Turn → List ℤ → Run → ℕ → ℕ → List ℤ
 upperTerms d cs r j i =
-    let t = d .terms in termsFrom (onRun (d .window) j (t .high) .0) (d .jobs) r (i - 1) (t .above .0) cs
+    let t = d .terms in termsFrom (onRun (d .window) j (t .high) .0) (d .jobs) r (i - 1) (bitsOf (t .above)) cs
 
 -- ---- the two ends
 

@@ -1,4 +1,4 @@
--- What a run has seen. The time of event e of a calendar stands at place e: the previous window's events come first, then the present window's, by job, s
+-- What a run has seen. The time of event e of a calendar is at place e: the previous window's events come first, then the present window's, by job, s
 -- before f.
 use Prim.Native.Nat.{ℕ, zero, suc, _+_, _*_}
 use mathlib.Core.List.{List}

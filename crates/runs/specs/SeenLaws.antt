@@ -8,7 +8,7 @@ use mathlib.Core.List.{List}
 use native.Mathlib.Numerals.{add-one}
 use native.Mathlib.Omega.{arith}
 use lib.IntN.{ℤ, pos}
-use lib.ListN.{length, getD, set, length-set}
+use lib.ListN.{length, length-set}
 use lib.Seq.{getD-set-same, getD-set-other}
 use Rattle.clock.specs.declared.RunTime.{RunTime}
 use Rattle.calendars.specs.Calendars.{eventsAhead}
@@ -20,10 +20,10 @@ use Rattle.runs.specs.Seen.{timeAt, timePut, firstSeen, jobSeen, frontFr
 -- ---- one place
 
 module _ (seen : List ℤ) (e : ℕ) where
-  pub timePut-same : (t : RunTime) → e < length seen → timeAt (timePut seen e t) e ≡ t
+  timePut-same : (t : RunTime) → e < length seen → timeAt (timePut seen e t) e ≡ t
   timePut-same t h = ap (λ (z : ℤ). record { 0 = z }) (getD-set-same seen e (t .0) (pos 0) h)
 
-  pub timePut-other : (k : ℕ) (t : RunTime) → (k ≡ e → ⊥) → timeAt (timePut seen e t) k ≡ timeAt seen k
+  timePut-other : (k : ℕ) (t : RunTime) → (k ≡ e → ⊥) → timeAt (timePut seen e t) k ≡ timeAt seen k
   timePut-other k t h = ap (λ (z : ℤ). record { 0 = z }) (getD-set-other seen e k (t .0) (pos 0) h)
 
 -- ---- the first event seen

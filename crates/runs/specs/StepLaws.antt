@@ -1,4 +1,4 @@
--- Steps, one case after the other, as the code takes them: whose turn it is (`turnOf-made`); a run put together again (`moved-made`); a finish
+-- Steps, one case after the other, as the code takes them: whose turn it is (`turnOf-made`); a run from its parts (`moved-made`); a finish
 -- (`finished-on`, `finished-off`); an opening by its phase (`opening-over`, `opening-waiting`, `opening-running`); the answer by the kind of step
 -- (`answer-ask`, `answer-start`, `answer-idle`, `answer-finish`). A refusal leaves the run as it was (`stepped-stays`, `step-stays`). Steps on values are
 -- in `ValueStepLaws`.
@@ -45,7 +45,7 @@ pub turnOf-made : (p : Plan) (c : Calendar) (i k : ℕ) (window : ℤ) → windo
     (turnOf p c i)
 turnOf-made p c i k window e f = rw (e, f)
 
--- ---- a run put together again from what became of its parts
+-- ---- a run from its parts, after a move
 
 pub moved-made : (m : Moved) (seen : List ℤ) (r : Run) → m ≡ movedOf r → seen ≡ r .seen → runOf (m .phase) (m .before) seen ≡ r
 moved-made m seen r e f = rw (e, f)
@@ -102,7 +102,7 @@ module _ (d : Turn) (cs ds : List ℤ) (r : Run) (st : Step) where
 
 -- ---- 'A refusal moves neither the run ..'
 
-pub refused-stays : (jobs : ℕ) (r : Run) (a : Answer) (x : Refusal) → a ≡ Refused x → moved jobs r a ≡ r
+refused-stays : (jobs : ℕ) (r : Run) (a : Answer) (x : Refusal) → a ≡ Refused x → moved jobs r a ≡ r
 unfolding moved
 refused-stays jobs r a x e = rw e
 

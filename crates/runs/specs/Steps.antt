@@ -1,6 +1,6 @@
 -- Steps: ask, start and finish (document 01, 'Numbers of refusal' and 'Offers and runs'). The answer to a step says nothing of what becomes of the run; what an
--- answer makes of a run stands by itself; and a step is the one and then the other.
-use Prim.Native.Nat.{ℕ, zero, suc, _+_, _*_, _-_}
+-- answer makes of a run is a definition of its own; and a step is the one and then the other.
+use Prim.Native.Nat.{ℕ, _+_, _*_, _-_}
 use mathlib.Core.Bool.{Bool, true, false, cond, _&&_}
 use mathlib.Core.List.{List}
 use mathlib.Core.Option.{Option, none, some}
@@ -17,7 +17,6 @@ use Rattle.lines.specs.Refusals.{outsideLimits}
 use Rattle.plan.specs.PlanWritten.{judgedPlan}
 use Rattle.calendars.specs.declared.Calendar.{Calendar}
 use Rattle.calendars.specs.Calendars.{mostEvents}
-use Rattle.runs.specs.declared.Before.{Before}
 use Rattle.runs.specs.declared.Before.the-variants.{Nothing, Window}
 use Rattle.runs.specs.declared.Turn.{Turn}
 use Rattle.runs.specs.declared.Phase.{Phase}
@@ -106,7 +105,7 @@ answeredBy p r a = record { answer = a; run = moved (p .jobs) r a }
 abbrev pub stepped : Plan → Calendar → Run → Step → Answered
 stepped p c r st = answeredBy p r (answerOf p c r st)
 
--- ---- a step on values that are handed over
+-- ---- a step on values that are passed in
 
 -- the time that a step brings with it
 abbrev pub isStep : Step → Bool

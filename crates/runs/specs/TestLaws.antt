@@ -1,4 +1,4 @@
--- Tests joined by "and" and "or": what a joined test says of its parts, and the parts of it.
+-- Tests joined by "and" and "or": what follows from a joined test for its parts, and from the parts for it.
 use Prim.Native.Nat.{ℕ, suc, _≤_}
 use mathlib.Core.Path.{_≡_, refl}
 use mathlib.Core.Logic.{_⊎_, inl, inr}
@@ -32,14 +32,6 @@ pub and-of-false : (a b : Bool) → a ≡ false → (a && b) ≡ false
 and-of-false true b e = clash (cc)
 and-of-false false b e = refl
 
-pub and-with-true : (b : Bool) → (b && true) ≡ b
-and-with-true true = refl
-and-with-true false = refl
-
-pub and-with-false : (b : Bool) → (b && false) ≡ false
-and-with-false true = refl
-and-with-false false = refl
-
 -- a part that is denied
 pub and-not : (a b : Bool) → (a && not b) ≡ false → a ≡ true → b ≡ true
 and-not true b e h = not-false b e
@@ -60,15 +52,6 @@ or-with-true false b e = e
 pub or-left : (a b : Bool) → (a || b) ≡ true → b ≡ false → a ≡ true
 or-left true b e f = refl
 or-left false b e f = clash (cc)
-
--- neither part of a joined test that fails
-pub or-neither-left : (a b : Bool) → (a || b) ≡ false → a ≡ false
-or-neither-left true b e = e
-or-neither-left false b e = refl
-
-pub or-neither-right : (a b : Bool) → (a || b) ≡ false → b ≡ false
-or-neither-right true b e = clash (cc)
-or-neither-right false b e = e
 
 -- an event from e on is e, or comes after it
 pub here-or-later : (e k : ℕ) → e ≤ k → (k ≡ e) ⊎ (suc e ≤ k)

@@ -8,7 +8,7 @@ use events::MOST_EVENTS;
 ghost use mathlib.Core.Path.{_≡_};
 ghost use Prim.Native.Nat.{_+_, _*_, _-_, _≤_, _<_};
 ghost use Rattle.plan.specs.Limits.{mostJobs};
-ghost use Rattle.events.specs.Bits.{mostEvents, membersFrom};
+ghost use Rattle.events.specs.Bits.{bitsOf, mostEvents, membersFrom};
 ghost use Rattle.runs.specs.Offers.{termAt};
 ghost use Rattle.runs.specs.Ends.{pickOf, pickedTime, endOver};
 ghost use Rattle.runs.specs.Inside.{TermsFit};
@@ -29,7 +29,8 @@ fn picked(upper: bool, t: RunTime, u: RunTime) -> RunTime
     t
 }
 
-// An end and the terms of a set's events from the first one on, before count. The c of event e stands at place row + e. Only members cost a turn.
+// An end, picked among a value and the terms of a set's events from the first one on, before count. The c of event e is at place row + e. The loop turns only
+// at members.
 pub fn end_of<'a>(
     upper: bool,
     seen: &'a [i64; MOST_EVENTS],
@@ -43,8 +44,9 @@ pub fn end_of<'a>(
     requires { ⌜ first ≤ count ⌝ }
     requires { ⌜ count ≤ mostEvents ⌝ }
     requires { ⌜ row + count ≤ mostJobs * mostEvents ⌝ }
-    requires { ⌜ TermsFit (now seen) (set .0) (now cs) row first count ⌝ }
-    ensures { λ r. ⌜ r .0 ≡ endOver (pickOf upper) (termAt (now (seen .entry)) (now (cs .entry)) row) (end .0) (membersFrom (set .0) first (count - first)) ⌝ }
+    requires { ⌜ TermsFit (now seen) (bitsOf set) (now cs) row first count ⌝ }
+    ensures { λ r. ⌜ r .0
+        ≡ endOver (pickOf upper) (termAt (now (seen .entry)) (now (cs .entry)) row) (end .0) (membersFrom (bitsOf set) first (count - first)) ⌝ }
 {
     let mut end = end;
     let mut e = set.next(first);

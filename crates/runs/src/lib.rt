@@ -45,7 +45,7 @@ pub enum Before {
     Window,
 }
 
-// A run: its phase, what is before its present window, and the times that it has seen, on the run's clock. The time of event e of a calendar stands at place
+// A run: its phase, what is before its present window, and the times that it has seen, on the run's clock. The time of event e of a calendar is at place
 // e: the previous window's events first, then the present window's. Places of a previous window where there is none, and those of jobs that the present
 // window has not finished, are no part of the run.
 pub struct Run {
@@ -70,7 +70,7 @@ pub enum Opening {
     Shut(Refusal),
 }
 
-// How a start chooses its time.
+// How a start chooses its time: at a given one, or at the offer's lower end.
 pub enum Choice {
     At(RunTime),
     Auto,

@@ -1,4 +1,4 @@
-// The limits of a time, a run and a calendar that are handed over as values.
+// The limits of a time, a run and a calendar that are passed in as values.
 
 use crate::LAST_TIME;
 use crate::Phase;
@@ -17,6 +17,7 @@ use plan::is_c;
 ghost use mathlib.Core.Path.{_≡_};
 ghost use Prim.Native.Nat.{_+_, _-_, _≤_, _<_};
 ghost use Rattle.plan.specs.Limits.{mostJobs};
+ghost use Rattle.events.specs.Bits.{bitsOf};
 ghost use Rattle.calendars.specs.Calendars.{mostEvents};
 ghost use Rattle.runs.specs.ValueLimits.{isTime, areTimes, isTurn, isPhase, jobOfPhase, isRun, isOut, isSide, areTermsOf, isCalendar};
 ghost use Rattle.runs.specs.Steps.{isStep};
@@ -47,39 +48,39 @@ fn are_times(seen: &[i64; MOST_EVENTS], first: usize, count: usize) -> bool
     true
 }
 
-// Whether window j and job i are those of a turn of the plan.
-fn is_turn(p: Plan, j: u64, i: usize) -> bool
-    ensures { λ r. ⌜ r ≡ isTurn p j i ⌝ }
+// Whether window j and job i are those of a turn, with such a last window and so many jobs.
+fn is_turn(last: u64, jobs: usize, j: u64, i: usize) -> bool
+    ensures { λ r. ⌜ r ≡ isTurn last jobs j i ⌝ }
 {
     if j < 1 {
         return false;
     }
-    if p.last < j {
+    if last < j {
         return false;
     }
     if i < 1 {
         return false;
     }
-    if p.jobs < i {
+    if jobs < i {
         return false;
     }
     true
 }
 
-// Whether a phase is one of the plan's: at a turn, or waiting for job 1 past the last window.
-fn is_phase(p: Plan, phase: Phase) -> bool
-    ensures { λ r. ⌜ r ≡ isPhase p phase ⌝ }
+// Whether a phase is at a turn, or waiting for job 1 past the last window.
+fn is_phase(last: u64, jobs: usize, phase: Phase) -> bool
+    ensures { λ r. ⌜ r ≡ isPhase last jobs phase ⌝ }
 {
     match phase {
         Phase::Waiting { window, job } => {
-            if is_turn(p, window, job) {
+            if is_turn(last, jobs, window, job) {
                 return true;
             }
             if window < 1 {
                 return false;
             }
             let before = window - 1;
-            if before != p.last {
+            if before != last {
                 return false;
             }
             if job != 1 {
@@ -88,7 +89,7 @@ fn is_phase(p: Plan, phase: Phase) -> bool
             true
         }
         Phase::Running { window, job, start } => {
-            if is_turn(p, window, job) {
+            if is_turn(last, jobs, window, job) {
                 return is_time(start);
             }
             false
@@ -125,12 +126,12 @@ pub fn is_run(p: Plan, run: Run) -> bool
     requires { ⌜ p .jobs ≤ mostJobs ⌝ }
     ensures { λ r. ⌜ r ≡ isRun p run ⌝ }
 {
+    let jobs = p.jobs;
     let phase = run.phase;
     let before = run.before;
-    if !is_phase(p, phase) {
+    if !is_phase(p.last, jobs, phase) {
         return false;
     }
-    let jobs = p.jobs;
     let done = jobs_done(phase);
     let places = jobs + done;
     let ahead = 2 * places;
@@ -152,12 +153,11 @@ pub fn is_step(st: Step) -> bool
     }
 }
 
-// Whether event e is in the set and its c is in no bound's range.
-fn is_out(set: u64, e: usize, c: i32) -> bool
-    ensures { λ r. ⌜ r ≡ isOut set e c ⌝ }
+// Whether event e is in the set and its c is out of the range of a bound's c.
+fn is_out(set: Events, e: usize, c: i32) -> bool
+    ensures { λ r. ⌜ r ≡ isOut (bitsOf set) e c ⌝ }
 {
-    let events = Events(set);
-    if !events.has(e) {
+    if !set.has(e) {
         return false;
     }
     let wide = c as i64;
@@ -168,16 +168,15 @@ fn is_out(set: u64, e: usize, c: i32) -> bool
 }
 
 // Whether one side of the job at place i names events before its start only, each with a c in range.
-fn is_side(p: Plan, i: usize, set: u64, cs: &[i32; MOST_TERMS]) -> bool
-    requires { ⌜ p .jobs ≤ mostJobs ⌝ }
+fn is_side(jobs: usize, i: usize, set: Events, cs: &[i32; MOST_TERMS]) -> bool
+    requires { ⌜ jobs ≤ mostJobs ⌝ }
     requires { ⌜ i < mostJobs ⌝ }
-    ensures { λ r. ⌜ r ≡ isSide p i set (now (cs .entry)) ⌝ }
+    ensures { λ r. ⌜ r ≡ isSide jobs i (bitsOf set) (now (cs .entry)) ⌝ }
 {
-    let places = p.jobs + i;
+    let places = jobs + i;
     let count = 2 * places;
     let row = i * MOST_EVENTS;
-    let past = set >> count;
-    if past != 0 {
+    if !set.is_below(count) {
         return false;
     }
     let mut e: usize = 0;
@@ -194,15 +193,15 @@ fn is_side(p: Plan, i: usize, set: u64, cs: &[i32; MOST_TERMS]) -> bool
 
 // Whether the terms of the job at place i are inside the limits, with the c of both sides.
 fn are_terms(
-    p: Plan,
+    jobs: usize,
     i: usize,
     t: Terms,
     least: &[i32; MOST_TERMS],
     most: &[i32; MOST_TERMS],
 ) -> bool
-    requires { ⌜ p .jobs ≤ mostJobs ⌝ }
+    requires { ⌜ jobs ≤ mostJobs ⌝ }
     requires { ⌜ i < mostJobs ⌝ }
-    ensures { λ r. ⌜ r ≡ areTermsOf p i t (now (least .entry)) (now (most .entry)) ⌝ }
+    ensures { λ r. ⌜ r ≡ areTermsOf jobs i t (now (least .entry)) (now (most .entry)) ⌝ }
 {
     let low = t.low;
     let high = t.high;
@@ -214,10 +213,10 @@ fn are_terms(
     if !is_c(high.0) {
         return false;
     }
-    if !is_side(p, i, below.0, least) {
+    if !is_side(jobs, i, below, least) {
         return false;
     }
-    is_side(p, i, above.0, most)
+    is_side(jobs, i, above, most)
 }
 
 // Whether a calendar is inside the limits, for each job of the plan.
@@ -232,7 +231,7 @@ pub fn is_calendar(p: Plan, c: Calendar) -> bool
     let mut i: usize = 0;
     while i < jobs {
         let t = terms[i];
-        if !are_terms(p, i, t, &least, &most) {
+        if !are_terms(jobs, i, t, &least, &most) {
             return false;
         }
         i += 1;

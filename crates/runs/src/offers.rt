@@ -47,7 +47,7 @@ fn offer_of<'a>(
     Offer { from: from, to: to }
 }
 
-// An offer whose lower end is above its upper end is none: 11.
+// An offer whose lower end is above its upper end is empty: 11.
 fn opened(j: u64, i: usize, offer: Offer) -> Opening
     ensures { λ r. ⌜ r ≡ offers.opened j i offer ⌝ }
 {

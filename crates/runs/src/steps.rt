@@ -43,7 +43,7 @@ fn asked(at: Opening) -> Answer
     }
 }
 
-// A start at a time of one's own, which the offer must have, 8; or at the offer's lower end, which must be a time, 2,0.
+// A start at a given time, 8 outside the offer; or at the offer's lower end, 2,0 outside the range of a time.
 fn started_by(j: u64, i: usize, o: Offer, choice: Choice) -> Answer
     ensures { λ r. ⌜ r ≡ steps.startedBy j i o choice ⌝ }
 {
@@ -127,7 +127,7 @@ pub fn answer_step<'a>(
 }
 
 // A step, with a plan, a calendar and a run inside their limits.
-pub fn step_inside(p: Plan, c: Calendar, run: Run, st: Step) -> Answered
+fn step_inside(p: Plan, c: Calendar, run: Run, st: Step) -> Answered
     requires { ⌜ Inside p c run ⌝ }
     ensures { λ r. ⌜ r ≡ steps.stepped p c run st ⌝ }
 {

@@ -1,15 +1,14 @@
 -- `end_of`: the whole end is what is picked so far and what is left from the present member on; laws of the members, `members-..`.
-use Prim.Native.Nat.{ℕ, _+_, _-_, _≤_, _<_}
-use mathlib.Core.Path.{_≡_, refl, sym, ap, _∙_}
+use Prim.Native.Nat.{_+_, _-_, _≤_, _<_}
+use mathlib.Core.Path.{_≡_, sym, ap, _∙_}
 use mathlib.Core.Bool.{true}
-use mathlib.Core.List.{List, [], _∷_}
 use native.Mathlib.Omega.{arith}
 use denote.Ref.{now}
 use lib.IntN.{ℤ, pos}
 use lib.ListN.{getD}
 use mir.Syntax.{w32}
 use mir.Val.{SFits}
-use Rattle.events.specs.Bits.{hasEvent, nextEvent, membersFrom}
+use Rattle.events.specs.Bits.{bitsOf, hasEvent, membersFrom}
 use Rattle.events.specs.BitsLaws.{nextEvent-from, nextEvent-has, members-here, members-none, members-next}
 use Rattle.runs.specs.Offers.{termAt}
 use Rattle.runs.specs.Ends.{pickOf, endOver}
@@ -20,9 +19,9 @@ use Rattle.runs.proofs.ends.end_of.Tie as tie
 
 abbrev Inv-loop : tie.InvT-loop
 Inv-loop upper seen set cs row first count end₀ e₀ end e =
-    (first ≤ e) × (e < count → hasEvent e (set .0) ≡ true)
-    × (endOver (pickOf upper) (termAt seen cs row) (end₀ .0) (membersFrom (set .0) first (count - first))
-    ≡ endOver (pickOf upper) (termAt seen cs row) (end .0) (membersFrom (set .0) e (count - e)))
+    (first ≤ e) × (e < count → hasEvent e (bitsOf set) ≡ true)
+    × (endOver (pickOf upper) (termAt seen cs row) (end₀ .0) (membersFrom (bitsOf set) first (count - first))
+    ≡ endOver (pickOf upper) (termAt seen cs row) (end .0) (membersFrom (bitsOf set) e (count - e)))
 
 abbrev μ-loop : tie.MeasureT-loop
 μ-loop upper seen set cs row first count end₀ e₀ end e = count - e
@@ -34,9 +33,9 @@ loop-holds : tie.Need-loop-holds Inv-loop μ-loop
 loop-holds c =
     let a = c .before .args in
     let n = c .next .ensures in (
-      omega (arith, n, nextEvent-from (a .set .0) (a .first)),
-      λ h. rw n (nextEvent-has (a .set .0) (a .first) (omega (arith, n))),
-      ap (endOver (pickOf (a .upper)) (termAt (now (a .seen)) (now (a .cs)) (a .row)) (a .end .0)) (members-next (a .set .0) (a .first) (a .count) _ n),
+      omega (arith, n, nextEvent-from (bitsOf (a .set)) (a .first)),
+      λ h. rw n (nextEvent-has (bitsOf (a .set)) (a .first) (omega (arith, n))),
+      ap (endOver (pickOf (a .upper)) (termAt (now (a .seen)) (now (a .cs)) (a .row)) (a .end .0)) (members-next (bitsOf (a .set)) (a .first) (a .count) _ n),
     )
 
 time-at-requires : tie.Need-time-at-requires Inv-loop μ-loop
@@ -75,7 +74,7 @@ loop-less c =
     let at-loop = c .before .before .before .before .before .before in
     let s = at-loop .before .before in
     let l = at-loop .loop in
-    omega (arith, c .next2 .ensures, nextEvent-from (s .args .set .0) (l .e + 1))
+    omega (arith, c .next2 .ensures, nextEvent-from (bitsOf (s .args .set)) (l .e + 1))
 
 loop-again : tie.Need-loop-again Inv-loop μ-loop
 loop-again c =
@@ -91,14 +90,14 @@ loop-again c =
     let t = at-time-at .time-at .ensures in
     let picked = picked-read (now (a .seen)) (now (a .cs)) (a .row) (l .e) _ t g (a .upper) (l .end) _ _ (c .before .picked .ensures)
     (c .before .before .moved-by .ensures) in
-    let from = nextEvent-from (a .set .0) (l .e + 1) in
+    let from = nextEvent-from (bitsOf (a .set)) (l .e + 1) in
     let term = termAt (now (a .seen)) (now (a .cs)) (a .row) in
     let same =
     l .inv .2
-    ∙ ap (endOver (pickOf (a .upper)) term (l .end .0)) (members-here (a .set .0) (l .e) (a .count) h (l .inv .1 h))
-    ∙ ap (λ (z : ℤ). endOver (pickOf (a .upper)) term z (membersFrom (a .set .0) (l .e + 1) (a .count - (l .e + 1)))) (sym picked)
-    ∙ ap (endOver (pickOf (a .upper)) term _) (members-next (a .set .0) (l .e + 1) (a .count) _ n) in
-    (omega arith, λ k. rw n (nextEvent-has (a .set .0) (l .e + 1) (omega (arith, n))), same)
+    ∙ ap (endOver (pickOf (a .upper)) term (l .end .0)) (members-here (bitsOf (a .set)) (l .e) (a .count) h (l .inv .1 h))
+    ∙ ap (λ (z : ℤ). endOver (pickOf (a .upper)) term z (membersFrom (bitsOf (a .set)) (l .e + 1) (a .count - (l .e + 1)))) (sym picked)
+    ∙ ap (endOver (pickOf (a .upper)) term _) (members-next (bitsOf (a .set)) (l .e + 1) (a .count) _ n) in
+    (omega arith, λ k. rw n (nextEvent-has (bitsOf (a .set)) (l .e + 1) (omega (arith, n))), same)
 
 returns : tie.Need-returns Inv-loop μ-loop
 returns c =
@@ -106,7 +105,8 @@ returns c =
     let a = c .before .before .before .args in
     sym
     (l .inv .2
-    ∙ ap (endOver (pickOf (a .upper)) (termAt (now (a .seen)) (now (a .cs)) (a .row)) (l .end .0)) (members-none (a .set .0) (l .e) (a .count) (omega arith)))
+    ∙ ap (endOver (pickOf (a .upper)) (termAt (now (a .seen)) (now (a .cs)) (a .row)) (l .end .0))
+    (members-none (bitsOf (a .set)) (l .e) (a .count) (omega arith)))
 
 pub end-of-spec : {M : Type 1} → statement M
 end-of-spec =

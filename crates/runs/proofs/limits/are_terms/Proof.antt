@@ -29,7 +29,7 @@ high-is c =
 returns : tie.Need-returns
 returns c =
     let a = c .before .before .before .before .before .before .before .args in
-    sym (areTermsOf-low (a .p) (a .i) (a .t) (now (a .least)) (now (a .most)) (sym (low-is (c .before)) ∙ not-true _ (c .if1 .taken)))
+    sym (areTermsOf-low (a .jobs) (a .i) (a .t) (now (a .least)) (now (a .most)) (sym (low-is (c .before)) ∙ not-true _ (c .if1 .taken)))
 
 is-c-requires-2 : tie.Need-is-c-requires-2
 is-c-requires-2 c κs = search needs
@@ -39,7 +39,7 @@ returns-2 c =
     let m = c .before .before .before in
     let a = m .before .before .before .before .before .before .before .args in
     sym
-    (areTermsOf-high (a .p) (a .i) (a .t) (now (a .least)) (now (a .most)) (sym (low-is (m .before)) ∙ not-false _ (m .if1 .left))
+    (areTermsOf-high (a .jobs) (a .i) (a .t) (now (a .least)) (now (a .most)) (sym (low-is (m .before)) ∙ not-false _ (m .if1 .left))
     (sym (high-is (c .before)) ∙ not-true _ (c .if2 .taken)))
 
 is-side-requires : tie.Need-is-side-requires
@@ -51,7 +51,7 @@ returns-3 c =
     let m = h .before .before .before in
     let a = m .before .before .before .before .before .before .before .args in
     sym
-    (areTermsOf-below (a .p) (a .i) (a .t) (now (a .least)) (now (a .most)) (sym (low-is (m .before)) ∙ not-false _ (m .if1 .left))
+    (areTermsOf-below (a .jobs) (a .i) (a .t) (now (a .least)) (now (a .most)) (sym (low-is (m .before)) ∙ not-false _ (m .if1 .left))
     (sym (high-is (h .before)) ∙ not-false _ (h .if2 .left)) (sym (c .before .is-side .ensures) ∙ not-true _ (c .if3 .taken)))
 
 is-side-requires-2 : tie.Need-is-side-requires-2
@@ -64,7 +64,7 @@ returns-4 c =
     let a = m .before .before .before .before .before .before .before .args in
     c .is-side2 .ensures
     ∙ sym
-    (areTermsOf-above (a .p) (a .i) (a .t) (now (a .least)) (now (a .most)) (sym (low-is (m .before)) ∙ not-false _ (m .if1 .left))
+    (areTermsOf-above (a .jobs) (a .i) (a .t) (now (a .least)) (now (a .most)) (sym (low-is (m .before)) ∙ not-false _ (m .if1 .left))
     (sym (high-is (h .before)) ∙ not-false _ (h .if2 .left)) (sym (c .before .before .is-side .ensures) ∙ not-false _ (c .before .if3 .left)))
 
 pub are-terms-spec : {M : Type 1} → statement M

@@ -1,10 +1,9 @@
 -- `are_times`: whether what is left are times; one law a turn, `areTimes-more`.
-use Prim.Native.Nat.{_+_, _-_, _≤_, _<_}
+use Prim.Native.Nat.{_-_, _≤_}
 use mathlib.Core.Path.{_≡_, refl, sym, ap, _∙_}
 use native.Mathlib.Omega.{arith}
 use denote.Ref.{now}
 use borrow.Author.Tests.{not-true, not-false}
-use Rattle.clock.specs.declared.RunTime.{RunTime}
 use Rattle.runs.specs.ValueLimits.{isTime, areTimes}
 use Rattle.runs.specs.LimitLaws.{areTimes-more, areTimes-none}
 use borrow.Author.Needs.{needs}

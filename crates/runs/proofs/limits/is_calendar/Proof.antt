@@ -9,11 +9,11 @@ use Rattle.runs.proofs.limits.is_calendar.Statement.{statement}
 use Rattle.runs.proofs.limits.is_calendar.Tie as tie
 
 abbrev Inv-loop : tie.InvT-loop
-Inv-loop p jobs terms least most i₀ i =
-    (i ≤ jobs) × (anyFrom (termsOut p terms least most) 0 jobs ≡ anyFrom (termsOut p terms least most) i (jobs - i))
+Inv-loop jobs terms least most i₀ i =
+    (i ≤ jobs) × (anyFrom (termsOut jobs terms least most) 0 jobs ≡ anyFrom (termsOut jobs terms least most) i (jobs - i))
 
 abbrev μ-loop : tie.MeasureT-loop
-μ-loop p jobs terms least most i₀ i = jobs - i
+μ-loop jobs terms least most i₀ i = jobs - i
 
 loop-holds : tie.Need-loop-holds Inv-loop μ-loop
 loop-holds c =
@@ -35,7 +35,7 @@ returns c =
     let a = m .before .before .before .before .before .args in
     sym
     (isCalendar-walk (a .p) (a .c) true
-    (l .inv .1 ∙ anyFrom-found (termsOut (a .p) (a .c .terms) (a .c .«at_least») (a .c .«at_most»)) (a .p .jobs) (l .i) (m .loop-test .taken)
+    (l .inv .1 ∙ anyFrom-found (termsOut (a .p .jobs) (a .c .terms) (a .c .«at_least») (a .c .«at_most»)) (a .p .jobs) (l .i) (m .loop-test .taken)
     (sym (ap not (c .before .are-terms .ensures)) ∙ c .if1 .taken)))
 
 add-i : tie.Need-add-i Inv-loop μ-loop
@@ -50,7 +50,7 @@ loop-again c =
     let l = m .before .loop in
     let a = m .before .before .before .before .before .args in (
       omega arith,
-      l .inv .1 ∙ anyFrom-more (termsOut (a .p) (a .c .terms) (a .c .«at_least») (a .c .«at_most»)) (a .p .jobs) (l .i) (m .loop-test .taken)
+      l .inv .1 ∙ anyFrom-more (termsOut (a .p .jobs) (a .c .terms) (a .c .«at_least») (a .c .«at_most»)) (a .p .jobs) (l .i) (m .loop-test .taken)
           (sym (ap not (c .before .are-terms .ensures)) ∙ c .if1 .left),
     )
 
@@ -60,7 +60,7 @@ returns-2 c =
     let a = c .before .before .before .before .before .args in
     sym
     (isCalendar-walk (a .p) (a .c) false
-    (l .inv .1 ∙ anyFrom-none (termsOut (a .p) (a .c .terms) (a .c .«at_least») (a .c .«at_most»)) (a .p .jobs) (l .i) (omega arith)))
+    (l .inv .1 ∙ anyFrom-none (termsOut (a .p .jobs) (a .c .terms) (a .c .«at_least») (a .c .«at_most»)) (a .p .jobs) (l .i) (omega arith)))
 
 pub is-calendar-spec : {M : Type 1} → statement M
 is-calendar-spec =

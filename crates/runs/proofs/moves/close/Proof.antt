@@ -1,9 +1,7 @@
 -- `close`: the job is put, and the window goes on or has ended.
 use borrow.Author.Needs.{needs}
 use Prim.Native.Nat.{_*_}
-use mathlib.Core.Path.{_≡_, refl, sym, ap, _∙_}
-use mathlib.Core.List.{List}
-use lib.IntN.{ℤ}
+use mathlib.Core.Path.{ap, _∙_}
 use borrow.Author.Tests.{lt-ltb, le-ltb}
 use Rattle.runs.specs.Seen.{toFront}
 use Rattle.runs.proofs.moves.close.Statement.{statement}

@@ -1,6 +1,5 @@
 -- `close_in`: by the phase.
 use borrow.Author.Needs.{needs}
-use mathlib.Core.Path.{_≡_}
 use Rattle.runs.specs.Steps.{closed}
 use Rattle.runs.proofs.moves.close_in.Statement.{statement}
 use Rattle.runs.proofs.moves.close_in.Tie as tie

@@ -1,6 +1,6 @@
 -- `move_run`: by the answer.
 use borrow.Author.Needs.{needs}
-use mathlib.Core.Path.{_≡_, refl, ap}
+use mathlib.Core.Path.{refl, ap}
 use Rattle.runs.specs.declared.Run.{Run}
 use Rattle.runs.specs.Steps.{moved}
 use Rattle.runs.specs.Inside.{movedOf}

@@ -1,9 +1,7 @@
 -- `offer_of`: the two ends, each from the origin's bound and the terms in force, make the offer (`offerAt-made`).
 use borrow.Author.Needs.{needs}
 use Prim.Native.Nat.{ℕ, _+_, _*_, _-_, _≤_}
-use mathlib.Core.Path.{_≡_, refl, sym, ap, subst, _∙_}
-use mathlib.Core.Bool.{Bool}
-use mathlib.Core.List.{List}
+use mathlib.Core.Path.{refl, sym, ap, subst, _∙_}
 use native.Mathlib.Omega.{arith}
 use denote.Ref.{now}
 use lib.IntN.{ℤ}
@@ -12,6 +10,7 @@ use mir.Val.{SFits}
 use mir.Facts.{toZ-ofZ}
 use Rattle.clock.specs.Clock.{onRun}
 use Rattle.plan.specs.Limits.{mostJobs}
+use Rattle.events.specs.Bits.{bitsOf}
 use Rattle.calendars.specs.Calendars.{eventsAhead, mostEvents}
 use Rattle.runs.specs.declared.Phase.the-variants.{Waiting}
 use Rattle.runs.specs.declared.Run.{Run}
@@ -63,7 +62,7 @@ end-of-requires : tie.Need-end-of-requires
 end-of-requires c κs =
     let f = c .before .before in
     let s = start f in
-    let fits = subst (λ (n : ℕ). TermsFit (now (s .args .seen)) (s .args .turn .terms .below .0) (now (s .args .least)) ((s .args .i - 1) * mostEvents) n
+    let fits = subst (λ (n : ℕ). TermsFit (now (s .args .seen)) (bitsOf (s .args .turn .terms .below)) (now (s .args .least)) ((s .args .i - 1) * mostEvents) n
     (eventsAhead (s .args .turn .jobs) (s .args .i - 1))) (sym (f .first-seen .ensures)) (s .pre .lower) in
     (first-low f, (count-fits f, (row-fits f, fits)))
 
@@ -71,7 +70,7 @@ end-of-requires-2 : tie.Need-end-of-requires-2
 end-of-requires-2 c κs =
     let f = c .before .before .before in
     let s = start f in
-    let fits = subst (λ (n : ℕ). TermsFit (now (s .args .seen)) (s .args .turn .terms .above .0) (now (s .args .most)) ((s .args .i - 1) * mostEvents) n
+    let fits = subst (λ (n : ℕ). TermsFit (now (s .args .seen)) (bitsOf (s .args .turn .terms .above)) (now (s .args .most)) ((s .args .i - 1) * mostEvents) n
     (eventsAhead (s .args .turn .jobs) (s .args .i - 1))) (sym (f .first-seen .ensures)) (s .pre .upper) in
     (first-low f, (count-fits f, (row-fits f, fits)))
 

@@ -1,11 +1,8 @@
 -- `opening`: by the phase, and whether the run is over.
 use borrow.Author.Needs.{needs}
-use Prim.Native.Nat.{ℕ, _≤_}
-use mathlib.Core.Path.{_≡_, refl, sym, ap, subst, _∙_}
-use mathlib.Core.List.{List}
+use mathlib.Core.Path.{sym, ap, subst, _∙_}
 use denote.Ref.{now}
 use Rattle.runs.specs.declared.Phase.{Phase}
-use Rattle.runs.specs.declared.Phase.the-variants.{Waiting}
 use Rattle.runs.specs.declared.Run.{Run}
 use Rattle.runs.specs.Offers.{offerAt, opened}
 use Rattle.runs.specs.Inside.{runOf, OfferInside}
@@ -16,7 +13,7 @@ use Rattle.runs.proofs.offers.opening.Tie as tie
 enum-known-phase : tie.Need-enum-known-phase
 enum-known-phase c = search needs
 
--- the run of what is handed over
+-- the run that is passed in, in its parts
 abbrev run-in : tie.Start → Phase → Run
 run-in s f = runOf f (s .args .before) (now (s .args .seen))
 

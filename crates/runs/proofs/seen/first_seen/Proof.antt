@@ -1,6 +1,5 @@
 -- `first_seen`: by what is before.
 use borrow.Author.Needs.{needs}
-use mathlib.Core.Path.{_≡_}
 use Rattle.runs.proofs.seen.first_seen.Statement.{statement}
 use Rattle.runs.proofs.seen.first_seen.Tie as tie
 

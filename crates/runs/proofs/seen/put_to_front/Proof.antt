@@ -1,14 +1,12 @@
 -- `put_to_front`: what is done, and the definition at what is left. One law a turn, `front-more`.
-use Prim.Native.Nat.{_+_, _-_, _<_, _≤_}
-use mathlib.Core.Path.{_≡_, refl, sym, ap, _∙_}
-use mathlib.Core.List.{List}
+use Prim.Native.Nat.{_+_, _-_, _≤_}
+use mathlib.Core.Path.{_≡_, sym, ap, _∙_}
 use native.Mathlib.Omega.{arith}
 use lib.IntN.{ℤ, pos}
 use lib.ListN.{getD}
 use mir.Syntax.{w64}
 use mir.Val.{SFits}
 use mir.Facts.{toZ-ofZ}
-use Rattle.clock.specs.declared.RunTime.{RunTime}
 use Rattle.runs.specs.Seen.{timePut, frontFrom}
 use Rattle.runs.specs.SeenLaws.{front-more, front-none}
 use Rattle.runs.proofs.seen.put_to_front.Statement.{statement}

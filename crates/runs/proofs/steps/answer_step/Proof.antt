@@ -1,6 +1,6 @@
 -- `answer_step`: by the kind of step, and a finish by the phase.
 use borrow.Author.Needs.{needs}
-use mathlib.Core.Path.{_≡_, refl, sym, ap, _∙_}
+use mathlib.Core.Path.{ap, _∙_}
 use denote.Ref.{now}
 use Rattle.runs.specs.declared.Run.{Run}
 use Rattle.runs.specs.Steps.{asked, started}
@@ -41,7 +41,7 @@ finished-since-requires c κs =
     let at-before = c .before .before .before .before .before .before .before in
     let s = at-before in s .pre .running _ _ _ (c .before .before .phase .given .1)
 
--- the run of what is handed over
+-- the run that is passed in, in its parts
 abbrev run : tie.Start → Run
 run s = runOf (s .args .phase) (s .args .before) (now (s .args .seen))
 

@@ -1,16 +1,12 @@
 -- `finished_since`: start + min and start + max are times, and the finish is between them or not.
 use borrow.Author.Needs.{needs}
-use mathlib.Core.Path.{_≡_, refl, sym, ap, _∙_}
-use mir.Syntax.{w32, w64}
+use mathlib.Core.Path.{_≡_, sym, ap, _∙_}
+use mir.Syntax.{w32}
 use mir.Val.{SFits}
 use mir.Facts.{toZ-ofZ}
-use lib.IntN.{ℤ, _+ℤ_}
-use Rattle.whole.specs.Rules.{wholes}
 use Rattle.clock.specs.declared.RunTime.{RunTime}
-use Rattle.clock.specs.Spans.{Near}
 use Rattle.clock.specs.Clock.{movedBy}
 use Rattle.plan.specs.declared.Job.{Job}
-use Rattle.runs.specs.Inside.{FinishInside}
 use Rattle.runs.specs.StepLaws.{finish-fits, finished-on, finished-off}
 use Rattle.runs.proofs.steps.finished_since.Statement.{statement}
 use Rattle.runs.proofs.steps.finished_since.Tie as tie
