@@ -1,6 +1,6 @@
 -- The job that a step's answer names is the one whose turn it is (`answer-job`): an offer is for the job that the run waits for, and a finish for the one
 -- that runs.
-use Prim.Native.Nat.{ℕ, _≤_}
+use Prim.Native.Nat.{_≤_}
 use mathlib.Core.Path.{_≡_, refl, ap}
 use native.Mathlib.Omega.{arith}
 use Rattle.plan.specs.declared.Plan.{Plan}

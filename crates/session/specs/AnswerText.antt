@@ -1,7 +1,7 @@
 -- Answers, printed (document 01, 'Offers and runs': 'Answers: `offer=a,b`, `started=j,i,T`, `final=j,i,T` (window, job, time) or
 -- `refused=N,D`').
-use Prim.Native.Nat.{ℕ}
-use mathlib.Core.Bool.{Bool, true, false}
+use Prim.Native.Nat.{ℕ, _+_, _*_}
+use mathlib.Core.Bool.{Bool, false}
 use mathlib.Core.List.{List, [], _∷_, _++_}
 use lib.IntN.{ℤ}
 use Rattle.text.specs.Bytes.{bytes}
@@ -26,7 +26,15 @@ answerLine (Started j i t) = bytes "started=" ++ turnText j i (t .0)
 answerLine (Final j i t) = bytes "final=" ++ turnText j i (t .0)
 answerLine (Refused x) = refusedLine x
 
--- no answer line has more bytes
+-- a time has no more bytes, with the byte after it
+abbrev pub longestTime : ℕ
+longestTime = 21
+
+-- nor have a window, a job of one digit and a time
+abbrev pub longestTurn : ℕ
+longestTurn = 2 * longestTime + 2
+
+-- no answer line has more bytes: seven for each of the eight that a step has at least
 abbrev pub longestAnswer : ℕ
 longestAnswer = 56
 

@@ -1,23 +1,15 @@
 -- The laws of answers, printed.
 -- A line is stored part by part: window, job and time (`turnText-stored`), an offer's two ends (`offerLine-stored`).
 
-use Prim.Native.Nat.{ℕ, _+_, _^_, _≤_, _<_}
-use mathlib.Core.Path.{_≡_, refl, sym, ap, _∙_}
+use Prim.Native.Nat.{ℕ, _+_}
+use mathlib.Core.Path.{_≡_}
 use mathlib.Core.List.{List, [], _∷_, _++_, append-assoc}
-use native.Mathlib.Omega.{arith}
 use lib.IntN.{ℤ}
-use lib.ListN.{length, length-append}
-use mir.Syntax.{w64}
-use mir.Val.{SFits}
 use Rattle.text.specs.Bytes.{bytes}
 use Rattle.text.specs.Lines.{LF, comma}
 use Rattle.text.specs.Numbers.{digits, decimal}
-use Rattle.text.specs.DigitLaws.{digits-short}
-use Rattle.text.specs.NumberLaws.{decimal-short}
 use Rattle.text.specs.Lent.{Stored}
 use Rattle.text.specs.LentLaws.{stored-append}
-use Rattle.lines.specs.declared.Refusal.{Refusal}
-use Rattle.lines.specs.Refusals.{number, value, refusedLine}
 use Rattle.runs.specs.declared.Offer.{Offer}
 use Rattle.session.specs.AnswerText.{turnText, offerLine}
 

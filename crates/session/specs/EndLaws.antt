@@ -1,7 +1,7 @@
 -- Which answers go on: an opening is shut by a refusal that goes on (`opening-quiet`), so no step ends a session but an auto start outside the range of T;
 -- where that is answered while the run waits and lasts, none does (`answer-goes`).
 use Prim.Native.Nat.{ℕ, _-_, _≤_}
-use mathlib.Core.Path.{_≡_, refl, ap}
+use mathlib.Core.Path.{_≡_, refl}
 use mathlib.Core.Bool.{Bool, true, false, cond}
 use mathlib.Core.List.{List}
 use lib.Dec.{ltb}

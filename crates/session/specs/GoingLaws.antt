@@ -2,47 +2,38 @@
 -- (`going-end`), at a line that is no step (`going-refused`) and at a step's answer that ends the session (`going-last`); else it goes on (`going-more`).
 
 use Prim.Native.Nat.{ℕ, _+_, _*_, _≤_, _<_}
-use mathlib.Core.Path.{_≡_, refl, sym, ap, subst, _∙_}
-use mathlib.Core.Bool.{Bool, true, false}
-use mathlib.Core.List.{List, [], _++_}
+use mathlib.Core.Path.{_≡_, refl, sym, ap, _∙_}
+use mathlib.Core.Bool.{true, false}
+use mathlib.Core.List.{List, []}
 use native.Mathlib.Nat.{add-zero}
 use native.Mathlib.Omega.{arith}
 use lib.ListN.{length, drop, length-drop}
-use Rattle.text.specs.Lent.{Stored, put}
+use Rattle.text.specs.Lent.{Stored}
 use Rattle.text.specs.LentLaws.{stored-append, put-nil, put-length}
 use Rattle.plan.specs.declared.Plan.{Plan}
 use Rattle.lines.specs.declared.Refusal.{Refusal}
 use Rattle.lines.specs.Refusals.{refusedLine}
-use Rattle.lines.specs.Reading.{Reading, read, refused}
+use Rattle.lines.specs.Reading.{read, refused}
 use Rattle.calendars.specs.declared.Calendar.{Calendar}
 use Rattle.runs.specs.declared.Step.{Step}
 use Rattle.runs.specs.declared.Run.{Run}
 use Rattle.runs.specs.declared.Answered.{Answered}
-use Rattle.runs.specs.Steps.{stepped, isStep}
+use Rattle.runs.specs.Steps.{stepped}
 use Rattle.runs.specs.Inside.{Inside}
 use Rattle.runs.specs.KeepsLaws.{stepped-keeps}
 use Rattle.session.specs.declared.StepAt.{StepAt}
 use Rattle.session.specs.declared.StepAt.the-variants as stepAt
 use Rattle.session.specs.StepRead.{stepLine}
 use Rattle.session.specs.StepAt.{StepEnds}
-use Rattle.session.specs.AnswerText.{answerLine, endsSession}
+use Rattle.session.specs.AnswerText.{answerLine, longestAnswer, endsSession}
 use Rattle.session.specs.Sessions.{Dispatched, dispatched, answers}
-use Rattle.session.specs.SessionLaws.{
-  dispatched-end,
-  dispatched-refused,
-  dispatched-last,
-  dispatched-more,
-  answers-end,
-  answers-refused,
-  answers-last,
-  answers-more,
-}
+use Rattle.session.specs.SessionLaws.{dispatched-end, dispatched-refused, dispatched-last, dispatched-more}
 
--- what the loop comes to: all answers, written, the run after them, and a bound of their length from that of the text
+-- where the loop ends: all answers are written, the run is the one after them, and their length has a bound from that of the text
 pub record Done (text out₀ : List ℕ) (from at : ℕ) (whole : Dispatched) (out : List ℕ) (end : ℕ) (run : Run) : Type 0 where
   pub stored : Stored out₀ at (whole .lines) out end
   pub left : run ≡ whole .run
-  pub short : end + 7 * from ≤ at + 7 * length text + 56
+  pub short : end + 7 * from ≤ at + 7 * length text + longestAnswer
 
 -- where it stands: whatever writes the answers that are left has written all of them
 pub record Going (p : Plan) (c : Calendar) (text out₀ : List ℕ) (from line at : ℕ) (run₀ : Run) (out : List ℕ) (run : Run) (place number end : ℕ) : Type 0 where
@@ -67,49 +58,37 @@ module _ (p : Plan) (c : Calendar) (text out₀ : List ℕ) (from line at : ℕ)
       record { left = λ o e s. s; same-run = refl; same = refl; inside = i; placed = h; numbered = omega arith; near = omega arith }
 
   module _ (out : List ℕ) (run : Run) (place number end : ℕ) (g : Going p c text out₀ from line at run₀ out run place number end) where
-    pub going-end : length text ≤ place → Done text out₀ from at Whole out end run
-    going-end h =
-        record {
-          stored = g .left out end (rw (answers-end p c run text place number h) (nothing-stored out end));
-          left = sym (ap (λ (d : Dispatched). d .run) (dispatched-end p c run text place number h)) ∙ g .same-run;
-          short = omega arith;
-        }
+    -- what is left to answer is known, and it is written
+    all-done : (rest : Dispatched) → dispatched p c run (drop place text) number ≡ rest → (o : List ℕ) (e : ℕ) → Stored out end (rest .lines) o e
+        → e + 7 * from ≤ at + 7 * length text + longestAnswer → Done text out₀ from at Whole o e (rest .run)
+    all-done rest d o e s h =
+        record { stored = g .left o e (rw (ap (λ (d : Dispatched). d .lines) d) s); left = sym (ap (λ (d : Dispatched). d .run) d) ∙ g .same-run; short = h }
 
-    module _ (h : place < length text) (o : List ℕ) (e : ℕ) (short : e ≤ end + 56) where
+    pub going-end : length text ≤ place → Done text out₀ from at Whole out end run
+    going-end h = all-done _ (dispatched-end p c run text place number h) out end (nothing-stored out end) (omega arith)
+
+    module _ (h : place < length text) (o : List ℕ) (e : ℕ) (short : e ≤ end + longestAnswer) where
       some : 0 < length (drop place text)
       some = omega (arith, length-drop place text)
 
       pub going-refused : (x : Refusal) {part : List ℕ} → stepLine (drop place text) number ≡ refused x part → Stored out end (refusedLine x) o e
           → Done text out₀ from at Whole o e run
-      going-refused x {part} d s =
-          record {
-            stored = g .left o e (rw (answers-refused p c run (drop place text) number some x part d) s);
-            left = sym (ap (λ (d : Dispatched). d .run) (dispatched-refused p c run (drop place text) number some x part d)) ∙ g .same-run;
-            short = omega arith;
-          }
+      going-refused x {part} d s = all-done _ (dispatched-refused p c run (drop place text) number some x part d) o e s (omega arith)
 
       module _ (st : Step) (next : ℕ) (a : Answered) (d : stepLine (drop place text) number ≡ read st (drop next text) (number + 1))
           (q : a ≡ stepped p c run st) (s : Stored out end (answerLine (a .answer)) o e) where
         pub going-last : endsSession (a .answer) ≡ true → Done text out₀ from at Whole o e (a .run)
         going-last y =
-            record {
-              stored = g .left o e (rw (answers-last p c run (drop place text) number some st (drop next text) (number + 1) a d q y) s);
-              left =
-                  sym (ap (λ (d : Dispatched). d .run) (dispatched-last p c run (drop place text) number some st (drop next text) (number + 1) a d q y))
-                  ∙ g .same-run;
-              short = omega arith;
-            }
+            all-done _ (dispatched-last p c run (drop place text) number some st (drop next text) (number + 1) a d q y) o e s (omega arith)
 
         pub going-more : endsSession (a .answer) ≡ false → {r : StepAt} → r ≡ stepAt.Value st next → StepEnds place (length text) r
             → Going p c text out₀ from line at run₀ o (a .run) next (number + 1) e
         going-more y {r} v w =
-            let more = answers-more p c run (drop place text) number some st (drop next text) (number + 1) a d q y in
+            let more = dispatched-more p c run (drop place text) number some st (drop next text) (number + 1) a d q y in
             let i = g .inside in
             record {
-              left = λ o′ e′ s′. g .left o′ e′ (rw more (stored-append s s′));
-              same-run =
-                  sym (ap (λ (d : Dispatched). d .run) (dispatched-more p c run (drop place text) number some st (drop next text) (number + 1) a d q y))
-                  ∙ g .same-run;
+              left = λ o′ e′ s′. g .left o′ e′ (rw (ap (λ (d : Dispatched). d .lines) more) (stored-append s s′));
+              same-run = sym (ap (λ (d : Dispatched). d .run) more) ∙ g .same-run;
               same = ap length (s .slice) ∙ put-length out end (answerLine (a .answer)) ∙ g .same;
               inside =
                   record {

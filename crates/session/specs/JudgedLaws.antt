@@ -1,4 +1,4 @@
--- What a session says by its plan's verdict: the answers to its steps from a run at its beginning (`judged-settled`), or the plan's one line
+-- What a session prints by its plan's verdict: the answers to its steps from a run at its beginning (`judged-settled`), or the plan's one line
 -- (`judged-refused`). A settled plan, its calendar and a run at its beginning are inside their limits (`judged-inside`). What is decided of an accepted plan
 -- makes it a judged one (`judged-decided`).
 
@@ -32,7 +32,7 @@ pub judged-decided : (p : Plan) → Accepted p → (v : Verdict) (c : Calendar) 
 judged-decided p a v c e d =
     record { accepted = a; verdict = e; calendar = d; inside = λ m t o. ap (isCalendar p) (d ∙ ap (madeCalendar p) o) ∙ made-inside p a m t o }
 
--- ---- what a judged session says
+-- ---- what a judged session prints
 
 module _ (p : Plan) (v : Verdict) (c : Calendar) (j : Judged p v c) where
   pub judged-inside : (w : VerdictTold) → w ≡ verdictTold v → (m : ℕ) → w ≡ told.Settled m → Inside p c newRun
@@ -43,7 +43,7 @@ module _ (p : Plan) (v : Verdict) (c : Calendar) (j : Judged p v c) where
       of (noStrategy K) d f = clash (cc)
       of unsettled d f = clash (cc)
 
-  -- by how its verdict is told
+  -- by its verdict: settled, or refused
   module _ (s : List ℕ) (n : ℕ) (w : VerdictTold) (d : w ≡ verdictTold v) where
     judged-told : toldSession p w c s n ≡ judgedSession p (outcome p) s n
     unfolding judgedSession

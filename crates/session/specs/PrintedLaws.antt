@@ -1,4 +1,4 @@
--- What `refused=4,K` tells back where the dispatch program prints it: no step is answered by 4 (`stepped-not-four`), and no other line begins like a
+-- What follows from `refused=4,K` where the dispatch program prints it: no step is answered by 4 (`stepped-not-four`), and no other line begins like a
 -- refusal, so its text began with a plan whose verdict is 'no strategy', K (`dispatch-told`).
 use Prim.Native.Nat.{ℕ}
 use mathlib.Core.Path.{_≡_, refl, sym, ap, _∙_}
@@ -49,7 +49,7 @@ use Rattle.session.specs.SessionLaws.{answers-refused, answers-first}
 
 -- ---- no step is answered by 4
 
-abbrev pub NotFour : Answer → Type 0
+abbrev NotFour : Answer → Type 0
 NotFour (Offered o) = Unit {0}
 NotFour (Started j i t) = Unit {0}
 NotFour (Final j i t) = Unit {0}

@@ -79,7 +79,7 @@ module _ (p : Plan) (c : Calendar) where
     dispatched-refused x part e = dispatched-read r s n h ∙ ap (λ (m : Reading Step). afterStep p c r m (dispatched p c)) e
 
     module _ (st : Step) (t : List ℕ) (m : ℕ) (a : Answered) (e : stepLine s n ≡ read st t m) (d : a ≡ stepped p c r st) where
-      -- the answer's line, and what is behind it
+      -- the answer's line, and what follows it
       by-end : Bool → Dispatched
       by-end b =
           let behind = cond b (record { lines = []; run = a .run }) (dispatched p c (a .run) t m) in

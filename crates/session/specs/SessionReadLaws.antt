@@ -1,7 +1,7 @@
 -- The laws of a session's text, read to its end. Its step lines are read one at a time: where nothing is left they are read (`stepLines-end`), a line that is
--- no step is the last (`stepLines-refused`), and else the lines behind it follow (`stepLines-more`). A plan that is refused has no steps behind it
--- (`stepsBehind-keeps`), so that `told-lines` and `told-verdict` of the crate `calendars` tell its refusal; and else the text is refused by what its step lines
--- come to (`sessionRead-settled`). `Walking` is the loop over the step lines.
+-- no step is the last (`stepLines-refused`), and else the lines after it follow (`stepLines-more`). A plan that is refused is followed by no steps
+-- (`stepsBehind-keeps`), so that its refusal is that of `told-lines` and `told-verdict` of the crate `calendars`; and else the text is read as its step lines
+-- are (`sessionRead-settled`). `Walking` is the loop over the step lines.
 use Prim.Native.Nat.{ℕ, zero, suc, _+_, _≤_, _<_}
 use mathlib.Core.Path.{_≡_, refl, sym, ap, subst, _∙_}
 use mathlib.Core.List.{List, [], _∷_}
@@ -115,7 +115,7 @@ module _ (text : List ℕ) (from line : ℕ) where
 
 -- ---- the whole text, by what the reader of its plan answered
 
--- the step lines behind a plan
+-- the step lines after a plan
 abbrev pub stepsBehind : Reading Plan → Reading Unit
 stepsBehind m = next m (λ p. stepLines)
 

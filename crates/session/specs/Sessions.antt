@@ -1,9 +1,8 @@
 -- The dispatch program's output (document 01, 'Offers and runs': 'Dispatch program: standard input is a plan followed by steps').
 use Prim.Native.Nat.{ℕ, zero, suc, _+_, _*_}
-use mathlib.Core.Bool.{Bool, true, false, cond}
+use mathlib.Core.Bool.{cond}
 use mathlib.Core.List.{List, [], _∷_, _++_}
 use lib.ListN.{length}
-use Rattle.text.specs.Numbers.{isEmpty}
 use Rattle.plan.specs.declared.Plan.{Plan}
 use Rattle.lines.specs.Reading.{longestText, Reading, read, refused}
 use Rattle.lines.specs.Refusals.{refusedLine}
@@ -24,7 +23,7 @@ use Rattle.session.specs.AnswerText.{answerLine, longestAnswer, endsSess
 
 -- ---- steps
 
--- what the steps of a text come to: their answer lines, and the run after them
+-- the steps of a text, answered: their answer lines, and the run after them
 pub record Dispatched : Type 0 where
   pub lines : List ℕ
   pub run : Run

@@ -19,7 +19,7 @@ abbrev pub stepTold : List ℕ → ℕ → ℕ → StepAt → Reading Step
 stepTold s at n (Value st next) = read st (drop next s) n
 stepTold s at n (Bad x) = refused x (drop at s)
 
--- why the line is refused; of a line that was read as a step nothing is told
+-- why the line is refused; of a line that was read as a step the value means nothing
 abbrev pub stepRefusal : StepAt → Refusal
 stepRefusal (Value st next) = Form 0
 stepRefusal (Bad x) = x

@@ -1,15 +1,13 @@
 -- Step lines, read (document 01, 'Offers and runs': 'steps, one line each: `ask=offer`, `start=T`, `start=auto` (the offer's lower end),
 -- `finish=T`; T is 0..100,000,000,000,000,000 on the run's clock').
 use Prim.Native.Nat.{ℕ}
-use Prim.Native.String.{String}
-use mathlib.Core.Bool.{Bool, true, false, cond}
-use mathlib.Core.List.{List, [], _∷_}
+use mathlib.Core.Bool.{Bool, false, cond}
+use mathlib.Core.List.{List}
 use mathlib.Core.Option.{Option, none, some}
-use lib.IntN.{ℤ, pos}
+use lib.IntN.{pos}
 use Rattle.text.specs.Bytes.{bytes}
 use Rattle.text.specs.Lines.{afterKey}
 use Rattle.text.specs.Numbers.{numberIn, isEmpty}
-use Rattle.lines.specs.declared.Fault.{Fault}
 use Rattle.lines.specs.declared.Fault.the-variants as fault
 use Rattle.text.specs.declared.Number.{Number}
 use Rattle.text.specs.declared.Number.the-variants as number

@@ -8,7 +8,7 @@
 use Prim.Native.Nat.{ℕ, _+_, _-_, _≤_, _<_}
 use mathlib.Core.Path.{_≡_, refl, sym, ap, _∙_}
 use mathlib.Core.Bool.{Bool, true, false, cond, false≢true}
-use mathlib.Core.List.{List, [], _∷_, _++_}
+use mathlib.Core.List.{List, [], _∷_}
 use mathlib.Core.Option.{Option, none, some}
 use native.Mathlib.Omega.{arith}
 use lib.IntN.{ℤ, pos}
@@ -22,7 +22,6 @@ use Rattle.whole.specs.Rules.{wholes}
 use Rattle.text.specs.Bytes.{bytes}
 use Rattle.text.specs.Lines.{nextLine, afterKey, isSome, hasKey}
 use Rattle.text.specs.LineLaws.{afterKey-split, hasKey-true, hasKey-false}
-use Rattle.text.specs.Numbers.{isEmpty}
 use Rattle.text.specs.NumberLaws.{numberIn-value, decimal-some}
 use Rattle.text.specs.declared.NumberFault.{NumberFault}
 use Rattle.lines.specs.declared.Fault.{Fault}
@@ -121,12 +120,12 @@ module _ (f : RunTime → Step) (s : List ℕ) where
   unfolding timed
   timed-bad x e = rw e
 
--- ---- what a step that was read tells
+-- ---- what is known of a step that was read
 
 -- its line has seven bytes at least, and its time is inside the limits
-pub record StepTold (l : List ℕ) (st : Step) : Type 0 where
-  pub least : 7 ≤ length l
-  pub timed : isStep st ≡ true
+record StepTold (l : List ℕ) (st : Step) : Type 0 where
+  least : 7 ≤ length l
+  timed : isStep st ≡ true
 
 -- the same of what follows a key
 record TimeTold (s : List ℕ) (st : Step) : Type 0 where
@@ -186,7 +185,7 @@ module _ (l : List ℕ) (st : Step) where
           record { least = omega (arith, isText-length (bytes "ask=offer") l h); timed = ap isStep g }
       of false h d = after-start (afterKey (bytes "start=") l) refl d
 
--- ---- a step at a place: next is the place behind its LF
+-- ---- a step at a place: next is the place after its LF
 
 nothing-read : (at len : ℕ) (x : Refusal) → StepEnds at len (stepAt.Bad x)
 nothing-read at len x =
@@ -197,7 +196,7 @@ nothing-read at len x =
     }
 
 module _ (s : List ℕ) (at n next : ℕ) (within : at ≤ length s) (end : next ≡ nextLine s at) where
-  abbrev pub ReadAs : StepAt → Type 0
+  abbrev ReadAs : StepAt → Type 0
   ReadAs r = (stepLine (drop at s) n ≡ stepTold s at (n + 1) r) × StepEnds at (length s) r
 
   pub stepAt-bare : length s < next → ReadAs (stepAt.Bad (Form n))

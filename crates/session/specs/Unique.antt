@@ -5,17 +5,12 @@ use Prim.Native.Nat.{ℕ}
 use lib.ListN.{length, take}
 use Rattle.text.specs.Unique.{only}
 use Rattle.text.specs.Lent.{written}
-use Rattle.session.specs.declared.StepLine.{StepLine}
 use Rattle.lines.specs.declared.Written.{Written}
 use Rattle.lines.specs.Whole.{writtenWhole}
 use Rattle.lines.specs.Unique.{whole-unique}
 use Rattle.lines.specs.Reading.{refusedNumber, refusedValue, faultyPart}
-use Rattle.session.specs.StepRead.{stepIn}
 use Rattle.session.specs.SessionRead.{sessionRead}
 use Rattle.session.specs.Sessions.{dispatchOutput, sessionAnswer}
-
-pub read-step-unique : (l : List ℕ) {r q : StepLine} → r ≡ stepIn l → q ≡ stepIn l → r ≡ q
-read-step-unique l = only
 
 pub answer-unique : (s out : List ℕ) {r q : Written} → r ≡ sessionAnswer s out → q ≡ sessionAnswer s out → r ≡ q
 answer-unique s out = only

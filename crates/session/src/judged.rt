@@ -15,7 +15,6 @@ ghost use Prim.Native.Nat.{_+_, _*_, _-_, _≤_};
 ghost use lib.ListN.{length, drop};
 ghost use Rattle.text.specs.Lent.{Stored, written};
 ghost use Rattle.lines.specs.Reading.{longestText};
-ghost use Rattle.lines.specs.Refusals.{refusedLine};
 ghost use Rattle.rounds.specs.Rounds.{outcome};
 ghost use Rattle.lines.specs.declared.TextAnswer.the-variants as planAnswer;
 ghost use Rattle.plan.specs.PlanLines.{planHead};
@@ -53,7 +52,8 @@ fn put_session(
     }
 }
 
-// The whole answer of a session whose plan was judged. It is measured first, on a part without places, unless the length of the steps tells that there is room.
+// The whole answer of a session whose plan was judged. Its length is measured first, on an empty part of the slice, unless the length of the steps shows that
+// there is room.
 fn write_session(
     text: &[u8],
     from: usize,

@@ -13,7 +13,7 @@ const LONGEST_ANSWER: usize = 56;
 pub const MOST_BYTES: usize = 7 * lines::LONGEST_TEXT + LONGEST_ANSWER;
 
 // A step line as it was read: the step, or what the line lacks.
-pub enum StepLine {
+enum StepLine {
     Value(Step),
     Bad(Fault),
 }
@@ -30,7 +30,7 @@ struct SessionPut {
     run: Run,
 }
 
-// What the step lines of a text come to: nothing refused, or the first refusal and where its line begins.
+// The step lines of a text, read: nothing is refused, or the first refusal and where its line begins.
 struct StepsRead {
     answer: TextAnswer,
     at: usize,
@@ -46,5 +46,4 @@ mod steps;
 
 pub use printed::answer_read;
 pub use program::answer;
-pub use read::read_step;
 pub use refused::refused_in_session;

@@ -1,4 +1,4 @@
-// Answer lines, written into a lent slice: each writer stores its line from a place on, as far as there is room, and answers the place behind it.
+// Answer lines, written into a lent slice: each writer stores its line from a place on, as far as there is room, and returns the place after it.
 use clock::RunTime;
 use runs::Answer;
 use runs::Offer;
@@ -6,16 +6,16 @@ ghost use mathlib.Core.Path.{_≡_};
 ghost use mathlib.Core.List.{[], _∷_, _++_};
 ghost use Prim.Native.Nat.{_+_, _^_, _≤_};
 ghost use Rattle.text.specs.Bytes.{bytes};
-ghost use Rattle.text.specs.Numbers.{digits, decimal};
+ghost use Rattle.text.specs.Numbers.{decimal};
 ghost use Rattle.text.specs.Lent.{Stored};
 ghost use Rattle.plan.specs.Limits.{mostJobs};
-ghost use Rattle.session.specs.AnswerText.{turnText, offerLine, answerLine, answerJob, longestAnswer, endsSession};
+ghost use Rattle.session.specs.AnswerText.{turnText, offerLine, answerLine, answerJob, longestTime, longestTurn, longestAnswer, endsSession};
 
-// A time, and the byte behind it.
+// A time, and the byte after it.
 fn put_ended_time(out: &mut [u8], at: usize, t: RunTime, end: u8) -> usize
     requires { ⌜ at ≤ 2 ^ 61 ⌝ }
     ensures { λ r. ⌜ Stored (now (out .entry)) at (decimal (t .0) ++ (end ∷ [])) (now (out .exit)) r ⌝ }
-    ensures { λ r. ⌜ r ≤ at + 21 ⌝ }
+    ensures { λ r. ⌜ r ≤ at + longestTime ⌝ }
 {
     let time = t.0;
     text::put_ended_number(out, at, time, end)
@@ -26,7 +26,7 @@ fn put_turn(out: &mut [u8], at: usize, j: u64, i: usize, t: RunTime) -> usize
     requires { ⌜ at ≤ 2 ^ 60 ⌝ }
     requires { ⌜ i ≤ mostJobs ⌝ }
     ensures { λ r. ⌜ Stored (now (out .entry)) at (turnText j i (t .0)) (now (out .exit)) r ⌝ }
-    ensures { λ r. ⌜ r ≤ at + 44 ⌝ }
+    ensures { λ r. ⌜ r ≤ at + longestTurn ⌝ }
 {
     let job = text::put_ended_count(out, at, j, b',');
     let time = text::put_ended_count(out, job, i as u64, b',');

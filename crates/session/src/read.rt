@@ -51,7 +51,7 @@ fn finish_in(s: &[u8]) -> StepLine
 }
 
 // The step that l is the line of, without its LF.
-pub fn read_step(l: &[u8]) -> StepLine
+fn read_step(l: &[u8]) -> StepLine
     ensures { λ r. ⌜ r ≡ stepIn (now (l .entry)) ⌝ }
 {
     if is_text(l, b"ask=offer") {

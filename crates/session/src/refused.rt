@@ -43,8 +43,8 @@ fn read_steps(text: &[u8], from: usize, line: usize) -> StepsRead
 }
 
 // What ends a session: the refusal of its plan, of its verdict, or of the first step line that is refused by 1 or 2. n and d become its number and its value,
-// and the faulty line is handed back as a part of the text, without its LF. The part is empty for 4 and 5; n, d and the part are 0, 0 and empty where every
-// line is taken.
+// and the faulty line is returned as a part of the text, without its LF. The part is empty for 4 and 5; n, d and the part are 0, 0 and empty where every line
+// is accepted.
 pub fn refused_in_session<'a>(text: &'a [u8], n: &mut u64, d: &mut u64) -> &'a [u8]
     ensures { λ r. ⌜ now r ≡ faultyPart (sessionRead (now (text .entry))) ⌝ }
     ensures { λ _. ⌜ now (n .exit) ≡ refusedNumber (sessionRead (now (text .entry))) ⌝ }

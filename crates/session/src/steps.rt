@@ -14,7 +14,9 @@ ghost use mathlib.Core.Path.{_≡_};
 ghost use Prim.Native.Nat.{_+_, _*_, _-_, _≤_};
 ghost use lib.ListN.{length, drop};
 ghost use Rattle.text.specs.Lent.{Stored};
+ghost use Rattle.lines.specs.Reading.{longestText};
 ghost use Rattle.runs.specs.Inside.{Inside};
+ghost use Rattle.session.specs.AnswerText.{longestAnswer};
 ghost use Rattle.session.specs.Sessions.{dispatched, answers};
 
 // The answers to the steps of a text from a place on, whose line has number line, from a run on, written from a place of out on; and the run after them. The
@@ -30,13 +32,13 @@ pub fn put_answers(
     at: usize,
 ) -> SessionPut
     requires { ⌜ from ≤ length (now text) ⌝ }
-    requires { ⌜ length (now text) ≤ 65536 ⌝ }
-    requires { ⌜ line ≤ 65537 ⌝ }
-    requires { ⌜ at ≤ 65536 ⌝ }
+    requires { ⌜ length (now text) ≤ longestText ⌝ }
+    requires { ⌜ line ≤ longestText + 1 ⌝ }
+    requires { ⌜ at ≤ longestText ⌝ }
     requires { ⌜ Inside p c run ⌝ }
     ensures { λ r. ⌜ Stored (now (out .entry)) at (answers p c run (drop from (now (text .entry))) line) (now (out .exit)) (r .end) ⌝ }
     ensures { λ r. ⌜ r .run ≡ dispatched p c run (drop from (now (text .entry))) line .run ⌝ }
-    ensures { λ r. ⌜ r .end + 7 * from ≤ at + 7 * length (now (text .entry)) + 56 ⌝ }
+    ensures { λ r. ⌜ r .end + 7 * from ≤ at + 7 * length (now (text .entry)) + longestAnswer ⌝ }
 {
     let mut phase = run.phase;
     let mut before = run.before;

@@ -1,4 +1,4 @@
--- `answer_judged`: from where the plan ended on the session says what its verdict says, by `head-accepted`.
+-- `answer_judged`: from where the plan ended on, what is printed follows from its verdict, by `head-accepted`.
 use native.Mathlib.Omega.{arith}
 use denote.Ref.{now}
 use Rattle.session.specs.HeadLaws.{HeadRead, head-accepted}

@@ -1,6 +1,6 @@
--- `put_session`: by how the verdict is told, `judged-settled`, `judged-refused`; a session begins with a new run.
+-- `put_session`: by the verdict, `judged-settled`, `judged-refused`; a session begins with a new run.
 use borrow.Author.Needs.{needs}
-use mathlib.Core.Path.{_≡_, sym, ap, subst, _∙_}
+use mathlib.Core.Path.{sym, ap, subst, _∙_}
 use native.Mathlib.Omega.{arith}
 use denote.Ref.{now}
 use lib.ListN.{drop}

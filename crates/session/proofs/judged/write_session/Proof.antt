@@ -1,5 +1,5 @@
--- `write_session`: what surely has room is written (`stored-whole`), all else by its measure (`measured-none`, `measured-whole`); where the writer
--- came to bounds the length (`wrote-within`).
+-- `write_session`: what surely has room is written (`stored-whole`), all else by its measure (`measured-none`, `measured-whole`); the place
+-- that the writer returns bounds the length (`wrote-within`).
 use mathlib.Core.Path.{refl}
 use native.Mathlib.Omega.{arith}
 use Rattle.lines.specs.WrittenLaws.{stored-whole, measured-none, measured-whole, wrote-within}

@@ -1,4 +1,4 @@
--- `put_ended_time`: the number of a time, and the byte behind it.
+-- `put_ended_time`: the number of a time, and the byte after it.
 use mathlib.Core.Path.{ap}
 use mathlib.Core.List.{[], _∷_, _++_}
 use lib.IntN.{ℤ}

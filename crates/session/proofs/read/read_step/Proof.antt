@@ -1,11 +1,9 @@
--- `read_step`: test by test, by the laws `stepIn-..`; a part behind a key is the rest of the line (`drop-rest`).
-use mathlib.Core.Path.{_≡_, sym, ap, _∙_}
-use mathlib.Core.Bool.{true, false}
+-- `read_step`: test by test, by the laws `stepIn-..`; a part after a key is the rest of the line (`drop-rest`).
+use mathlib.Core.Path.{sym, ap, _∙_}
 use denote.Ref.{now}
 use Rattle.text.specs.Bytes.{bytes}
-use Rattle.text.specs.Lines.{hasKey}
 use Rattle.text.specs.LineLaws.{hasKey-fits, drop-rest}
-use Rattle.session.specs.StepRead.{isText, startIn, finishIn}
+use Rattle.session.specs.StepRead.{startIn, finishIn}
 use Rattle.session.specs.StepReadLaws.{stepIn-ask, stepIn-start, stepIn-finish, stepIn-other}
 use borrow.Author.Needs.{needs}
 use Rattle.session.proofs.read.read_step.Statement.{statement}

@@ -1,4 +1,4 @@
--- `refused_in_session`: by what the reader of the plan answered and how the verdict is told, `told-lines`, `told-verdict`, and by the step lines,
+-- `refused_in_session`: by what the reader of the plan answered and by the verdict, `told-lines`, `told-verdict`, and by the step lines,
 -- `sessionRead-settled`.
 use mathlib.Core.Path.{refl, sym, ap, _∙_}
 use denote.Ref.{now}

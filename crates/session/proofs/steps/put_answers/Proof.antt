@@ -1,8 +1,7 @@
 -- `put_answers`: the invariant is `Going`, that whatever writes the answers that are left has written all of them, and that the run after them is the run
 -- after all; one law a way, `going-..`. A step is the same three calls as on values: whose turn it is, the answer, what it makes of the run.
-use Prim.Native.Nat.{ℕ, _+_, _-_, _≤_, _<_}
+use Prim.Native.Nat.{ℕ, _+_, _*_, _-_, _≤_, _<_}
 use mathlib.Core.Path.{_≡_, refl, sym, ap, subst, _∙_}
-use mathlib.Core.Bool.{Bool}
 use mathlib.Core.List.{List}
 use native.Mathlib.Omega.{arith}
 use denote.Ref.{now}
@@ -13,7 +12,7 @@ use mir.Facts.{toZ-ofZ}
 use Rattle.text.specs.Lent.{Stored}
 use Rattle.lines.specs.declared.Refusal.{Refusal}
 use Rattle.plan.specs.Limits.{mostJobs}
-use Rattle.lines.specs.Reading.{read, refused}
+use Rattle.lines.specs.Reading.{longestText, read, refused}
 use Rattle.plan.specs.PlanLines.{noJob}
 use Rattle.lines.specs.WrittenLaws.{stored-as}
 use Rattle.calendars.specs.Calendars.{noTerms}
@@ -24,7 +23,7 @@ use Rattle.runs.specs.declared.Step.{Step}
 use Rattle.runs.specs.declared.Turn.{Turn}
 use Rattle.runs.specs.ValueLimits.{jobOfPhase}
 use Rattle.runs.specs.Offers.{turnOf}
-use Rattle.runs.specs.Steps.{answerAt, answerOf, moved, stepped}
+use Rattle.runs.specs.Steps.{answerAt, moved, stepped}
 use Rattle.runs.specs.Inside.{runOf, StepInside}
 use Rattle.runs.specs.InsideLaws.{inside-step, inside-move, inside-job}
 use Rattle.runs.specs.StepLaws.{turnOf-made, moved-made}
@@ -75,7 +74,7 @@ module _ (l : tie.At-loop Inv-loop μ-loop) where
   abbrev rest : List ℕ
   rest = drop (l .loop .place) (now (start .args .text))
 
-  near : l .loop .end ≤ 1000000
+  near : l .loop .end ≤ 8 * longestText
   near = omega (arith, l .loop .inv .near, l .loop .inv .placed, start .pre)
 
 -- a line that is no step: its reading, and the loop that it ends
