@@ -1,6 +1,6 @@
 """The theorems that the pages name. Each is stated: in a file that its paragraph or row names, if that names one; what docs/DEMAND-3.md names may stand in
 `Theorems` and on the front page too. Of the table of demand 3 each theorem, up to a semicolon, is on the front page and there stated of an accepted plan;
-behind 'of any plan' it is there without that premise; and what it says, with the modules around it, is what the page's last section has of it, word by word.
+after 'of any plan' it is there without that premise; and what it says, with the modules around it, is what the page's last section has of it, word by word.
 And each theorem of the front page has its name on a page, so that none is lost unseen."""
 import re
 
@@ -10,9 +10,10 @@ THEOREM = re.compile(r"[A-Za-z0-9]+(-[A-Za-z0-9′]+)+$")
 DEMAND = 'docs/DEMAND-3.md'
 FRONT = 'crates/promises/specs/'
 STRATEGY = 'crates/strategy/specs/'
+ANY = 'of any plan,'
 
 # What demand 3 cannot be without.
-LEAST = {'settled-means', 'no-strategy-means', 'offer-not-empty', 'offer-exact', 'on-offer-taken', 'inside-final', 'no-run-missing', 'all-kept'}
+LEAST = {'settled-means', 'no-strategy-means', 'offer-not-empty', 'offer-exact', 'step-effect', 'on-offer-taken', 'inside-final', 'no-run-missing', 'all-kept'}
 
 
 def coded(text):
@@ -87,10 +88,10 @@ def section(page, number):
 
 
 def demanded(page):
-    """The theorems of the table of demand 3, each with whether it is to be stated of an accepted plan: behind 'of any plan' it is not."""
+    """The theorems of the table of demand 3, each with whether it is to be stated of an accepted plan: after 'of any plan' it is not."""
     table = [line.strip('| ').split(' | ') for line in section(page, 2).split('\n') if re.match(r'\| (?!the demand)', line)]
-    parts = [(at, part) for row in table for at, part in enumerate(row[-1].split(';'))]
-    return [(name, at == 0) for at, part in parts if at == 0 or part.startswith(' of any plan,') for name in coded(part)]
+    parts = [(at, part.strip()) for row in table for at, part in enumerate(row[-1].split(';'))]
+    return [(name, not part.startswith(ANY)) for at, part in parts if at == 0 or part.startswith(ANY) for name in coded(part)]
 
 
 def whole(page):

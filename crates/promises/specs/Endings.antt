@@ -31,9 +31,8 @@ use Rattle.calendars.specs.Calendars.{calendar}
 use Rattle.calendars.specs.CalendarText.{outcomeText, answered, calendarOutput}
 use Rattle.runs.specs.declared.Run.{Run}
 use Rattle.runs.specs.declared.Step.{Step}
-use Rattle.runs.specs.Steps.{newRun, stepped}
-use Rattle.strategy.specs.Reaching.{afterSteps}
-use Rattle.strategy.specs.StepsLaws.{afterSteps-more}
+use Rattle.runs.specs.Steps.{newRun, stepped, afterSteps}
+use Rattle.runs.specs.StepEffectLaws.{afterSteps-more}
 use Rattle.session.specs.StepRead.{stepLine}
 use Rattle.session.specs.AnswerText.{answerLine, endsSession}
 use Rattle.session.specs.Sessions.{dispatchedWithin, answers, judgedSession, sessionOf, dispatchOutput}

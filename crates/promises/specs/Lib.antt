@@ -13,5 +13,6 @@ pub mod OnValues
 pub mod ValueRuns
 pub mod Demands
 pub mod Printed
+pub mod Worked
 pub mod Endings
 pub mod Uniqueness

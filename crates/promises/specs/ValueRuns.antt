@@ -14,13 +14,13 @@ use Rattle.calendars.specs.Calendars.{calendar}
 use Rattle.runs.specs.declared.Run.{Run}
 use Rattle.runs.specs.declared.Step.{Step}
 use Rattle.runs.specs.declared.Answered.{Answered}
-use Rattle.runs.specs.Steps.{newRun, isStep, step}
+use Rattle.runs.specs.Steps.{newRun, isStep, step, afterValues}
 use Rattle.runs.specs.Inside.{Inside}
 use Rattle.runs.specs.ValueStepLaws.{step-inside, step-outside}
 use Rattle.runs.specs.KeepsLaws.{newRun-is, step-keeps}
 use Rattle.runs.specs.MadeLaws.{made-inside}
-use Rattle.strategy.specs.Reaching.{begun, afterValues, ReachedWith}
-use Rattle.strategy.specs.StepsLaws.{step-reached}
+use Rattle.strategy.specs.Reaching.{begun, ReachedWith}
+use Rattle.strategy.specs.ReachingLaws.{step-reached}
 
 pub record InsideReached (p : Plan) (c : Calendar) (r : Run) : Type 0 where
   pub inside : Inside p c r

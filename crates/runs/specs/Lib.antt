@@ -18,6 +18,7 @@ pub mod StepLaws
 pub mod ValueStepLaws
 pub mod InsideLaws
 pub mod AnswerLaws
+pub mod StepEffectLaws
 pub mod OfferLaws
 pub mod KeepsLaws
 pub mod MadeLaws

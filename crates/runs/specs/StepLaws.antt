@@ -1,9 +1,10 @@
 -- Steps, one case after the other, as the code takes them: whose turn it is (`turnOf-made`); a run from its parts (`moved-made`); a finish
 -- (`finished-on`, `finished-off`); an opening by its phase (`opening-over`, `opening-waiting`, `opening-running`); the answer by the kind of step
--- (`answer-ask`, `answer-start`, `answer-idle`, `answer-finish`). A refusal leaves the run as it was (`stepped-stays`, `step-stays`). Steps on values are
+-- (`answer-ask`, `answer-start`, `answer-idle`, `answer-finish`). A refusal leaves the run as it was (`stepped-stays`, `step-stays`), and so does an
+-- ask (`ask-stays`). Steps on values are
 -- in `ValueStepLaws`.
 use Prim.Native.Nat.{ℕ, _-_, _≤_, _<_}
-use mathlib.Core.Path.{_≡_, sym, _∙_}
+use mathlib.Core.Path.{_≡_, refl, sym, _∙_}
 use mathlib.Core.Bool.{true, false}
 use mathlib.Core.List.{List}
 use lib.IntN.{ℤ, _+ℤ_}
@@ -32,7 +33,8 @@ use Rattle.runs.specs.declared.Moved.{Moved}
 use Rattle.runs.specs.declared.Choice.{Choice}
 use Rattle.runs.specs.declared.Step.{Step}
 use Rattle.runs.specs.declared.Step.the-variants.{Ask, Start, Finish}
-use Rattle.runs.specs.declared.Opening.the-variants.{Shut}
+use Rattle.runs.specs.declared.Opening.{Opening}
+use Rattle.runs.specs.declared.Opening.the-variants.{Open, Shut}
 use Rattle.runs.specs.Offers.{turnOf, offerAt, opened, openingAt}
 use Rattle.runs.specs.Steps.{asked, started, finishedSince, finished, answerAt, moved, stepped, step}
 use Rattle.runs.specs.Inside.{runOf, movedOf, FinishInside}
@@ -111,3 +113,12 @@ stepped-stays p c r st x e = refused-stays (p .jobs) r _ x e
 
 pub step-stays : (p : Plan) (c : Calendar) (r : Run) (st : Step) (x : Refusal) → step p c r st .answer ≡ Refused x → step p c r st .run ≡ r
 step-stays p c r st x e = refused-stays (p .jobs) r _ x e
+
+asked-stays : (jobs : ℕ) (r : Run) (o : Opening) → moved jobs r (asked o) ≡ r
+unfolding moved asked
+asked-stays jobs r (Open j i o) = refl
+asked-stays jobs r (Shut x) = refl
+
+pub ask-stays : (p : Plan) (c : Calendar) (r : Run) → stepped p c r Ask .run ≡ r
+unfolding answerAt
+ask-stays p c r = asked-stays (p .jobs) r _

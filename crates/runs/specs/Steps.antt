@@ -2,10 +2,11 @@
 -- answer makes of a run is a definition of its own; and a step is the one and then the other.
 use Prim.Native.Nat.{ℕ, _+_, _*_, _-_}
 use mathlib.Core.Bool.{Bool, true, false, cond, _&&_}
-use mathlib.Core.List.{List}
+use mathlib.Core.List.{List, [], _∷_}
 use mathlib.Core.Option.{Option, none, some}
 use lib.Dec.{ltb}
 use lib.IntN.{ℤ, pos, _+ℤ_}
+use lib.Signed.{_≤ℤ_}
 use lib.ListN.{replicate}
 use Rattle.text.specs.Numbers.{within}
 use Rattle.clock.specs.declared.RunTime.{RunTime}
@@ -77,6 +78,10 @@ answerOf p c r st = answerAt (turnOf p c (jobOfPhase (r .phase))) (c .«at_least
 abbrev pub newRun : Run
 newRun = record { phase = Waiting 1 1; before = Nothing; seen = replicate mostEvents (pos 0) }
 
+-- job i of window j has started at t
+abbrev pub runningSince : Run → ℕ → ℕ → RunTime → Run
+runningSince r j i t = record { phase = Running j i t; before = r .before; seen = r .seen }
+
 -- the job that runs since s has finished at t, and the run moves on: to the window's next job, or to the next window, for which this one is the previous window
 abbrev pub closedSince : ℕ → Run → ℕ → ℕ → RunTime → RunTime → Run
 closedSince jobs r j i s t =
@@ -92,7 +97,7 @@ closed jobs r t (Running j i s) = closedSince jobs r j i s t
 -- a start and a finish move the run; an offer leaves it; of refusals: 'None changes the run'
 unfoldable pub moved : ℕ → Run → Answer → Run
 moved jobs r (Offered o) = r
-moved jobs r (Started j i t) = record { phase = Running j i t; before = r .before; seen = r .seen }
+moved jobs r (Started j i t) = runningSince r j i t
 moved jobs r (Final j i t) = closed jobs r t (r .phase)
 moved jobs r (Refused x) = r
 
@@ -131,3 +136,27 @@ valuesAnswer p c r st =
 
 abbrev pub step : Plan → Calendar → Run → Step → Answered
 step p c r st = answeredBy p r (valuesAnswer p c r st)
+
+-- ---- which starts and which finishes are taken, as propositions
+
+-- 'both ends included'
+pub record OnOffer (o : Offer) (t : ℤ) : Type 0 where
+  pub least : o .from .0 ≤ℤ t
+  pub most : t ≤ℤ o .to .0
+
+-- a finish at t of a job that runs since s is neither 'earlier than start + min' nor 'later than start + max'
+pub record InTimes (job : Job) (s t : ℤ) : Type 0 where
+  pub least : (s +ℤ job .min) ≤ℤ t
+  pub most : t ≤ℤ (s +ℤ job .max)
+
+-- ---- sessions: 'a plan followed by steps'
+
+-- the run after the steps of a session, whatever is answered to them
+unfoldable pub afterSteps : Plan → Calendar → Run → List Step → Run
+afterSteps p c r [] = r
+afterSteps p c r (st ∷ sts) = afterSteps p c (stepped p c r st .run) sts
+
+-- and after steps on values, which `ask`, `start_at`, `start_auto` and `finish_at` answer
+unfoldable pub afterValues : Plan → Calendar → Run → List Step → Run
+afterValues p c r [] = r
+afterValues p c r (st ∷ sts) = afterValues p c (step p c r st .run) sts

@@ -5,6 +5,7 @@ pub mod StepRead
 pub mod AnswerText
 pub mod Sessions
 pub mod SessionRead
+pub mod Taken
 -- ---- what the code works with
 pub mod StepAt
 pub mod Judged
@@ -14,6 +15,7 @@ pub mod AnswerTextLaws
 pub mod AnswerJobLaws
 pub mod EndLaws
 pub mod SessionLaws
+pub mod TakenLaws
 pub mod SessionReadLaws
 pub mod GoingLaws
 pub mod PrintedLaws

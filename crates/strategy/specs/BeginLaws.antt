@@ -9,6 +9,7 @@ use native.Mathlib.Nat.{zero-add}
 use native.Mathlib.Omega.{arith}
 use lib.ListN.{length}
 use Rattle.plan.specs.declared.Plan.{Plan}
+use Rattle.plan.specs.Accepted.{Accepted}
 use Rattle.bounds.specs.Events.{nodes}
 use Rattle.bounds.specs.Tables.{Rows, at, contradiction, bounds}
 use Rattle.bounds.specs.Elimination.{eliminated}
@@ -17,7 +18,6 @@ use Rattle.rounds.specs.Given.{ownBounds}
 use Rattle.strategy.specs.Histories.{History, seenFrom}
 use Rattle.strategy.specs.Strategies.{Kept, Forced, Strategy, StrategyFor}
 use Rattle.strategy.specs.Keeping.{Keeps, Timely, Extreme, Anchored}
-use Rattle.strategy.specs.Soundness.{Sound}
 use Rattle.strategy.specs.HistoryLaws.{forced-map, forced-split, forced-join, Fails, fails-before, fails-map}
 use Rattle.strategy.specs.PlaceLaws.{Tidy, thenSet-none, elim-tidy, elim-back, elim-none}
 use Rattle.strategy.specs.GivenLaws.{All, BetweenKept}
@@ -27,7 +27,7 @@ use Rattle.strategy.specs.KeptLaws.{Always, held-none, held-one, Punctua
 use Rattle.strategy.specs.JoinedLaws.{C0-none, Both, joined-tidy, joined-keeps, joined-none}
 use Rattle.strategy.specs.RoundLaws.{C, strategy-kept, C-tidy, C-held, strategy-both, strategy-keeps, keeps-strategy, more-windows}
 
-module _ (p : Plan) (sound : Sound p) where
+module _ (p : Plan) (good : Accepted p) where
   pub nothing-punctual : Punctual p []
   nothing-punctual k h = absurd (omega arith)
 
@@ -43,14 +43,14 @@ module _ (p : Plan) (sound : Sound p) where
   -- no strategy where every first window of some kind fails
   fails-first : (Q : History → Type 0) → Fails p (p .jobs) Q → Forced p Q (p .jobs) [] → ⊥
   fails-first Q f q =
-      let g = fails-before p sound Q 0 (p .jobs) (subst (λ k. Fails p k Q) (sym (zero-add (p .jobs))) f) in
+      let g = fails-before p good Q 0 (p .jobs) (subst (λ k. Fails p k Q) (sym (zero-add (p .jobs))) f) in
       g .1 [] refl (nothing-extreme (g .0)) q
 
   -- a strategy from the beginning, as a game of the first window
   first-window : (m : ℕ) → StrategyFor p (suc m) → Forced p (λ h. Strategy p h (m * p .jobs) × Punctual p h) (p .jobs) []
   first-window m s =
-      forced-punctual p sound (λ h. Strategy p h (m * p .jobs)) (λ h q. strategy-kept p sound (m * p .jobs) h q) (p .jobs) [] nothing-punctual
-      (forced-split p (Kept p) (p .jobs) (m * p .jobs) [] (subst (λ g. Strategy p [] g) (more-windows p sound m) s))
+      forced-punctual p good (λ h. Strategy p h (m * p .jobs)) (λ h q. strategy-kept p good (m * p .jobs) h q) (p .jobs) [] nothing-punctual
+      (forced-split p (Kept p) (p .jobs) (m * p .jobs) [] (subst (λ g. Strategy p [] g) (more-windows p good m) s))
 
   -- ---- contradictions
 
@@ -60,26 +60,26 @@ module _ (p : Plan) (sound : Sound p) where
   round-none m c0 c e0 e none =
       ⊎-elim
       (λ (j : joined p c0 c ≡ contradiction).
-      fails-map p sound _ _ (p .jobs) two-windows
-      (fails-before p sound (Both p c0 c) (p .jobs) (p .jobs) (joined-none p sound c0 c e0 anchored j)))
+      fails-map p good _ _ (p .jobs) two-windows
+      (fails-before p good (Both p c0 c) (p .jobs) (p .jobs) (joined-none p good c0 c e0 anchored j)))
       (λ (r : (t : Rows) × (joined p c0 c ≡ bounds t) × (eliminated p (p .jobs) (p .jobs) t ≡ contradiction)).
-      fails-map p sound _ _ (p .jobs)
+      fails-map p good _ _ (p .jobs)
       (λ h n old q.
       forced-map p _ _ (p .jobs) h
-      (λ u f b. let size = f .size in joined-keeps p sound c0 c e0 anchored (r .0) (r .1) u (omega arith) b)
+      (λ u f b. let size = f .size in joined-keeps p good c0 c e0 anchored (r .0) (r .1) u (omega arith) b)
       (two-windows h n old q))
-      (elim-none p sound (p .jobs) (p .jobs) (r .0) (omega arith) (joined-tidy p sound c0 c e0 anchored (r .0) (r .1)) (r .2)))
+      (elim-none p good (p .jobs) (p .jobs) (r .0) (omega arith) (joined-tidy p good c0 c e0 anchored (r .0) (r .1)) (r .2)))
       (thenSet-none (joined p c0 c) (eliminated p (p .jobs) (p .jobs)) none)
     where
       anchored : Anchored p (nodes (p .jobs)) (at c)
-      anchored = C-tidy p sound m c e .anchored
+      anchored = C-tidy p good m c e .anchored
 
       two-windows : (h : History) → length h ≡ p .jobs → Timely p h → Strategy p h (suc m * p .jobs) × Punctual p h
           → Forced p (Both p c0 c) (p .jobs) h
       two-windows h n old q =
           subst (Forced p (Both p c0 c) (p .jobs)) (seen-all p h)
-          (strategy-both p sound m c0 c e0 e 0 0 (p .jobs) (omega arith) h (omega arith) old (q .1) (strategy-keeps p sound m c e)
-          (subst (λ g. Strategy p h g) (more-windows p sound m) (q .0)))
+          (strategy-both p good m c0 c e0 e 0 0 (p .jobs) (omega arith) h (omega arith) old (q .1) (strategy-keeps p good m c e)
+          (subst (λ g. Strategy p h g) (more-windows p good m) (q .0)))
 
   pub begin-none : (m : ℕ) (c0 c : Rows) → C0 p ≡ bounds c0 → C p m ≡ bounds c → round p c0 c ≡ contradiction → StrategyFor p (suc (suc m)) → ⊥
   begin-none m c0 c e0 e none s = fails-first _ (round-none m c0 c e0 e none) (first-window (suc m) s)
@@ -87,19 +87,19 @@ module _ (p : Plan) (sound : Sound p) where
   pub begin-own : C0 p ≡ contradiction → StrategyFor p 1 → ⊥
   begin-own none s =
       fails-first _
-      (fails-map p sound _ (λ h. Strategy p h (0 * p .jobs) × Punctual p h) (p .jobs)
+      (fails-map p good _ (λ h. Strategy p h (0 * p .jobs) × Punctual p h) (p .jobs)
       (λ h n old q.
       subst (λ h. All (BetweenKept h) (ownBounds p)) (seen-all p h)
-      (held-own p sound (seenFrom p 0 h) (held-of p h (strategy-kept p sound (0 * p .jobs) h (q .0)) (q .1) 0)
+      (held-own p good (seenFrom p 0 h) (held-of p h (strategy-kept p good (0 * p .jobs) h (q .0)) (q .1) 0)
       (subst (Timely p) (sym (seen-all p h)) old) (subst (λ h. p .jobs ≤ length h) (sym (seen-all p h)) (omega arith))))
-      (C0-none p sound none))
+      (C0-none p good none))
       (first-window 0 s)
 
   -- ---- one window alone
 
   module _ (m : ℕ) (c : Rows) (e : C p m ≡ bounds c) where
     alone-tidy : Tidy p (nodes (0 + p .jobs)) c
-    alone-tidy = subst (λ k. Tidy p (nodes k) c) (sym (zero-add (p .jobs))) (C-tidy p sound m c e)
+    alone-tidy = subst (λ k. Tidy p (nodes k) c) (sym (zero-add (p .jobs))) (C-tidy p good m c e)
 
     nothing : (t : Rows) → Tidy p (nodes 0) t → Keeps (nodes 0) (at t) []
     nothing t tidy y z a b =
@@ -111,13 +111,13 @@ module _ (p : Plan) (sound : Sound p) where
     pub begin-game : (t : Rows) → eliminated p 0 (p .jobs) c ≡ bounds t → Forced p (Keeps (nodes (p .jobs)) (at c)) (p .jobs) []
     begin-game t left =
         subst (λ k. Forced p (Keeps (nodes k) (at c)) (p .jobs) []) (zero-add (p .jobs))
-        (elim-back p sound 0 (p .jobs) c t (omega arith) alone-tidy left [] refl nothing-timely
-        (nothing t (elim-tidy p sound 0 (p .jobs) c t (omega arith) alone-tidy left)))
+        (elim-back p good 0 (p .jobs) c t (omega arith) alone-tidy left [] refl nothing-timely
+        (nothing t (elim-tidy p good 0 (p .jobs) c t (omega arith) alone-tidy left)))
 
     -- times of the first window that keep C(m) keep the plan's bounds
     pub first-held : (c0 : Rows) → C0 p ≡ bounds c0 → (h : History) → length h ≡ p .jobs → Timely p h → Keeps (nodes (p .jobs)) (at c) h → Always p (Held p) h
     first-held c0 e0 h n old kept =
-        held-one p h (omega arith) (subst (Held p) (sym (seen-all p h)) (C-held p sound m c e c0 e0 h n old kept))
+        held-one p h (omega arith) (subst (Held p) (sym (seen-all p h)) (C-held p good m c e c0 e0 h n old kept))
 
     -- after i jobs of the first window, with g to go
     module _ (i g : ℕ) (ig : i + g ≡ p .jobs) (h : History) (n : length h ≡ i) (old : Timely p h) where
@@ -129,7 +129,7 @@ module _ (p : Plan) (sound : Sound p) where
           let size = f .size in
           let old′ = f .timely old in
           let all = first-held c0 e0 h′ (omega arith) old′ kept in
-          keeps-strategy p sound m c e 0 h′ (omega arith) old′ (punctual-of p h′ all) (kept-of p h′ all)
+          keeps-strategy p good m c e 0 h′ (omega arith) old′ (punctual-of p h′ all) (kept-of p h′ all)
           (subst (Keeps (nodes (p .jobs)) (at c)) (sym (seen-all p h′)) kept))
           q)
 
@@ -139,18 +139,18 @@ module _ (p : Plan) (sound : Sound p) where
           (λ h′ f q.
           let size = f .size in
           subst (Keeps (nodes (p .jobs)) (at c)) (seen-all p h′)
-          (strategy-keeps p sound m c e 0 h′ (omega arith) (f .timely old) (q .1) (q .0)))
-          (forced-punctual p sound (λ h. Strategy p h (m * p .jobs)) (λ h q. strategy-kept p sound (m * p .jobs) h q) g h room
+          (strategy-keeps p good m c e 0 h′ (omega arith) (f .timely old) (q .1) (q .0)))
+          (forced-punctual p good (λ h. Strategy p h (m * p .jobs)) (λ h q. strategy-kept p good (m * p .jobs) h q) g h room
           (forced-split p (Kept p) g (m * p .jobs) h s))
 
     pub begin-alone : eliminated p 0 (p .jobs) c ≡ contradiction → StrategyFor p (suc m) → ⊥
     begin-alone none s =
-        let f = elim-none p sound 0 (p .jobs) c (omega arith) alone-tidy none in
+        let f = elim-none p good 0 (p .jobs) c (omega arith) alone-tidy none in
         f .1 [] refl (nothing-extreme (f .0))
         (subst (λ k. Forced p (Keeps (nodes k) (at c)) (p .jobs) []) (sym (zero-add (p .jobs)))
-        (strategy-first 0 (p .jobs) (omega arith) [] refl nothing-timely nothing-punctual (subst (λ g. Strategy p [] g) (more-windows p sound m) s)))
+        (strategy-first 0 (p .jobs) (omega arith) [] refl nothing-timely nothing-punctual (subst (λ g. Strategy p [] g) (more-windows p good m) s)))
 
     pub begin-strategy : (c0 t : Rows) → C0 p ≡ bounds c0 → eliminated p 0 (p .jobs) c ≡ bounds t → StrategyFor p (suc m)
     begin-strategy c0 t e0 left =
-        subst (λ g. Strategy p [] g) (sym (more-windows p sound m))
+        subst (λ g. Strategy p [] g) (sym (more-windows p good m))
         (first-strategy 0 (p .jobs) (omega arith) [] refl nothing-timely c0 e0 (begin-game t left))

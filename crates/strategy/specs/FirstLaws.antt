@@ -14,6 +14,7 @@ use Rattle.plan.specs.declared.Kind.the-variants as kind
 use Rattle.plan.specs.declared.Bound.{Bound}
 use Rattle.plan.specs.declared.Plan.{Plan}
 use Rattle.plan.specs.EventNames.{isNext}
+use Rattle.plan.specs.Accepted.{BoundAccepted, Accepted}
 use Rattle.bounds.specs.declared.Event.the-variants.{Start, Finish}
 use Rattle.bounds.specs.declared.Judgement.{Judgement}
 use Rattle.bounds.specs.declared.Judgement.the-variants.{Contradiction, LeftOut, Kept}
@@ -23,10 +24,9 @@ use Rattle.bounds.specs.BuildLaws.{both-true}
 use Rattle.bounds.specs.Elimination.{startCell, withoutFinish, withoutStart, withoutPlace, eliminated}
 use Rattle.rounds.specs.Given.{placeOf, eventAt, betweenBounds}
 use Rattle.rounds.specs.Rounds.{C0, ownNodes, moved, onNext, joined}
-use Rattle.strategy.specs.Soundness.{Sound}
 use Rattle.strategy.specs.SetLaws.{judgedSet-at}
 use Rattle.strategy.specs.PlaceLaws.{thenSet-bounds}
-use Rattle.strategy.specs.GivenLaws.{listed-sound, All, across-all, all-first, all-others}
+use Rattle.strategy.specs.GivenLaws.{listed-accepted, listed-one-this, All, across-all, all-first, all-others}
 use Rattle.strategy.specs.WindowLaws.{place-this}
 use Rattle.strategy.specs.JoinedLaws.{C0-tidy, C0-past, nextNode, next-later, onNext-next, joinedCell}
 use Rattle.strategy.specs.RoundLaws.{C, Round, round-parts}
@@ -51,7 +51,7 @@ leastOf-off y z [] h = refl
 leastOf-off y z (b ∷ bs) h =
     skipped y z b (leastOf bs y z) _ refl (all-first (Elsewhere y z) b bs h) ∙ leastOf-off y z bs (all-others (Elsewhere y z) b bs h)
 
-module _ (p : Plan) (sound : Sound p) where
+module _ (p : Plan) (good : Accepted p) where
   next-far : (y k : ℕ) → k ≡ nextNode p y → 0 < k → k ≤ ownNodes p → ⊥
   next-far zero k e lo hi = omega arith
   next-far (suc y) k e lo hi = let n = next-later p (suc y) (omega arith) in omega arith
@@ -67,21 +67,21 @@ module _ (p : Plan) (sound : Sound p) where
       leastOf-off (nextNode p y) (nextNode p z) (betweenBounds p)
       (across-all (Elsewhere (nextNode p y) (nextNode p z)) p
       (record {
-        ordered = λ a b. let j = sound .some-job in next-far z (finishNode (p .jobs - 1)) b (omega arith) (omega arith);
+        ordered = λ a b. let j = good .jobs-least in next-far z (finishNode (p .jobs - 1)) b (omega arith) (omega arith);
         given =
             λ d m n a b.
-            let s = listed-sound p sound d m in
-            given-at d (isNext (d .a .letter)) refl s a b;
+            let s = listed-accepted p good d m in
+            given-at d (isNext (d .a .letter)) refl s (listed-one-this p good d m) a b;
       }))
     where
-      given-at : (d : Bound) (t : Bool) → isNext (d .a .letter) ≡ t → Rattle.strategy.specs.Soundness.SoundBound p d
+      given-at : (d : Bound) (t : Bool) → isNext (d .a .letter) ≡ t → BoundAccepted (p .jobs) d → (isNext (d .a .letter) ≡ true → isNext (d .b .letter) ≡ false)
           → nodeOf (eventAt (d .b .kind) (placeOf p (d .b .letter) (d .b .job))) ≡ nextNode p y
           → nodeOf (eventAt (d .a .kind) (placeOf p (d .a .letter) (d .a .job))) ≡ nextNode p z → ⊥
-      given-at d true e s a b =
-          let r = this-node (d .b .kind) _ (place-this p (d .b .letter) (d .b .job) (s .one-this e) (s .b .least) (s .b .most)) in
+      given-at d true e s one a b =
+          let r = this-node (d .b .kind) _ (place-this p (d .b .letter) (d .b .job) (one e) (s .b-least) (s .b-most)) in
           next-far y _ a (r .0) (r .1)
-      given-at d false e s a b =
-          let r = this-node (d .a .kind) _ (place-this p (d .a .letter) (d .a .job) e (s .a .least) (s .a .most)) in
+      given-at d false e s one a b =
+          let r = this-node (d .a .kind) _ (place-this p (d .a .letter) (d .a .job) e (s .a-least) (s .a-most)) in
           next-far z _ b (r .0) (r .1)
 
   -- ---- sets that were judged already
@@ -116,16 +116,16 @@ module _ (p : Plan) (sound : Sound p) where
   unfolding C C0 joined
   C-judged zero c e = judged-judged (nodes (p .jobs)) _ c e
   C-judged (suc m) c e =
-      let r = round-parts p sound m c e in
+      let r = round-parts p good m c e in
       elim-judged (p .jobs) (p .jobs) (r .both) c (judged-judged (nodes (p .jobs + p .jobs)) _ (r .both) (r .both-is)) (r .left-is)
 
   -- ---- the set that a round starts with
 
   module _ (c0 c : Rows) (c0-is : C0 p ≡ bounds c0) (c-judged : Judged (nodes (p .jobs)) c) (t : Rows) (t-is : joined p c0 c ≡ bounds t) where
     own-off : (y z : ℕ) → at c0 (nextNode p y) (nextNode p z) ≡ off
-    own-off zero zero = C0-tidy p sound c0 c0-is .diagonal 0 (omega arith)
-    own-off zero (suc z) = let n = next-later p (suc z) (omega arith) in C0-past p sound c0 c0-is 0 (nextNode p (suc z)) (inr (omega arith))
-    own-off (suc y) z = let n = next-later p (suc y) (omega arith) in C0-past p sound c0 c0-is (nextNode p (suc y)) (nextNode p z) (inl (omega arith))
+    own-off zero zero = C0-tidy p good c0 c0-is .diagonal 0 (omega arith)
+    own-off zero (suc z) = let n = next-later p (suc z) (omega arith) in C0-past p good c0 c0-is 0 (nextNode p (suc z)) (inr (omega arith))
+    own-off (suc y) z = let n = next-later p (suc y) (omega arith) in C0-past p good c0 c0-is (nextNode p (suc y)) (nextNode p z) (inl (omega arith))
 
     alone-cell : (x : Cell) → least off (least x off) ≡ x
     unfolding least
@@ -149,7 +149,7 @@ module _ (p : Plan) (sound : Sound p) where
         ∙ kept-plus (judgement p y z (at c y z)) (at c y z) (moved p z -ℤ moved p y)
         ∙ ap (shifted p y z) (c-judged y z a b)
 
-  pub round-alone : (m : ℕ) (c : Rows) (r : Round p sound m c) → (t : Rows) × (eliminated p 0 (p .jobs) (r .before) ≡ bounds t)
+  pub round-alone : (m : ℕ) (c : Rows) (r : Round p good m c) → (t : Rows) × (eliminated p 0 (p .jobs) (r .before) ≡ bounds t)
   round-alone m c r =
       elim-shifted p (p .jobs) (r .before) (r .both) (omega arith)
       (joined-shifted (r .own) (r .before) (r .own-is) (C-judged m (r .before) (r .before-is)) (r .both) (r .both-is)) c (r .left-is)

@@ -11,6 +11,7 @@ use lib.Signed.{_≤ℤ_}
 use lib.ListN.{length}
 use Rattle.whole.specs.Rules.{wholes}
 use Rattle.plan.specs.declared.Plan.{Plan}
+use Rattle.plan.specs.Accepted.{Accepted}
 use Rattle.bounds.specs.Events.{eventOf, nodes}
 use Rattle.bounds.specs.Tables.{Rows, at, bounds}
 use Rattle.bounds.specs.Elimination.{eliminated}
@@ -18,7 +19,6 @@ use Rattle.rounds.specs.Rounds.{C0, joined, round}
 use Rattle.strategy.specs.Histories.{History, ranFor, turn, seenFrom}
 use Rattle.strategy.specs.Strategies.{Kept, Forced, Strategy}
 use Rattle.strategy.specs.Keeping.{when, Keeps, Timely}
-use Rattle.strategy.specs.Soundness.{Sound}
 use Rattle.strategy.specs.HistoryLaws.{length-more, each-more, timely-more, turn-min-max, follows-more, forced-map, forced-split, forced-play}
 use Rattle.strategy.specs.PlaceLaws.{Tidy, thenSet-bounds, elim-back}
 use Rattle.strategy.specs.WindowLaws.{Held}
@@ -44,13 +44,13 @@ use Rattle.strategy.specs.VerdictLaws.{C-next, IsSettled, settled-after}
 use Rattle.strategy.specs.StageLaws.{Allowed, allowed-rest, rest-allowed, Stages, stages}
 
 -- fewer windows follow from more
-pub fewer-windows : (p : Plan) → Sound p → (h : History) (g k a : ℕ) → Strategy p h (g + (a + k) * p .jobs) → Strategy p h (g + k * p .jobs)
-fewer-windows p sound h g k a s =
+pub fewer-windows : (p : Plan) → Accepted p → (h : History) (g k a : ℕ) → Strategy p h (g + (a + k) * p .jobs) → Strategy p h (g + k * p .jobs)
+fewer-windows p good h g k a s =
     let e : g + (a + k) * p .jobs ≡ (g + k * p .jobs) + a * p .jobs = omega arith in
-    forced-map p _ _ (g + k * p .jobs) h (λ h′ f q. strategy-kept p sound (a * p .jobs) h′ q)
+    forced-map p _ _ (g + k * p .jobs) h (λ h′ f q. strategy-kept p good (a * p .jobs) h′ q)
     (forced-split p (Kept p) (g + k * p .jobs) (a * p .jobs) h (subst (λ g. Strategy p h g) e s))
 
-module _ (p : Plan) (sound : Sound p) (m : ℕ) (c : Rows) (s : IsSettled p sound m c) where
+module _ (p : Plan) (good : Accepted p) (m : ℕ) (c : Rows) (s : IsSettled p good m c) where
   -- the settled round: from c to c
   pub record Settling : Type 0 where
     pub own : Rows
@@ -62,29 +62,29 @@ module _ (p : Plan) (sound : Sound p) (m : ℕ) (c : Rows) (s : IsSettled p soun
   pub settling : Settling
   unfolding round
   settling =
-      let r = round-parts p sound (s .before) c (s .next) in
-      let e : round p (r .own) c ≡ bounds c = sym (C-next p sound (s .before) (r .own) c (r .own-is) (s .set)) ∙ s .next in
+      let r = round-parts p good (s .before) c (s .next) in
+      let e : round p (r .own) c ≡ bounds c = sym (C-next p good (s .before) (r .own) c (r .own-is) (s .set)) ∙ s .next in
       let q = thenSet-bounds (joined p (r .own) c) (eliminated p (p .jobs) (p .jobs)) c e in
       record { own = r .own; own-is = r .own-is; both = q .0; both-is = q .1; left-is = q .2 }
 
   module _ (f : Settling) where
-    abbrev round-after : (d : ℕ) → Round p sound (s .before + d) c
+    abbrev round-after : (d : ℕ) → Round p good (s .before + d) c
     round-after d =
         record {
           own = f .own;
           own-is = f .own-is;
           before = c;
-          before-is = settled-after p sound m c s d;
+          before-is = settled-after p good m c s d;
           both = f .both;
           both-is = f .both-is;
           left-is = f .left-is;
         }
 
-    abbrev round-now : Round p sound (s .before) c
+    abbrev round-now : Round p good (s .before) c
     round-now = record { own = f .own; own-is = f .own-is; before = c; before-is = s .set; both = f .both; both-is = f .both-is; left-is = f .left-is }
 
     both-tidy : Tidy p (nodes (p .jobs + p .jobs)) (f .both)
-    both-tidy = joined-tidy p sound (f .own) c (f .own-is) (C-tidy p sound (s .before) c (s .set) .anchored) (f .both) (f .both-is)
+    both-tidy = joined-tidy p good (f .own) c (f .own-is) (C-tidy p good (s .before) c (s .set) .anchored) (f .both) (f .both-is)
 
     -- the game of a window with g jobs to go
     abbrev pub Game : ℕ → ℕ → History → Type 0
@@ -96,24 +96,24 @@ module _ (p : Plan) (sound : Sound p) (m : ℕ) (c : Rows) (s : IsSettled p soun
     module _ (i g : ℕ) (ig : i + g ≡ p .jobs) (h : History) (old : Timely p h) where
       game-far : (j : ℕ) → length h ≡ j * p .jobs + i → Always p (Held p) h → Game j g h → (k : ℕ) → Strategy p h (g + (s .before + k) * p .jobs)
       game-far zero n held q k =
-          first-strategy p sound (s .before + k) c (settled-after p sound m c s k) i g ig h (omega arith) old (f .own) (f .own-is) q
+          first-strategy p good (s .before + k) c (settled-after p good m c s k) i g ig h (omega arith) old (f .own) (f .own-is) q
       game-far (suc j) n held q k =
           let len = length-seen p j h in
-          both-strategy p sound (s .before + k) (f .own) c (f .own-is) (settled-after p sound m c s k) j i g ig h n old (punctual-of p h held)
-          (keeps-strategy p sound (s .before + k) c (settled-after p sound m c s k)) (kept-of p h held)
-          (keeps-both p sound (s .before + k) c (round-after k) (seenFrom p j h) g (omega arith) (timely-seen p j h old) q)
+          both-strategy p good (s .before + k) (f .own) c (f .own-is) (settled-after p good m c s k) j i g ig h n old (punctual-of p h held)
+          (keeps-strategy p good (s .before + k) c (settled-after p good m c s k)) (kept-of p h held)
+          (keeps-both p good (s .before + k) c (round-after k) (seenFrom p j h) g (omega arith) (timely-seen p j h old) q)
 
       pub game-strategy : (j : ℕ) → length h ≡ j * p .jobs + i → Always p (Held p) h → Game j g h → (k : ℕ) → Strategy p h (g + k * p .jobs)
-      game-strategy j n held q k = fewer-windows p sound h g k (s .before) (game-far j n held q k)
+      game-strategy j n held q k = fewer-windows p good h g k (s .before) (game-far j n held q k)
 
       pub strategy-game : (j : ℕ) → length h ≡ j * p .jobs + i → Punctual p h → Strategy p h (g + s .before * p .jobs) → Game j g h
-      strategy-game zero n room q = strategy-first p sound (s .before) c (s .set) i g ig h (omega arith) old room q
+      strategy-game zero n room q = strategy-first p good (s .before) c (s .set) i g ig h (omega arith) old room q
       strategy-game (suc j) n room q =
           let len = length-seen p j h in
-          both-keeps p sound (s .before) c
+          both-keeps p good (s .before) c
           round-now
           (seenFrom p j h) g (omega arith)
-          (strategy-both p sound (s .before) (f .own) c (f .own-is) (s .set) j i g ig h n old room (strategy-keeps p sound (s .before) c (s .set)) q)
+          (strategy-both p good (s .before) (f .own) c (f .own-is) (s .set) j i g ig h n old room (strategy-keeps p good (s .before) c (s .set)) q)
 
     -- ---- histories from which the game can be won: j windows and i jobs have run, and there are g jobs of this window to go
 
@@ -126,14 +126,14 @@ module _ (p : Plan) (sound : Sound p) (m : ℕ) (c : Rows) (s : IsSettled p soun
 
     pub well-begin : Well [] 0 0 (p .jobs)
     well-begin =
-        let a = round-alone p sound (s .before) c
+        let a = round-alone p good (s .before) c
         round-now in
         record {
           ig = omega arith;
           size = omega arith;
-          timely = nothing-timely p sound;
+          timely = nothing-timely p good;
           held = held-one p [] (omega arith) (subst (Held p) (sym (seen-all p [])) (held-none p));
-          game = begin-game p sound (s .before) c (s .set) (a .0) (a .1);
+          game = begin-game p good (s .before) c (s .set) (a .0) (a .1);
         }
 
     -- the window that comes next, or the next job of this one
@@ -153,11 +153,11 @@ module _ (p : Plan) (sound : Sound p) (m : ℕ) (c : Rows) (s : IsSettled p soun
 
       held-first : length h′ ≡ suc i → Game 0 g h′ → Always p (Held p) h′
       held-first n q =
-          let r = forced-play p sound _ true g h′ q in
+          let r = forced-play p good _ true g h′ q in
           let z = r .follows .size in
           let ig = w .ig in
           held-earlier p h′ (r .history) g (r .follows)
-          (first-held p sound (s .before) c (s .set) (f .own) (f .own-is) (r .history) (omega arith) (r .follows .timely timely′) (r .won))
+          (first-held p good (s .before) c (s .set) (f .own) (f .own-is) (r .history) (omega arith) (r .follows .timely timely′) (r .won))
 
       held-later : (j′ : ℕ) → j ≡ suc j′ → Game (suc j′) g h′ → Always p (Held p) h′
       held-later j′ k q =
@@ -167,12 +167,12 @@ module _ (p : Plan) (sound : Sound p) (m : ℕ) (c : Rows) (s : IsSettled p soun
           let len = length-seen p j′ h′ in
           let size-h : length h ≡ suc j′ * p .jobs + i = n ∙ ap (λ j. j * p .jobs + i) k in
           let size-h′ : length h′ ≡ suc j′ * p .jobs + suc i = n′ ∙ ap (λ j. j * p .jobs + suc i) k in
-          let b = keeps-both p sound (s .before) c
+          let b = keeps-both p good (s .before) c
           round-now
           (seenFrom p j′ h′) g (omega arith) (timely-seen p j′ h′ timely′) q in
-          let r = forced-play p sound (λ h. Both p (f .own) c (seenFrom p j′ h)) true g h′ (seen-forced p j′ (Both p (f .own) c) g h′ (omega arith) b) in
+          let r = forced-play p good (λ h. Both p (f .own) c (seenFrom p j′ h)) true g h′ (seen-forced p j′ (Both p (f .own) c) g h′ (omega arith) b) in
           held-earlier p h′ (r .history) g (r .follows)
-          (held-both p sound (s .before) (f .own) c (f .own-is) (s .set) j′ i (suc g) ig h size-h (w .timely) (punctual-of p h (w .held))
+          (held-both p good (s .before) (f .own) c (f .own-is) (s .set) j′ i (suc g) ig h size-h (w .timely) (punctual-of p h (w .held))
           (kept-of p h (w .held)) (r .history) (follows-more p h g t e lo hi (r .history) (r .follows)) (r .won))
 
     -- a job more, after which the game can still be won
@@ -185,7 +185,7 @@ module _ (p : Plan) (sound : Sound p) (m : ℕ) (c : Rows) (s : IsSettled p soun
     next-game : (j : ℕ) (h : History) → length h ≡ suc j * p .jobs → Timely p h → Keeps (nodes (p .jobs)) (at c) (seenFrom p j h) → Game (suc j) (p .jobs) h
     next-game j h n old kept =
         let len = length-seen p j h in
-        elim-back p sound (p .jobs) (p .jobs) (f .both) c (omega arith) both-tidy (f .left-is) (seenFrom p j h) (omega arith) (timely-seen p j h old) kept
+        elim-back p good (p .jobs) (p .jobs) (f .both) c (omega arith) both-tidy (f .left-is) (seenFrom p j h) (omega arith) (timely-seen p j h old) kept
 
     next-keeps : (j : ℕ) (h : History) → length h ≡ suc j * p .jobs → Timely p h → Game j 0 h → Keeps (nodes (p .jobs)) (at c) (seenFrom p j h)
     unfolding Forced
@@ -193,7 +193,7 @@ module _ (p : Plan) (sound : Sound p) (m : ℕ) (c : Rows) (s : IsSettled p soun
     next-keeps (suc j) h n old q =
         let len = length-seen p j h in
         rw (seen-next p j h) at
-        (joined-back p sound (f .own) c (f .own-is) (C-tidy p sound (s .before) c (s .set) .anchored) (f .both) (f .both-is) (seenFrom p j h) (omega arith)
+        (joined-back p good (f .own) c (f .own-is) (C-tidy p good (s .before) c (s .set) .anchored) (f .both) (f .both-is) (seenFrom p j h) (omega arith)
         (timely-seen p j h old) q .next)
 
     pub well-more : (h : History) (j i g : ℕ) (w : Well h j i (suc g)) (t e : ℤ) → turn p (length h) .min ≤ℤ e → e ≤ℤ turn p (length h) .max
@@ -239,10 +239,10 @@ module _ (p : Plan) (sound : Sound p) (m : ℕ) (c : Rows) (s : IsSettled p soun
     pub chosen-winning : (h : History) (j i g : ℕ) → Well h j i (suc g) → (t : ℤ) → Chosen h g t → Winning h j g t
     chosen-winning h j i g w t q e lo hi =
         let ig = w .ig in
-        let mm = turn-min-max p sound (length h) in
+        let mm = turn-min-max p good (length h) in
         strategy-game (suc i) g (omega arith) (ranFor h t e) (timely′ h j i g w t e lo hi) j (size′ h j i g w t e lo hi)
         (each-more (PunctualAt p) h _ (punctual-of p h (w .held))
-        (starts-punctual p sound (Kept p) (λ h k. k) (g + s .before * p .jobs) h t (q (s .before) (turn p (length h) .max) mm (omega wholes)) e))
+        (starts-punctual p good (Kept p) (λ h k. k) (g + s .before * p .jobs) h t (q (s .before) (turn p (length h) .max) mm (omega wholes)) e))
         (q (s .before) e lo hi)
 
     -- ---- the table of the next start
@@ -250,7 +250,7 @@ module _ (p : Plan) (sound : Sound p) (m : ℕ) (c : Rows) (s : IsSettled p soun
     pub tables : (i : ℕ) → i < p .jobs → Stages p c (f .both) (p .jobs) i
     tables i l =
         stages p (p .jobs) c (f .both) c (omega arith)
-        (joined-shifted p sound (f .own) c (f .own-is) (C-judged p sound (s .before) c (s .set)) (f .both) (f .both-is)) (f .left-is) i l
+        (joined-shifted p good (f .own) c (f .own-is) (C-judged p good (s .before) c (s .set)) (f .both) (f .both-is)) (f .left-is) i l
 
     -- one start at least
     pub some-winning : (h : History) (j i g : ℕ) → Well h j i (suc g) → (t : ℤ) × Winning h j g t
@@ -285,7 +285,7 @@ module _ (p : Plan) (sound : Sound p) (m : ℕ) (c : Rows) (s : IsSettled p soun
       later-size = let a = st .rest-is in omega arith
 
       alone-tidy : Tidy p (nodes (suc i + st .rest)) c
-      alone-tidy = subst (λ k. Tidy p (nodes k) c) (sym alone-size) (C-tidy p sound (s .before) c (s .set))
+      alone-tidy = subst (λ k. Tidy p (nodes k) c) (sym alone-size) (C-tidy p good (s .before) c (s .set))
 
       pub later-tidy : Tidy p (nodes (suc (p .jobs + i) + st .rest)) (f .both)
       later-tidy = subst (λ k. Tidy p (nodes k) (f .both)) (sym later-size) both-tidy
@@ -299,7 +299,7 @@ module _ (p : Plan) (sound : Sound p) (m : ℕ) (c : Rows) (s : IsSettled p soun
       pub winning-allowed : (j : ℕ) → Well h j i (suc g) → (t : ℤ) → Winning h j g t → AllowedAt j i l h t
       winning-allowed zero w t q =
           let n = w .size in
-          rest-allowed p sound c i (st .rest) alone-fits alone-tidy (st .alone) h (omega arith) (w .timely) t
+          rest-allowed p good c i (st .rest) alone-fits alone-tidy (st .alone) h (omega arith) (w .timely) t
           (λ e lo hi.
           subst (λ k. Forced p (Keeps (nodes k) (at c)) (st .rest) (ranFor h t e)) (sym alone-size)
           (subst (λ g. Game 0 g (ranFor h t e)) (sym (rest-is 0 w)) (q e lo hi)))
@@ -307,7 +307,7 @@ module _ (p : Plan) (sound : Sound p) (m : ℕ) (c : Rows) (s : IsSettled p soun
           let n = w .size in
           let len = length-seen p j h in
           let after = turn-after p j h (omega arith) in
-          rest-allowed p sound (f .both) (p .jobs + i) (st .rest) later-fits later-tidy (st .later) (seenFrom p j h) (omega arith)
+          rest-allowed p good (f .both) (p .jobs + i) (st .rest) later-fits later-tidy (st .later) (seenFrom p j h) (omega arith)
           (timely-seen p j h (w .timely)) (t -ℤ pos j *ℤ p .window)
           (λ e lo hi.
           subst (λ k. Forced p (Keeps (nodes k) (at (f .both))) (st .rest) (ranFor (seenFrom p j h) (t -ℤ pos j *ℤ p .window) e)) (sym later-size)
@@ -320,7 +320,7 @@ module _ (p : Plan) (sound : Sound p) (m : ℕ) (c : Rows) (s : IsSettled p soun
           let n = w .size in
           subst (λ g. Game 0 g (ranFor h t e)) (rest-is 0 w)
           (subst (λ k. Forced p (Keeps (nodes k) (at c)) (st .rest) (ranFor h t e)) alone-size
-          (allowed-rest p sound c i (st .rest) alone-fits alone-tidy (st .alone) h (omega arith) (w .timely)
+          (allowed-rest p good c i (st .rest) alone-fits alone-tidy (st .alone) h (omega arith) (w .timely)
           (subst (λ k. Forced p (Keeps (nodes k) (at c)) (suc (st .rest)) h) (sym alone-size) (subst (λ g. Game 0 (suc g) h) (sym (rest-is 0 w)) (w .game)))
           t a e lo hi))
       allowed-winning (suc j) w t a e lo hi =
@@ -330,7 +330,7 @@ module _ (p : Plan) (sound : Sound p) (m : ℕ) (c : Rows) (s : IsSettled p soun
           subst (λ g. Game (suc j) g (ranFor h t e)) (rest-is (suc j) w)
           (subst (λ u. Forced p (Keeps (nodes (p .jobs + p .jobs)) (at (f .both))) (st .rest) u) (sym (seen-ranFor p j h t e (omega arith)))
           (subst (λ k. Forced p (Keeps (nodes k) (at (f .both))) (st .rest) (ranFor (seenFrom p j h) (t -ℤ pos j *ℤ p .window) e)) later-size
-          (allowed-rest p sound (f .both) (p .jobs + i) (st .rest) later-fits later-tidy (st .later) (seenFrom p j h) (omega arith)
+          (allowed-rest p good (f .both) (p .jobs + i) (st .rest) later-fits later-tidy (st .later) (seenFrom p j h) (omega arith)
           (timely-seen p j h (w .timely))
           (subst (λ k. Forced p (Keeps (nodes k) (at (f .both))) (suc (st .rest)) (seenFrom p j h)) (sym later-size)
           (subst (λ g. Game (suc j) (suc g) h) (sym (rest-is (suc j) w)) (w .game)))

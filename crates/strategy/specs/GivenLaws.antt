@@ -18,6 +18,8 @@ use Rattle.plan.specs.declared.Bound.{Bound}
 use Rattle.plan.specs.declared.Plan.{Plan}
 use Rattle.plan.specs.PlanLines.{noBound}
 use Rattle.plan.specs.PlanWritten.{boundsOf}
+use Rattle.plan.specs.EventNames.{isNext}
+use Rattle.plan.specs.Accepted.{BoundAccepted, Accepted}
 use Rattle.bounds.specs.declared.Event.the-variants.{Start, Finish}
 use Rattle.bounds.specs.Events.{eventOf, nodeOf}
 use Rattle.bounds.specs.Tables.{Cell, upto, least, Between, leastOf}
@@ -26,7 +28,7 @@ use Rattle.rounds.specs.Given.{meant, hasNext, givenBounds, upTo, downTo, inOrd
 use Rattle.strategy.specs.Histories.{History}
 use Rattle.strategy.specs.Strategies.{boundIn}
 use Rattle.strategy.specs.Keeping.{Holds, when, gap, Keeps}
-use Rattle.strategy.specs.Soundness.{SoundBound, Sound}
+use Rattle.strategy.specs.AcceptedLaws.{one-this, bounds-there}
 use Rattle.strategy.specs.CellLaws.{least-iff}
 use Rattle.strategy.specs.EliminationLaws.{below-or-last}
 
@@ -42,9 +44,10 @@ stands-in [] i h = absurd (omega arith)
 stands-in (d ∷ ds) zero h = List·Memᴰ·head refl
 stands-in (d ∷ ds) (suc i) h = List·Memᴰ·tail (stands-in ds i (omega arith))
 
-pub places-listed : (p : Plan) → p .bounds ≤ length (p .bound) → (P : Bound → Type 0)
+pub places-listed : (p : Plan) → Accepted p → (P : Bound → Type 0)
     → ((k : ℕ) → k < p .bounds → P (boundIn p k)) ↔ ((d : Bound) → List·Memᴰ d (boundsOf p) → P d)
-places-listed p there P =
+places-listed p good P =
+    let there = bounds-there p good in
     let n = length-take (p .bounds) (p .bound) in (
       λ f d m.
           let r = place-of m in
@@ -53,8 +56,12 @@ places-listed p there P =
       λ f k l. subst P (getD-take (p .bounds) (p .bound) k noBound l) (f _ (stands-in (boundsOf p) k (omega arith))),
     )
 
-pub listed-sound : (p : Plan) → Sound p → (d : Bound) → List·Memᴰ d (boundsOf p) → SoundBound p d
-listed-sound p sound = places-listed p (sound .bound-places) (SoundBound p) .0 (sound .bounds)
+module _ (p : Plan) (good : Accepted p) where
+  pub listed-accepted : (d : Bound) → List·Memᴰ d (boundsOf p) → BoundAccepted (p .jobs) d
+  listed-accepted = places-listed p good (BoundAccepted (p .jobs)) .0 (good .bound-at)
+
+  pub listed-one-this : (d : Bound) → List·Memᴰ d (boundsOf p) → isNext (d .a .letter) ≡ true → isNext (d .b .letter) ≡ false
+  listed-one-this = places-listed p good (λ d. isNext (d .a .letter) ≡ true → isNext (d .b .letter) ≡ false) .0 (one-this p good)
 
 -- ---- what holds of all bounds of a list
 

@@ -14,11 +14,12 @@ use lib.ListN.{length, length-append, List·getD-append}
 use lib.Seq.{getD-append-seam}
 use Rattle.whole.specs.Rules.{wholes}
 use Rattle.plan.specs.declared.Plan.{Plan}
+use Rattle.plan.specs.Accepted.{Accepted}
 use Rattle.strategy.specs.Histories.{Ran, History, noRan, ranFor, turn}
 use Rattle.strategy.specs.Strategies.{ranIn, Forced}
+use Rattle.strategy.specs.AcceptedLaws.{turn-accepted}
 use Rattle.strategy.specs.Keeping.{RunsWithin, Timely, extreme, Extreme}
 use Rattle.strategy.specs.EliminationLaws.{below-or-last}
-use Rattle.strategy.specs.Soundness.{Sound}
 
 -- ---- one job more
 
@@ -56,9 +57,9 @@ extreme-more p long h t old =
 
 -- ---- min and max
 
-module _ (p : Plan) (sound : Sound p) where
+module _ (p : Plan) (good : Accepted p) where
   pub turn-min-max : (k : ℕ) → turn p k .min ≤ℤ turn p k .max
-  turn-min-max k = sound .min-max (k % p .jobs) (mod-lt k (sound .some-job))
+  turn-min-max k = turn-accepted p good k .min-most
 
   pub extreme-least : (long : Bool) (k : ℕ) → turn p k .min ≤ℤ extreme long (turn p k)
   extreme-least true k = turn-min-max k
@@ -126,14 +127,14 @@ pub record Played (p : Plan) (Q : History → Type 0) (long : Bool) (g : ℕ) (h
   pub same : Extreme p long h → Extreme p long history
   pub won : Q history
 
-pub forced-play : (p : Plan) → Sound p → (Q : History → Type 0) (long : Bool) (g : ℕ) (h : History) → Forced p Q g h → Played p Q long g h
+pub forced-play : (p : Plan) → Accepted p → (Q : History → Type 0) (long : Bool) (g : ℕ) (h : History) → Forced p Q g h → Played p Q long g h
 unfolding Forced
-forced-play p sound Q long zero h q = record { history = h; follows = follows-none p h; same = λ x. x; won = q }
-forced-play p sound Q long (suc g) h (t, q) =
+forced-play p good Q long zero h q = record { history = h; follows = follows-none p h; same = λ x. x; won = q }
+forced-play p good Q long (suc g) h (t, q) =
     let e = extreme long (turn p (length h)) in
-    let lo = extreme-least p sound long (length h) in
-    let hi = extreme-most p sound long (length h) in
-    let r = forced-play p sound Q long g (ranFor h t e) (q e lo hi) in
+    let lo = extreme-least p good long (length h) in
+    let hi = extreme-most p good long (length h) in
+    let r = forced-play p good Q long g (ranFor h t e) (q e lo hi) in
     record {
       history = r .history;
       follows = follows-more p h g t e lo hi (r .history) (r .follows);
@@ -145,13 +146,13 @@ forced-play p sound Q long (suc g) h (t, q) =
 abbrev pub Fails : Plan → ℕ → (History → Type 0) → Type 0
 Fails p k Q = (long : Bool) × ((h : History) → length h ≡ k → Extreme p long h → Q h → ⊥)
 
-pub fails-before : (p : Plan) → Sound p → (Q : History → Type 0) (k g : ℕ) → Fails p (k + g) Q → Fails p k (Forced p Q g)
-fails-before p sound Q k g f = (
+pub fails-before : (p : Plan) → Accepted p → (Q : History → Type 0) (k g : ℕ) → Fails p (k + g) Q → Fails p k (Forced p Q g)
+fails-before p good Q k g f = (
   f .0,
   λ h n x q.
-      let r = forced-play p sound Q (f .0) g h q in
+      let r = forced-play p good Q (f .0) g h q in
       f .1 (r .history) (r .follows .size ∙ ap (λ n. n + g) n) (r .same x) (r .won),
 )
 
-pub fails-map : (p : Plan) → Sound p → (Q R : History → Type 0) (k : ℕ) → ((h : History) → length h ≡ k → Timely p h → R h → Q h) → Fails p k Q → Fails p k R
-fails-map p sound Q R k m f = (f .0, λ h n x r. f .1 h n x (m h n (extreme-timely p sound (f .0) h x) r))
+pub fails-map : (p : Plan) → Accepted p → (Q R : History → Type 0) (k : ℕ) → ((h : History) → length h ≡ k → Timely p h → R h → Q h) → Fails p k Q → Fails p k R
+fails-map p good Q R k m f = (f .0, λ h n x r. f .1 h n x (m h n (extreme-timely p good (f .0) h x) r))

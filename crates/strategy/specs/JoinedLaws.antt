@@ -15,6 +15,7 @@ use Rattle.whole.specs.Rules.{wholes}
 use Rattle.whole.specs.Shape.{any, _⊕_, _⊖_, le, eq}
 use Rattle.whole.specs.ShapeLaws.{reads, shows}
 use Rattle.plan.specs.declared.Plan.{Plan}
+use Rattle.plan.specs.Accepted.{Accepted}
 use Rattle.bounds.specs.declared.Event.the-variants.{Start, Finish}
 use Rattle.bounds.specs.Events.{jobAt, shift, earliest, latest, eventOf, nodeOf, startNode, finishNode, nodes}
 use Rattle.bounds.specs.Tables.{Cell, off, least, plus, Rows, at, leastOf, contradiction, bounds}
@@ -26,7 +27,6 @@ use Rattle.strategy.specs.Strategies.{ranIn}
 use Rattle.strategy.specs.Keeping.{Holds, when, gap, Keeps, Timely, Anchored, Sized}
 use Rattle.strategy.specs.CellLaws.{least-iff, plus-iff}
 use Rattle.strategy.specs.SetLaws.{jobAt-turn, judgedSet-past, judged-keeps, judged-back, judged-none}
-use Rattle.strategy.specs.Soundness.{Sound}
 use Rattle.strategy.specs.HistoryLaws.{Fails}
 use Rattle.strategy.specs.PlaceLaws.{Tidy, judged-tidy}
 use Rattle.strategy.specs.GivenLaws.{All, BetweenKept, leastOf-says, leastOf-kept, kept-leastOf, Says, all-own}
@@ -35,7 +35,7 @@ use Rattle.strategy.specs.SeenLaws.{at-most-or-above, ran-seen, turn-see
 
 -- ---- C(0)
 
-module _ (p : Plan) (sound : Sound p) where
+module _ (p : Plan) (good : Accepted p) where
   own-anchored : Anchored p (nodes (p .jobs)) (leastOf (ownBounds p))
   unfolding nodeOf
   own-anchored =
@@ -76,7 +76,7 @@ module _ (p : Plan) (sound : Sound p) where
     pub C0-back : (u : History) → p .jobs ≤ length u → Timely p u → Keeps (nodes (p .jobs)) (at c0) u → All (BetweenKept u) (ownBounds p)
     unfolding C0
     C0-back u n old kept =
-        leastOf-kept (nodes (p .jobs)) (ownBounds p) u (own-below p sound)
+        leastOf-kept (nodes (p .jobs)) (ownBounds p) u (own-below p good)
         (judged-back p (nodes (p .jobs)) (leastOf (ownBounds p)) own-anchored c0 c0-is u (sized-one u n) old kept)
 
   pub C0-none : C0 p ≡ contradiction → Fails p (p .jobs) (λ u. All (BetweenKept u) (ownBounds p))
@@ -220,7 +220,7 @@ back-above x l w h = omega (reads le (any ⊖ (any ⊖ any)) any, wholes)
 back-below : (x e w : ℤ) → (x -ℤ (pos 0 -ℤ w)) ≤ℤ negℤ e → x ≤ℤ negℤ (e +ℤ w)
 back-below x e w h = omega (reads le (any ⊖ (any ⊖ any)) any, wholes, split-neg e, split-neg (e +ℤ w), split-add e w)
 
-module _ (p : Plan) (sound : Sound p) (c0 c : Rows) (t0 : Tidy p (nodes (p .jobs)) c0) (tc : Anchored p (nodes (p .jobs)) (at c)) where
+module _ (p : Plan) (good : Accepted p) (c0 c : Rows) (t0 : Tidy p (nodes (p .jobs)) c0) (tc : Anchored p (nodes (p .jobs)) (at c)) where
   above-next : (y : ℕ) → y < nodes (p .jobs) → 0 < y → (x : ℤ) → Holds (onNext p c 0 (nextNode p y)) x → x ≤ℤ latest p (eventOf (nextNode p y))
   above-next y h i x g =
       let a : Holds (plus (at c 0 y) (moved p y -ℤ moved p 0)) x = rw (onNext-next p c 0 y) at g in
@@ -305,7 +305,7 @@ pub record Both (p : Plan) (c0 c : Rows) (u : History) : Type 0 where
   pub next : Keeps (nodes (p .jobs)) (at c) (seenFrom p 1 u)
   pub across : All (BetweenKept u) (betweenBounds p)
 
-module _ (p : Plan) (sound : Sound p) (c0 c : Rows) (c0-is : C0 p ≡ bounds c0) (tc : Anchored p (nodes (p .jobs)) (at c)) where
+module _ (p : Plan) (good : Accepted p) (c0 c : Rows) (c0-is : C0 p ≡ bounds c0) (tc : Anchored p (nodes (p .jobs)) (at c)) where
   raw-keeps : (u : History) → p .jobs + p .jobs ≤ length u → Both p c0 c u → Keeps (nodes (p .jobs + p .jobs)) (joinedCell p c0 c) u
   raw-keeps u two both y z a b =
       least-iff (at c0 y z) _ (gap u y z) .1 (
@@ -315,15 +315,15 @@ module _ (p : Plan) (sound : Sound p) (c0 c : Rows) (c0-is : C0 p ≡ bounds c0)
       )
     where
       own : (y z : ℕ) → (nodes (p .jobs) ≤ y) ⊎ (y < nodes (p .jobs)) → (nodes (p .jobs) ≤ z) ⊎ (z < nodes (p .jobs)) → Holds (at c0 y z) (gap u y z)
-      own y z (inl h) k = rw (C0-past p sound c0 c0-is y z (inl h)) tt
-      own y z (inr h) (inl k) = rw (C0-past p sound c0 c0-is y z (inr k)) tt
+      own y z (inl h) k = rw (C0-past p good c0 c0-is y z (inl h)) tt
+      own y z (inr h) (inl k) = rw (C0-past p good c0 c0-is y z (inr k)) tt
       own y z (inr h) (inr k) = both .this y z h k
 
   two-sized : (u : History) → length u ≡ p .jobs + p .jobs → Sized p (nodes (p .jobs + p .jobs)) u
   two-sized u n = record { seen = omega arith; two = omega arith }
 
   anchored : Anchored p (nodes (p .jobs + p .jobs)) (joinedCell p c0 c)
-  anchored = joined-anchored p sound c0 c (C0-tidy p sound c0 c0-is) tc
+  anchored = joined-anchored p good c0 c (C0-tidy p good c0 c0-is) tc
 
   module _ (t : Rows) (t-is : joined p c0 c ≡ bounds t) where
     pub joined-tidy : Tidy p (nodes (p .jobs + p .jobs)) t
@@ -343,7 +343,7 @@ module _ (p : Plan) (sound : Sound p) (c0 c : Rows) (c0-is : C0 p ≡ bounds c0)
           this = λ y z a b. joinedCell-parts p c0 c y z (gap u y z) (raw y z (omega arith) (omega arith)) .0;
           next = next-keeps p c u (omega arith) (λ y z a b. joinedCell-parts p c0 c y z (gap u y z) (raw y z a b) .1);
           across =
-              leastOf-kept (nodes (p .jobs + p .jobs)) (betweenBounds p) u (across-below p sound)
+              leastOf-kept (nodes (p .jobs + p .jobs)) (betweenBounds p) u (across-below p good)
               (λ y z a b. joinedCell-parts p c0 c y z (gap u y z) (raw y z a b) .2);
         }
 

@@ -12,10 +12,10 @@ use lib.Signed.{_≤ℤ_}
 use lib.ListN.{length, length-append, List·getD-append}
 use Rattle.whole.specs.Rules.{wholes}
 use Rattle.plan.specs.declared.Plan.{Plan}
+use Rattle.plan.specs.Accepted.{Accepted}
 use Rattle.strategy.specs.Histories.{Ran, History, noRan, ranFor, turn, since, seenFrom}
 use Rattle.strategy.specs.Strategies.{ranIn, placeIn, boundIn, KeptIn, Kept, Forced}
 use Rattle.strategy.specs.EliminationLaws.{below-or-last}
-use Rattle.strategy.specs.Soundness.{Sound}
 use Rattle.strategy.specs.HistoryLaws.{Follows, length-more, ran-new, each-more, turn-min-max, forced-play}
 use Rattle.strategy.specs.WindowLaws.{Held, place-two}
 use Rattle.strategy.specs.SeenLaws.{at-most-or-above, length-seen, ran-seen, seen-more, seen-none}
@@ -40,23 +40,23 @@ module _ (p : Plan) where
             (k .given i l (omega arith) (omega arith));
       }
 
-  keptIn-more : Sound p → (u m : History) → p .jobs + p .jobs ≤ length u → KeptIn p u → KeptIn p (u ++ m)
-  keptIn-more sound u m two k =
+  keptIn-more : Accepted p → (u m : History) → p .jobs + p .jobs ≤ length u → KeptIn p u → KeptIn p (u ++ m)
+  keptIn-more good u m two k =
       record {
         released = λ i h s. let l : i < length u = omega arith in rw (List·getD-append u m noRan i l) (k .released i h l);
         inTime = λ i h s. let l : i < length u = omega arith in rw (List·getD-append u m noRan i l) (k .inTime i h l);
         ordered =
             λ i h s.
             let l : i < length u = omega arith in
-            let j = sound .some-job in
+            let j = good .jobs-least in
             let l′ : suc i < length u = omega arith in
             rw (List·getD-append u m noRan i l, List·getD-append u m noRan (suc i) l′) (k .ordered i h l′);
         given =
             λ i l a b.
             let d = boundIn p i in
-            let s = sound .bounds i l in
-            let pa = place-two p (d .a .letter) (d .a .job) (s .a .least) (s .a .most) in
-            let pb = place-two p (d .b .letter) (d .b .job) (s .b .least) (s .b .most) in
+            let s = good .bound-at i l in
+            let pa = place-two p (d .a .letter) (d .a .job) (s .a-least) (s .a-most) in
+            let pb = place-two p (d .b .letter) (d .b .job) (s .b-least) (s .b-most) in
             let la : placeIn p (d .a) < length u = omega arith in
             let lb : placeIn p (d .b) < length u = omega arith in
             rw (List·getD-append u m noRan (placeIn p (d .a)) la, List·getD-append u m noRan (placeIn p (d .b)) lb) (k .given i l la lb);
@@ -79,10 +79,10 @@ module _ (p : Plan) where
         punctual = λ i h s. rw (List·getD-append u m noRan i s) at (k .punctual i h (omega arith));
       }
 
-  held-more : Sound p → (u m : History) → p .jobs + p .jobs ≤ length u → Held p u → Held p (u ++ m)
-  held-more sound u m two k =
+  held-more : Accepted p → (u m : History) → p .jobs + p .jobs ≤ length u → Held p u → Held p (u ++ m)
+  held-more good u m two k =
       record {
-        kept = keptIn-more sound u m two (k .kept);
+        kept = keptIn-more good u m two (k .kept);
         punctual = λ i h s. let l : i < length u = omega arith in rw (List·getD-append u m noRan i l) (k .punctual i h l);
       }
 
@@ -143,9 +143,9 @@ module _ (p : Plan) where
   pub held-earlier : (h h′ : History) (g : ℕ) → Follows p h g h′ → Always p (Held p) h′ → Always p (Held p) h
   held-earlier h h′ g f all = always-before p (Held p) (held-none p) (held-before p) h (f .more) (subst (Always p (Held p)) (f .whole) all)
 
-  pub held-next : Sound p → (h m : History) (j : ℕ) → suc j * p .jobs ≤ length h → length (h ++ m) ≡ suc (suc j) * p .jobs
+  pub held-next : Accepted p → (h m : History) (j : ℕ) → suc j * p .jobs ≤ length h → length (h ++ m) ≡ suc (suc j) * p .jobs
       → Always p (Held p) h → Held p (seenFrom p j (h ++ m)) → Held p (seenFrom p (suc j) (h ++ m)) → Always p (Held p) (h ++ m)
-  held-next sound h m j = always-next p (Held p) (held-none p) (held-more p sound) h m j
+  held-next good h m j = always-next p (Held p) (held-none p) (held-more p good) h m j
 
   pub held-one : (h : History) → length h ≤ p .jobs → Held p (seenFrom p 0 h) → Always p (Held p) h
   held-one h = always-one p (Held p) (held-none p) h
@@ -185,13 +185,13 @@ module _ (p : Plan) where
   room t b m d h = omega wholes
 
   -- the longest run of a start shows the deadline
-  pub starts-punctual : Sound p → (Q : History → Type 0) → ((h : History) → Q h → Kept p h) → (g : ℕ) (h : History) (t : ℤ)
+  pub starts-punctual : Accepted p → (Q : History → Type 0) → ((h : History) → Q h → Kept p h) → (g : ℕ) (h : History) (t : ℤ)
       → Forced p Q g (ranFor h t (turn p (length h) .max))
       → (e : ℤ) → PunctualAt (length h) (record { start = t; finish = t +ℤ e })
-  starts-punctual sound Q kept g h t f e j i l k =
+  starts-punctual good Q kept g h t f e j i l k =
       let max = turn p (length h) .max in
       let longest = ranFor h t max in
-      let r = forced-play p sound Q true g longest f in
+      let r = forced-play p good Q true g longest f in
       let m = r .follows .more in
       let n₁ = length-more h (record { start = t; finish = t +ℤ max }) in
       let n₂ = length-append longest m in
@@ -207,16 +207,16 @@ module _ (p : Plan) where
       max-is : turn p (length h) .max ≡ turn p i .max
       max-is = ap (λ j. j .max) (ap (turn p) k ∙ Rattle.strategy.specs.SeenLaws.turn-seen p j i)
 
-  pub forced-punctual : Sound p → (Q : History → Type 0) → ((h : History) → Q h → Kept p h) → (g : ℕ) (h : History) → Punctual h
+  pub forced-punctual : Accepted p → (Q : History → Type 0) → ((h : History) → Q h → Kept p h) → (g : ℕ) (h : History) → Punctual h
       → Forced p Q g h → Forced p (λ h. Q h × Punctual h) g h
   unfolding Forced
-  forced-punctual sound Q kept zero h c q = (q, c)
-  forced-punctual sound Q kept (suc g) h c (t, f) =
-      let mm = turn-min-max p sound (length h) in (
+  forced-punctual good Q kept zero h c q = (q, c)
+  forced-punctual good Q kept (suc g) h c (t, f) =
+      let mm = turn-min-max p good (length h) in (
         t,
         λ e lo hi.
-            forced-punctual sound Q kept g (ranFor h t e)
+            forced-punctual good Q kept g (ranFor h t e)
             (each-more PunctualAt h _ c
-            (starts-punctual sound Q kept g h t (f (turn p (length h) .max) mm (omega wholes)) e))
+            (starts-punctual good Q kept g h t (f (turn p (length h) .max) mm (omega wholes)) e))
             (f e lo hi),
       )

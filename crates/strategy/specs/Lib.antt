@@ -1,12 +1,11 @@
 -- What a way to choose the starts is, from first principles, and that the verdict and the offers of document 01 answer exactly that. In
--- reading order: histories, what a strategy is, and which runs kept to their offers. These three are definitions alone; then read `Theorems`.
+-- reading order: histories, what a strategy is, and which runs are reached. These three are definitions alone; then read `Theorems`.
 pub mod Histories
 pub mod Strategies
 pub mod Reaching
 -- ---- laws
 -- what the laws use of an accepted plan
-pub mod Soundness
-pub mod SoundLaws
+pub mod AcceptedLaws
 -- times that keep a set of bounds: cells, judgements, judged sets, and the two lemmas of 002
 pub mod Keeping
 pub mod CellLaws
@@ -35,9 +34,9 @@ pub mod OfferLaws
 pub mod GameLaws
 pub mod RunLaws
 pub mod TimeLaws
-pub mod SteppedLaws
+pub mod ReachingLaws
+pub mod WinningLaws
+pub mod ShowsLaws
 pub mod ReachedLaws
-pub mod StepsLaws
 -- what is to be read first
 pub mod Theorems
-pub mod Worked

@@ -47,8 +47,8 @@ use Rattle.runs.specs.declared.Offer.{Offer}
 use Rattle.runs.specs.declared.Turn.{Turn}
 use Rattle.runs.specs.Seen.{timeAt, firstSeen}
 use Rattle.runs.specs.Offers.{turnOf, termAt, offerOf}
+use Rattle.runs.specs.Steps.{OnOffer}
 use Rattle.runs.specs.OfferLaws.{Past, AtLeast, AtMost, AboveLower, BelowUpper, offerAt-from-iff, offerAt-to-iff}
-use Rattle.strategy.specs.Reaching.{OnOffer}
 use Rattle.strategy.specs.Keeping.{Holds}
 
 -- ---- what the calendar holds

@@ -13,6 +13,7 @@ use lib.ListN.{length}
 use Rattle.whole.specs.Clash.{clash}
 use Rattle.whole.specs.Rules.{wholes}
 use Rattle.plan.specs.declared.Plan.{Plan}
+use Rattle.plan.specs.Accepted.{Accepted}
 use Rattle.bounds.specs.Events.{jobAt, eventOf, startNode, finishNode, nodes}
 use Rattle.bounds.specs.Tables.{Cell, off, Rows, at, Set, contradiction, bounds, judgedSet}
 use Rattle.bounds.specs.Elimination.{finishCell, startCell, withoutFinish, withoutStart, thenSet, withoutPlace, eliminated}
@@ -23,7 +24,6 @@ use Rattle.strategy.specs.Keeping.{Holds, when, gap, Keeps, Timely, extr
 use Rattle.strategy.specs.CellLaws.{present}
 use Rattle.strategy.specs.SetLaws.{jobAt-turn, judged-anchored, judged-keeps, judged-back, judged-none, judged-diagonal}
 use Rattle.strategy.specs.EliminationLaws.{without-f, without-s, finish-out, finish-in, start-out, start-in, below-or-last}
-use Rattle.strategy.specs.Soundness.{Sound}
 use Rattle.strategy.specs.HistoryLaws.{
   length-more,
   ran-old,
@@ -111,7 +111,7 @@ thenSet-none (bounds v) f h = inr (v, refl, h)
 
 -- ---- one job
 
-module _ (p : Plan) (sound : Sound p) (k : ℕ) (two : k < p .jobs + p .jobs) (t : Rows) (tidy : Tidy p (nodes (suc k)) t) where
+module _ (p : Plan) (good : Accepted p) (k : ℕ) (two : k < p .jobs + p .jobs) (t : Rows) (tidy : Tidy p (nodes (suc k)) t) where
   -- the game of this job alone
   abbrev pub Chosen : History → Type 0
   Chosen u = Forced p (Keeps (nodes (suc k)) (at t)) 1 u
@@ -125,7 +125,7 @@ module _ (p : Plan) (sound : Sound p) (k : ℕ) (two : k < p .jobs + p .jobs) (t
         → ((e : ℤ) → turn p (length u) .min ≤ℤ e → e ≤ℤ turn p (length u) .max → Keeps (nodes (suc k)) (at t) (ranFor u s e))
         → Keeps (finishNode k) (finishCell p k t) (ranFor u s e)
     finish-keeps s e f =
-        let mm = turn-min-max p sound (length u) in
+        let mm = turn-min-max p good (length u) in
         let j = job-is in
         let at-s : when (ranFor u s e) (eventOf (startNode k)) ≡ s = when-start u _ k n in
         finish-in p k t (λ y. when (ranFor u s e) (eventOf y))
@@ -208,7 +208,7 @@ module _ (p : Plan) (sound : Sound p) (k : ℕ) (two : k < p .jobs + p .jobs) (t
         unfolding Forced
         place-back-at old kept =
             let g = start-back (start-judged-back old kept) in
-            let mm = turn-min-max p sound (length u) in
+            let mm = turn-min-max p good (length u) in
             (g .0, start-choice (g .0) (turn p (length u) .min) old (omega wholes) mm (g .1 _ refl))
 
   module _ (t₂ : Rows) (t₂-is : withoutPlace p k t ≡ bounds t₂) where
@@ -255,7 +255,7 @@ module _ (p : Plan) (sound : Sound p) (k : ℕ) (two : k < p .jobs + p .jobs) (t
 
 -- ---- several jobs: the last count of the places from low on
 
-module _ (p : Plan) (sound : Sound p) (low : ℕ) where
+module _ (p : Plan) (good : Accepted p) (low : ℕ) where
   -- the game of these jobs
   abbrev pub Played : ℕ → Rows → History → Type 0
   Played count t u = Forced p (Keeps (nodes (low + count)) (at t)) count u
@@ -296,7 +296,7 @@ module _ (p : Plan) (sound : Sound p) (low : ℕ) where
   elim-tidy (suc count) t t₂ two tidy e =
       let r = first-of count t t₂ e in
       elim-tidy count (r .0) t₂ (omega arith)
-      (place-tidy p sound (low + count) (omega arith) t (tidy-last count t tidy) (r .0) (r .1)) (r .2)
+      (place-tidy p good (low + count) (omega arith) t (tidy-last count t tidy) (r .0) (r .1)) (r .2)
 
   pub elim-keeps : (count : ℕ) (t t₂ : Rows) → low + count ≤ p .jobs + p .jobs → TidyBelow count t → eliminated p low count t ≡ bounds t₂
       → (u : History) → length u ≡ low → Played count t u → Keeps (nodes low) (at t₂) u
@@ -306,9 +306,9 @@ module _ (p : Plan) (sound : Sound p) (low : ℕ) where
   elim-keeps (suc count) t t₂ two tidy e u n q =
       let r = first-of count t t₂ e in
       let t′ = tidy-last count t tidy in
-      elim-keeps count (r .0) t₂ (omega arith) (place-tidy p sound (low + count) (omega arith) t t′ (r .0) (r .1)) (r .2) u n
+      elim-keeps count (r .0) t₂ (omega arith) (place-tidy p good (low + count) (omega arith) t t′ (r .0) (r .1)) (r .2) u n
       (forced-map p _ _ count u
-      (λ h f c. place-keeps p sound (low + count) (omega arith) t t′ (r .0) (r .1) h (f .size ∙ ap (λ n. n + count) n) c)
+      (λ h f c. place-keeps p good (low + count) (omega arith) t t′ (r .0) (r .1) h (f .size ∙ ap (λ n. n + count) n) c)
       (played-last count t u q))
 
   pub elim-back : (count : ℕ) (t t₂ : Rows) → low + count ≤ p .jobs + p .jobs → TidyBelow count t → eliminated p low count t ≡ bounds t₂
@@ -321,8 +321,8 @@ module _ (p : Plan) (sound : Sound p) (low : ℕ) where
       let t′ = tidy-last count t tidy in
       played-before count t u
       (forced-map p _ _ count u
-      (λ h f c. place-back p sound (low + count) (omega arith) t t′ (r .0) (r .1) h (f .size ∙ ap (λ n. n + count) n) (f .timely old) c)
-      (elim-back count (r .0) t₂ (omega arith) (place-tidy p sound (low + count) (omega arith) t t′ (r .0) (r .1)) (r .2) u n old kept))
+      (λ h f c. place-back p good (low + count) (omega arith) t t′ (r .0) (r .1) h (f .size ∙ ap (λ n. n + count) n) (f .timely old) c)
+      (elim-back count (r .0) t₂ (omega arith) (place-tidy p good (low + count) (omega arith) t t′ (r .0) (r .1)) (r .2) u n old kept))
 
   not-none : (t : Rows) → bounds t ≡ contradiction → ⊥
   not-none t e = clash (cc)
@@ -336,13 +336,13 @@ module _ (p : Plan) (sound : Sound p) (low : ℕ) where
       let low-enough : low + count < p .jobs + p .jobs = omega arith in
       ⊎-elim
       (λ (c : withoutPlace p (low + count) t ≡ contradiction).
-      fails-map p sound _ _ low (λ h n old q. played-last count t h q)
-      (fails-before p sound _ low count (place-none p sound (low + count) low-enough t t′ c)))
+      fails-map p good _ _ low (λ h n old q. played-last count t h q)
+      (fails-before p good _ low count (place-none p good (low + count) low-enough t t′ c)))
       (λ (r : (v : Rows) × (withoutPlace p (low + count) t ≡ bounds v) × (eliminated p low count v ≡ contradiction)).
-      fails-map p sound _ _ low
+      fails-map p good _ _ low
       (λ h n old q.
       forced-map p _ _ count h
-      (λ h′ f c. place-keeps p sound (low + count) low-enough t t′ (r .0) (r .1) h′ (f .size ∙ ap (λ n. n + count) n) c)
+      (λ h′ f c. place-keeps p good (low + count) low-enough t t′ (r .0) (r .1) h′ (f .size ∙ ap (λ n. n + count) n) c)
       (played-last count t h q))
-      (elim-none count (r .0) (omega arith) (place-tidy p sound (low + count) low-enough t t′ (r .0) (r .1)) (r .2)))
+      (elim-none count (r .0) (omega arith) (place-tidy p good (low + count) low-enough t t′ (r .0) (r .1)) (r .2)))
       (thenSet-none (withoutPlace p (low + count) t) (eliminated p low count) e)

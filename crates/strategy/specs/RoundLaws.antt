@@ -9,6 +9,7 @@ use native.Mathlib.Nat.{zero-mul}
 use native.Mathlib.Omega.{arith}
 use lib.ListN.{length, List·getD-append}
 use Rattle.plan.specs.declared.Plan.{Plan}
+use Rattle.plan.specs.Accepted.{Accepted}
 use Rattle.bounds.specs.Events.{eventOf, nodes}
 use Rattle.bounds.specs.Tables.{Cell, Rows, at, Set, bounds}
 use Rattle.bounds.specs.Elimination.{thenSet, eliminated}
@@ -17,7 +18,6 @@ use Rattle.rounds.specs.Rounds.{C0, joined, round}
 use Rattle.strategy.specs.Histories.{History, noRan, seenFrom}
 use Rattle.strategy.specs.Strategies.{Kept, Forced, Strategy}
 use Rattle.strategy.specs.Keeping.{when, Keeps, Timely}
-use Rattle.strategy.specs.Soundness.{Sound}
 use Rattle.strategy.specs.HistoryLaws.{Follows, forced-map, forced-split, forced-join, forced-play}
 use Rattle.strategy.specs.PlaceLaws.{Tidy, thenSet-bounds, elim-tidy, elim-keeps, elim-back}
 use Rattle.strategy.specs.WindowLaws.{Held, held-own, held-across, own-held}
@@ -43,11 +43,11 @@ pub keeps-before : (k : ℕ) (f : ℕ → ℕ → Cell) (u m : History) → k �
 keeps-before k f u m n kept y z a b =
     rw (when-before u m y (omega arith), when-before u m z (omega arith)) at (kept y z a b)
 
-module _ (p : Plan) (sound : Sound p) where
+module _ (p : Plan) (good : Accepted p) where
   -- a strategy from here on means that so far the bounds are kept
   pub strategy-kept : (g : ℕ) (h : History) → Strategy p h g → Kept p h
   strategy-kept g h s =
-      let r = forced-play p sound (Kept p) true g h s in
+      let r = forced-play p good (Kept p) true g h s in
       kept-before p h (r .follows .more) (subst (Kept p) (r .follows .whole) (r .won))
 
   -- ---- the parts of a round
@@ -71,15 +71,15 @@ module _ (p : Plan) (sound : Sound p) where
 
   pub C-tidy : (m : ℕ) (c : Rows) → C p m ≡ bounds c → Tidy p (nodes (p .jobs)) c
   unfolding C
-  C-tidy zero c e = C0-tidy p sound c e
+  C-tidy zero c e = C0-tidy p good c e
   C-tidy (suc m) c e =
       let r = round-parts m c e in
-      elim-tidy p sound (p .jobs) (p .jobs) (r .both) c (omega arith)
-      (joined-tidy p sound (r .own) (r .before) (r .own-is) (C-tidy m (r .before) (r .before-is) .anchored) (r .both) (r .both-is)) (r .left-is)
+      elim-tidy p good (p .jobs) (p .jobs) (r .both) c (omega arith)
+      (joined-tidy p good (r .own) (r .before) (r .own-is) (C-tidy m (r .before) (r .before-is) .anchored) (r .both) (r .both-is)) (r .left-is)
 
   pub round-tidy : (m : ℕ) (c : Rows) (r : Round m c) → Tidy p (nodes (p .jobs + p .jobs)) (r .both)
   round-tidy m c r =
-      joined-tidy p sound (r .own) (r .before) (r .own-is) (C-tidy m (r .before) (r .before-is) .anchored) (r .both) (r .both-is)
+      joined-tidy p good (r .own) (r .before) (r .own-is) (C-tidy m (r .before) (r .before-is) .anchored) (r .both) (r .both-is)
 
   same-set : (a b : Rows) (x : Set) → x ≡ bounds a → x ≡ bounds b → a ≡ b
   same-set a b x e f = cc
@@ -91,10 +91,10 @@ module _ (p : Plan) (sound : Sound p) where
   C-own zero c e c0 e0 u n old kept = subst (λ c. Keeps (nodes (p .jobs)) (at c) u) (same-set c c0 (C0 p) e e0) kept
   C-own (suc m) c e c0 e0 u n old kept =
       let r = round-parts m c e in
-      let g = elim-back p sound (p .jobs) (p .jobs) (r .both) c (omega arith) (round-tidy m c r) (r .left-is) u n old kept in
-      let q = forced-play p sound _ true (p .jobs) u g in
+      let g = elim-back p good (p .jobs) (p .jobs) (r .both) c (omega arith) (round-tidy m c r) (r .left-is) u n old kept in
+      let q = forced-play p good _ true (p .jobs) u g in
       let size = q .follows .size in
-      let b = joined-back p sound (r .own) (r .before) (r .own-is) (C-tidy m (r .before) (r .before-is) .anchored) (r .both) (r .both-is)
+      let b = joined-back p good (r .own) (r .before) (r .own-is) (C-tidy m (r .before) (r .before-is) .anchored) (r .both) (r .both-is)
       (q .history) (omega arith) (q .follows .timely old) (q .won) in
       subst (λ c. Keeps (nodes (p .jobs)) (at c) u) (same-set (r .own) c0 (C0 p) (r .own-is) e0)
       (keeps-before (nodes (p .jobs)) (at (r .own)) u (q .follows .more) (omega arith)
@@ -104,7 +104,7 @@ module _ (p : Plan) (sound : Sound p) where
   pub C-held : (m : ℕ) (c : Rows) → C p m ≡ bounds c → (c0 : Rows) → C0 p ≡ bounds c0 → (u : History) → length u ≡ p .jobs → Timely p u
       → Keeps (nodes (p .jobs)) (at c) u → Held p u
   C-held m c e c0 e0 u n old kept =
-      own-held p sound u (C0-back p sound c0 e0 u (omega arith) old (C-own m c e c0 e0 u n old kept)) (λ l. absurd (omega arith))
+      own-held p good u (C0-back p good c0 e0 u (omega arith) old (C-own m c e c0 e0 u n old kept)) (λ l. absurd (omega arith))
 
   -- ---- from one round to the next
 
@@ -136,11 +136,11 @@ module _ (p : Plan) (sound : Sound p) where
         let held = held-of p h′ (strategy-kept (m * p .jobs) h′ (q .0)) (q .1) in
         let len = length-seen p j h′ in
         record {
-          this = C0-keeps p sound c0 c0-is (seenFrom p j h′) (held-own p sound (seenFrom p j h′) (held j) (timely-seen p j h′ old′) (omega arith));
+          this = C0-keeps p good c0 c0-is (seenFrom p j h′) (held-own p good (seenFrom p j h′) (held j) (timely-seen p j h′ old′) (omega arith));
           next = rw (seen-next p j h′) (answers (suc j) h′ two old′ (q .1) (q .0));
-          across = held-across p sound (seenFrom p j h′) (held j) (omega arith);
+          across = held-across p good (seenFrom p j h′) (held j) (omega arith);
         })
-        (forced-punctual p sound (λ h. Strategy p h (m * p .jobs)) (λ h q. strategy-kept (m * p .jobs) h q) g h room
+        (forced-punctual p good (λ h. Strategy p h (m * p .jobs)) (λ h q. strategy-kept (m * p .jobs) h q) g h room
         (forced-split p (Kept p) g (m * p .jobs) h s)))
 
     pub held-both : Kept p h → (h′ : History) → Follows p h g h′ → Both p c0 c (seenFrom p j h′) → Always p (Held p) h′
@@ -151,12 +151,12 @@ module _ (p : Plan) (sound : Sound p) where
         let len₁ = length-seen p j h′ in
         let len₂ = length-seen p (suc j) h′ in
         let this-held : Held p (seenFrom p j h′) =
-        own-held p sound (seenFrom p j h′)
-        (C0-back p sound c0 c0-is (seenFrom p j h′) (omega arith) (timely-seen p j h′ old′) (b .this)) (λ l. b .across) in
+        own-held p good (seenFrom p j h′)
+        (C0-back p good c0 c0-is (seenFrom p j h′) (omega arith) (timely-seen p j h′ old′) (b .this)) (λ l. b .across) in
         let next-held : Held p (seenFrom p (suc j) h′) =
         C-held m c c-is c0 c0-is (seenFrom p (suc j) h′) (omega arith) (timely-seen p (suc j) h′ old′) (rw (seen-next p j h′) at (b .next)) in
         subst (λ h. Always p (Held p) h) (sym (f .whole))
-        (held-next p sound h (f .more) j (omega arith) (ap length (sym (f .whole)) ∙ two) (held-of p h k room)
+        (held-next p good h (f .more) j (omega arith) (ap length (sym (f .whole)) ∙ two) (held-of p h k room)
         (subst (λ h. Held p (seenFrom p j h)) (f .whole) this-held)
         (subst (λ h. Held p (seenFrom p (suc j) h)) (f .whole) next-held))
 
@@ -176,14 +176,14 @@ module _ (p : Plan) (sound : Sound p) where
     both-keeps q =
         forced-map p _ _ g u
         (λ v f b.
-        joined-keeps p sound (r .own) (r .before) (r .own-is) (C-tidy m (r .before) (r .before-is) .anchored) (r .both) (r .both-is) v (f .size ∙ n) b)
+        joined-keeps p good (r .own) (r .before) (r .own-is) (C-tidy m (r .before) (r .before-is) .anchored) (r .both) (r .both-is) v (f .size ∙ n) b)
         q
 
     pub keeps-both : Timely p u → Forced p (Keeps (nodes (p .jobs + p .jobs)) (at (r .both))) g u → Forced p (Both p (r .own) (r .before)) g u
     keeps-both old q =
         forced-map p _ _ g u
         (λ v f b.
-        joined-back p sound (r .own) (r .before) (r .own-is) (C-tidy m (r .before) (r .before-is) .anchored) (r .both) (r .both-is) v (f .size ∙ n)
+        joined-back p good (r .own) (r .before) (r .own-is) (C-tidy m (r .before) (r .before-is) .anchored) (r .both) (r .both-is) v (f .size ∙ n)
         (f .timely old) b)
         q
 
@@ -192,12 +192,12 @@ module _ (p : Plan) (sound : Sound p) where
   strategy-keeps zero c e = λ j h n old room s.
       let len = length-seen p j h in
       let k : Kept p h = strategy-kept (0 * p .jobs) h s in
-      C0-keeps p sound c e (seenFrom p j h)
-      (held-own p sound (seenFrom p j h) (held-of p h k room j) (timely-seen p j h old) (omega arith))
+      C0-keeps p good c e (seenFrom p j h)
+      (held-own p good (seenFrom p j h) (held-of p h k room j) (timely-seen p j h old) (omega arith))
   strategy-keeps (suc m) c e = λ j h n old room s.
       let r = round-parts m c e in
       let len = length-seen p j h in
-      elim-keeps p sound (p .jobs) (p .jobs) (r .both) c (omega arith) (round-tidy m c r) (r .left-is) (seenFrom p j h) (omega arith)
+      elim-keeps p good (p .jobs) (p .jobs) (r .both) c (omega arith) (round-tidy m c r) (r .left-is) (seenFrom p j h) (omega arith)
       (both-keeps m c r (seenFrom p j h) (p .jobs) (omega arith)
       (strategy-both m (r .own) (r .before) (r .own-is) (r .before-is) j 0 (p .jobs) (omega arith) h (omega arith) old room
       (strategy-keeps m (r .before) (r .before-is)) (subst (λ g. Strategy p h g) (more-windows m) s)))
@@ -212,5 +212,5 @@ module _ (p : Plan) (sound : Sound p) where
       (both-strategy m (r .own) (r .before) (r .own-is) (r .before-is) j 0 (p .jobs) (omega arith) h (omega arith) old room
       (keeps-strategy m (r .before) (r .before-is)) k
       (keeps-both m c r (seenFrom p j h) (p .jobs) (omega arith) (timely-seen p j h old)
-      (elim-back p sound (p .jobs) (p .jobs) (r .both) c (omega arith) (round-tidy m c r) (r .left-is) (seenFrom p j h) (omega arith)
+      (elim-back p good (p .jobs) (p .jobs) (r .both) c (omega arith) (round-tidy m c r) (r .left-is) (seenFrom p j h) (omega arith)
       (timely-seen p j h old) kept)))

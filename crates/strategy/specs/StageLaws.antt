@@ -14,6 +14,7 @@ use lib.ListN.{length, getD, length-append, List·getD-append}
 use lib.Seq.{getD-at}
 use Rattle.whole.specs.Rules.{wholes}
 use Rattle.plan.specs.declared.Plan.{Plan}
+use Rattle.plan.specs.Accepted.{Accepted}
 use Rattle.bounds.specs.Events.{eventOf, startNode, finishNode, nodes}
 use Rattle.bounds.specs.Tables.{Rows, at, bounds}
 use Rattle.bounds.specs.Elimination.{withoutFinish, withoutStart, thenSet, withoutPlace, eliminated}
@@ -21,7 +22,6 @@ use Rattle.calendars.specs.Calendars.{thenTables, beforeStarts}
 use Rattle.strategy.specs.Histories.{History, ranFor, turn}
 use Rattle.strategy.specs.Strategies.{Forced}
 use Rattle.strategy.specs.Keeping.{Holds, when, gap, Keeps, Timely}
-use Rattle.strategy.specs.Soundness.{Sound}
 use Rattle.strategy.specs.EliminationLaws.{keeps-more, without-s, below-or-last}
 use Rattle.strategy.specs.HistoryLaws.{length-more, timely-more, turn-min-max, forced-map, forced-split}
 use Rattle.strategy.specs.PlaceLaws.{
@@ -58,25 +58,25 @@ pub record Allowed (v : Rows) (k : ℕ) (X : ℕ → ℤ) (x : ℤ) : Type 0 whe
   pub column : (y : ℕ) → y < startNode k → Holds (at v y (startNode k)) (x -ℤ X y)
 
 -- the bounds of the start to and from the origin are there
-pub before-tidy : (p : Plan) → Sound p → (t : Rows) (k rest : ℕ) → suc k + rest ≤ p .jobs + p .jobs → Tidy p (nodes (suc k + rest)) t
+pub before-tidy : (p : Plan) → Accepted p → (t : Rows) (k rest : ℕ) → suc k + rest ≤ p .jobs + p .jobs → Tidy p (nodes (suc k + rest)) t
     → (stage : Stage p t k rest) → Tidy p (finishNode k) (stage .before)
-before-tidy p sound t k rest two tidy stage =
-    finish-tidy p k (stage .after) (elim-tidy p sound (suc k) rest t (stage .after) two tidy (stage .after-is)) (stage .before) (stage .before-is)
+before-tidy p good t k rest two tidy stage =
+    finish-tidy p k (stage .after) (elim-tidy p good (suc k) rest t (stage .after) two tidy (stage .after-is)) (stage .before) (stage .before-is)
 
-module _ (p : Plan) (sound : Sound p) (t : Rows) (k rest : ℕ) (two : suc k + rest ≤ p .jobs + p .jobs) (tidy : Tidy p (nodes (suc k + rest)) t)
+module _ (p : Plan) (good : Accepted p) (t : Rows) (k rest : ℕ) (two : suc k + rest ≤ p .jobs + p .jobs) (tidy : Tidy p (nodes (suc k + rest)) t)
     (stage : Stage p t k rest) (u : History) (n : length u ≡ k) (old : Timely p u) where
   -- the rest of the game
   abbrev pub Rest : ℕ → History → Type 0
   Rest g v = Forced p (Keeps (nodes (suc k + rest)) (at t)) g v
 
   after-tidy : Tidy p (nodes (suc k)) (stage .after)
-  after-tidy = elim-tidy p sound (suc k) rest t (stage .after) two tidy (stage .after-is)
+  after-tidy = elim-tidy p good (suc k) rest t (stage .after) two tidy (stage .after-is)
 
   rest-after : (v : History) → length v ≡ suc k → Rest rest v → Keeps (nodes (suc k)) (at (stage .after)) v
-  rest-after v m q = elim-keeps p sound (suc k) rest t (stage .after) two tidy (stage .after-is) v m q
+  rest-after v m q = elim-keeps p good (suc k) rest t (stage .after) two tidy (stage .after-is) v m q
 
   after-rest : (v : History) → length v ≡ suc k → Timely p v → Keeps (nodes (suc k)) (at (stage .after)) v → Rest rest v
-  after-rest v m o q = elim-back p sound (suc k) rest t (stage .after) two tidy (stage .after-is) v m o q
+  after-rest v m o q = elim-back p good (suc k) rest t (stage .after) two tidy (stage .after-is) v m o q
 
   size-more : (x e : ℤ) → length (ranFor u x e) ≡ suc k
   size-more x e = length-more u _ ∙ ap suc n
@@ -86,10 +86,10 @@ module _ (p : Plan) (sound : Sound p) (t : Rows) (k rest : ℕ) (two : suc k + r
   below q y z a b =
       let chosen = forced-map p _ _ 1 u (λ v f r. rest-after v (f .size ∙ ap (λ n. n + 1) n ∙ add-one k) r)
       (forced-split p _ 1 rest u (subst (λ g. Rest g u) (let e : suc rest ≡ 1 + rest = omega arith in e) q)) in
-      let kept = place-keeps-at p sound k (omega arith) (stage .after) after-tidy u n (stage .before) (stage .before-is) (stage .left)
+      let kept = place-keeps-at p good k (omega arith) (stage .after) after-tidy u n (stage .before) (stage .before-is) (stage .left)
       (stage .left-is) chosen in
       without-s k (stage .before) (λ n. pos 0) y z (gap u y z)
-      (start-judged-back p sound k (omega arith) (stage .after) after-tidy u n (stage .before) (stage .before-is) (stage .left)
+      (start-judged-back p good k (omega arith) (stage .after) after-tidy u n (stage .before) (stage .before-is) (stage .left)
       (stage .left-is) old kept y z a b) .0
 
   allowed-kept : Keeps (startNode k) (at (stage .before)) u → (x e : ℤ) → Allowed (stage .before) k (λ y. when u (eventOf y)) x
@@ -117,16 +117,16 @@ module _ (p : Plan) (sound : Sound p) (t : Rows) (k rest : ℕ) (two : suc k + r
   pub allowed-rest : Rest (suc rest) u → (x : ℤ) → Allowed (stage .before) k (λ y. when u (eventOf y)) x
       → (e : ℤ) → turn p (length u) .min ≤ℤ e → e ≤ℤ turn p (length u) .max → Rest rest (ranFor u x e)
   allowed-rest q x a e lo hi =
-      let mm = turn-min-max p sound (length u) in
+      let mm = turn-min-max p good (length u) in
       after-rest (ranFor u x e) (size-more x e) (timely-more p u x e lo hi old)
-      (start-choice p sound k (omega arith) (stage .after) after-tidy u n (stage .before) (stage .before-is) x (turn p (length u) .min) old (omega wholes) mm
+      (start-choice p good k (omega arith) (stage .after) after-tidy u n (stage .before) (stage .before-is) x (turn p (length u) .min) old (omega wholes) mm
       (allowed-kept (below q) x (turn p (length u) .min) a) e lo hi)
 
   pub rest-allowed : (x : ℤ) → ((e : ℤ) → turn p (length u) .min ≤ℤ e → e ≤ℤ turn p (length u) .max → Rest rest (ranFor u x e))
       → Allowed (stage .before) k (λ y. when u (eventOf y)) x
   rest-allowed x f =
       kept-allowed x (turn p (length u) .min)
-      (start-choice-back p sound k (omega arith) (stage .after) after-tidy u n (stage .before) (stage .before-is) x (turn p (length u) .min)
+      (start-choice-back p good k (omega arith) (stage .after) after-tidy u n (stage .before) (stage .before-is) x (turn p (length u) .min)
       (λ e lo hi. rest-after (ranFor u x e) (size-more x e) (f e lo hi)))
 
 -- ---- the stages of two windows and of one alone

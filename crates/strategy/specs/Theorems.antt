@@ -1,5 +1,5 @@
--- Demand 3 as theorems. A plan of which the laws use what acceptance gives (`Sound`); its outcome, its calendar and its runs are document 01's, and what
--- they are held against is `Strategies` alone. Each proof cites where the work was done.
+-- Demand 3 as theorems. Of an accepted plan; its outcome, its calendar and its runs are document 01's, and what they are held against is `Strategies` alone.
+-- Each proof cites where the work was done.
 use mathlib.Core.Bool.{Bool, true}
 use Prim.Native.Nat.{ℕ, suc, _+_, _*_, _-_, _≤_, _<_}
 use mathlib.Core.Path.{_≡_, refl}
@@ -29,12 +29,12 @@ use Rattle.runs.specs.declared.Step.the-variants.{Ask, Start, Finish}
 use Rattle.runs.specs.declared.Answer.the-variants.{Offered, Started, Final, Refused}
 use Rattle.runs.specs.ValueLimits.{isTime}
 use Rattle.runs.specs.Offers.{offerOf}
-use Rattle.runs.specs.Steps.{newRun, stepped}
+use Rattle.runs.specs.Steps.{newRun, stepped, OnOffer, InTimes, afterSteps}
+use Rattle.runs.specs.StepEffectLaws.{started-running, final-next, final-over}
 use Rattle.strategy.specs.Histories.{History, ranFor, turn, seenFrom}
 use Rattle.strategy.specs.Strategies.{Kept, Forced, Strategy, StrategyAfter, StrategyFor, StrategyForAll}
-use Rattle.strategy.specs.Reaching.{OnOffer, InTimes, AtTurn, Reached, afterSteps, ReachedWith}
+use Rattle.strategy.specs.Reaching.{AtTurn, historyAfter, Reached, ReachedWith, StepEffect}
 use Rattle.strategy.specs.Keeping.{Keeps, Timely, Extreme, Anchored, Sized}
-use Rattle.strategy.specs.Soundness.{Sound}
 use Rattle.strategy.specs.SetLaws.{judged-iff, judged-none}
 use Rattle.strategy.specs.EliminationLaws.{KeepsAt, setAt, finish-iff, start-iff}
 use Rattle.strategy.specs.KeptLaws.{Punctual}
@@ -57,8 +57,7 @@ use Rattle.strategy.specs.ReachedLaws.{
   reached-final,
   reached-outside,
 }
-use Rattle.strategy.specs.SteppedLaws.{started-running, final-next, final-over}
-use Rattle.strategy.specs.StepsLaws.{steps-reached}
+use Rattle.strategy.specs.ReachingLaws as reaching-laws
 
 -- ---- what a strategy is, as equations
 
@@ -95,7 +94,7 @@ pub start-eliminated : (k : ℕ) (t : Rows) (X : ℕ → ℤ) → at t (startNod
     → KeepsAt (startNode k) (startCell k t) X ↔ ((s : ℤ) × KeepsAt (suc (startNode k)) (at t) (setAt X (startNode k) s))
 start-eliminated k t X corner w there = start-iff k t X corner w there
 
-module _ (p : Plan) (sound : Sound p) where
+module _ (p : Plan) (good : Accepted p) where
   -- ---- rounds
 
   -- After j + 1 whole windows there is a strategy for m windows more exactly if the history keeps the plan's bounds and its last window keeps C(m).
@@ -103,95 +102,101 @@ module _ (p : Plan) (sound : Sound p) where
   pub round-theorem : (m : ℕ) (c : Rows) → C p m ≡ bounds c → (j : ℕ) (h : History) → length h ≡ suc j * p .jobs → Timely p h → Punctual p h
       → Strategy p h (m * p .jobs) ↔ (Kept p h × Keeps (nodes (p .jobs)) (at c) (seenFrom p j h))
   round-theorem m c e j h n old room = (
-    λ s. (strategy-kept p sound (m * p .jobs) h s, strategy-keeps p sound m c e j h n old room s),
-    λ k. keeps-strategy p sound m c e j h n old room (k .0) (k .1),
+    λ s. (strategy-kept p good (m * p .jobs) h s, strategy-keeps p good m c e j h n old room s),
+    λ k. keeps-strategy p good m c e j h n old room (k .0) (k .1),
   )
 
   -- 002's Proposition 2: fewer windows follow from more.
   pub fewer : (h : History) (g k a : ℕ) → Strategy p h (g + (a + k) * p .jobs) → Strategy p h (g + k * p .jobs)
-  fewer h g k a s = fewer-windows p sound h g k a s
+  fewer h g k a s = fewer-windows p good h g k a s
 
   -- ---- the verdict
 
   -- 'settled': the settled set is C(m - 1), C(m), and every later one.
   pub settled-for-good : (m : ℕ) (c : Rows) → outcome p ≡ settled m c → (k : ℕ) → m ≤ suc k → C p k ≡ bounds c
-  settled-for-good m c e k h = settled-from-then p sound m c (settled-is p sound m c e) k h
+  settled-for-good m c e k h = settled-from-then p good m c (settled-is p good m c e) k h
 
   -- From the beginning a strategy exists for every number of windows.
   pub settled-means : (m : ℕ) → verdict p ≡ Settled m → StrategyForAll p
-  settled-means m h = let r = settled-outcome p sound m h in settled-strategy p sound m (r .0) (settled-is p sound m (r .0) (r .1))
+  settled-means m h = let r = settled-outcome p good m h in settled-strategy p good m (r .0) (settled-is p good m (r .0) (r .1))
 
   -- 'no strategy', K: none for K windows, and one for every smaller number. Unsettled says neither.
   pub no-strategy-means : (K : ℕ) → verdict p ≡ NoStrategy K → (StrategyFor p K → ⊥) × ((k : ℕ) → k < K → StrategyFor p k)
-  no-strategy-means K h = let r = none-is p sound K (none-outcome p sound K h) in (r .none, r .fewer)
+  no-strategy-means K h = let r = none-is p good K (none-outcome p good K h) in (r .none, r .fewer)
 
-  -- ---- offers: of an accepted plan, in any run that kept to its offers
+  -- ---- offers: of an accepted plan, in any reached run
 
   module _ (m : ℕ) (c : Rows) (accepted : outcome p ≡ settled m c) (r : Run) (h : History) (reached : Reached p (calendar p c) r h) where
     -- The run waits for job i of window j; `last` is no premise.
     module _ (j i : ℕ) (waits : r .phase ≡ Waiting j i) where
       -- The offer is not empty.
       pub offer-not-empty : offerOf p (calendar p c) r j i .from .0 ≤ℤ offerOf p (calendar p c) r j i .to .0
-      offer-not-empty = reached-some p sound m c accepted r h reached j i waits
+      offer-not-empty = reached-some p good m c accepted r h reached j i waits
 
       -- t is on offer if and only if, after starting there, for this window (k = 0) and for each later one there is a strategy up to that window's end.
       pub offer-exact : (t : ℤ) → OnOffer (offerOf p (calendar p c) r j i) t ↔ ((k : ℕ) → StrategyAfter p h t ((p .jobs - i) + k * p .jobs))
-      offer-exact t = reached-offer p sound m c accepted r h reached j i waits t
+      offer-exact t = reached-offer p good m c accepted r h reached j i waits t
 
       -- It is that job's turn.
       pub waits-at-turn : AtTurn p h j i
-      waits-at-turn = reached-waiting p sound m c accepted r h reached j i waits
+      waits-at-turn = reached-waiting p good m c accepted r h reached j i waits
 
       module _ (lasts : j ≤ p .last) where
         -- While the run lasts, an ask is answered by that offer,
         pub ask-answered : stepped p (calendar p c) r Ask .answer ≡ Offered (offerOf p (calendar p c) r j i)
-        ask-answered = reached-ask p sound m c accepted r h reached j i waits lasts
+        ask-answered = reached-ask p good m c accepted r h reached j i waits lasts
 
         -- a start on offer is taken,
         pub on-offer-taken : (t : RunTime) → OnOffer (offerOf p (calendar p c) r j i) (t .0) → stepped p (calendar p c) r (Start (At t)) .answer ≡ Started j i t
-        on-offer-taken = reached-taken p sound m c accepted r h reached j i waits lasts
+        on-offer-taken = reached-taken p good m c accepted r h reached j i waits lasts
 
         -- and is in the range of T,
-        pub on-offer-in-range : Accepted p → (t : RunTime) → OnOffer (offerOf p (calendar p c) r j i) (t .0) → isTime t ≡ true
-        on-offer-in-range = reached-in-range p sound m c accepted r h reached j i waits lasts
+        pub on-offer-in-range : (t : RunTime) → OnOffer (offerOf p (calendar p c) r j i) (t .0) → isTime t ≡ true
+        on-offer-in-range = reached-in-range p good m c accepted r h reached j i waits lasts
 
         -- any other start is refused by 8,
         pub off-offer-refused : (t : RunTime) → (OnOffer (offerOf p (calendar p c) r j i) (t .0) → ⊥)
             → stepped p (calendar p c) r (Start (At t)) .answer ≡ Refused refusal.OutsideOffer
-        off-offer-refused = reached-refused p sound m c accepted r h reached j i waits lasts
+        off-offer-refused = reached-refused p good m c accepted r h reached j i waits lasts
 
         -- and `start=auto` takes the lower end of the offer.
-        pub auto-taken : Accepted p → stepped p (calendar p c) r (Start Auto) .answer ≡ Started j i (offerOf p (calendar p c) r j i .from)
-        auto-taken limits = reached-auto p sound m c accepted r h reached j i waits lasts limits
+        pub auto-taken : stepped p (calendar p c) r (Start Auto) .answer ≡ Started j i (offerOf p (calendar p c) r j i .from)
+        auto-taken = reached-auto p good m c accepted r h reached j i waits lasts
 
         -- So no run is missing: from here every start on offer and every running time between min and max lead to a run with that history.
         pub no-run-missing : (t : RunTime) → OnOffer (offerOf p (calendar p c) r j i) (t .0)
             → (e : ℤ) → turn p (length h) .min ≤ℤ e → e ≤ℤ turn p (length h) .max → (r′ : Run) × Reached p (calendar p c) r′ (ranFor h (t .0) e)
-        no-run-missing = reached-on p sound m c accepted r h reached j i waits lasts
+        no-run-missing = reached-on p good m c accepted r h reached j i waits lasts
 
     -- The run runs job i of window j since s.
     module _ (j i : ℕ) (s : RunTime) (runs : r .phase ≡ Running j i s) where
       pub runs-at-turn : AtTurn p h j i
-      runs-at-turn = reached-running p sound m c accepted r h reached j i s runs
+      runs-at-turn = reached-running p good m c accepted r h reached j i s runs
 
       module _ (t : RunTime) where
         -- A finish is final if and only if it is inside the times of the job whose turn it is,
         pub inside-final : InTimes (turn p (length h)) (s .0) (t .0) ↔ (stepped p (calendar p c) r (Finish t) .answer ≡ Final j i t)
-        inside-final = reached-final p sound m c accepted r h reached j i s runs t
+        inside-final = reached-final p good m c accepted r h reached j i s runs t
 
         -- and else refused by 9.
         pub outside-refused : (InTimes (turn p (length h)) (s .0) (t .0) → ⊥) → stepped p (calendar p c) r (Finish t) .answer ≡ Refused refusal.OutsideTimes
-        outside-refused = reached-outside p sound m c accepted r h reached j i s runs t
+        outside-refused = reached-outside p good m c accepted r h reached j i s runs t
 
     -- Refusal 11 is never given.
     pub never-11 : (st : Step) → stepped p (calendar p c) r st .answer ≡ Refused refusal.EmptyOffer → ⊥
-    never-11 = reached-never-11 p sound m c accepted r h reached
+    never-11 = reached-never-11 p good m c accepted r h reached
 
     -- The run has kept every bound.
     pub all-kept : Kept p h
-    all-kept = reached-kept p sound m c accepted r h reached
+    all-kept = reached-kept p good m c accepted r h reached
 
 -- ---- steps of any run, with any plan and calendar: what they make of it
+
+-- 'whose starts were on offer and running times inside limits': a step leaves run and history as they are, or it is a start that was on offer, or a finish of
+-- the job that runs, inside its times.
+pub step-effect : (p : Plan) (c : Calendar) (r : Run) (h : History) (st : Step)
+    → StepEffect p c r h (stepped p c r st .run) (historyAfter r (stepped p c r st .answer) h)
+step-effect = reaching-laws.step-effect
 
 module _ (p : Plan) (c : Calendar) (r : Run) (j i : ℕ) where
   -- A start that was answered by `started=j,i,t` leaves the run running that job since t.
@@ -209,4 +214,4 @@ module _ (p : Plan) (c : Calendar) (r : Run) (j i : ℕ) where
 
 -- ---- sessions: whatever the steps are, the run after them is one of which the theorems on offers speak.
 pub session-reached : (p : Plan) (c : Calendar) (sts : List Step) → ReachedWith p c (afterSteps p c newRun sts)
-session-reached p c sts = steps-reached p c sts
+session-reached = reaching-laws.steps-reached

@@ -25,11 +25,10 @@ use Rattle.strategy.specs.Histories.{Ran, History, ranFor, turn, since, 
 use Rattle.strategy.specs.Strategies.{ranIn, KeptIn, Kept, Strategy, StrategyAfter}
 use Rattle.strategy.specs.HistoryLaws.{length-more, ran-new, turn-min-max}
 use Rattle.strategy.specs.SeenLaws.{length-seen, ran-seen}
-use Rattle.strategy.specs.Soundness.{Sound}
-use Rattle.strategy.specs.SoundLaws.{accepted-sound}
+use Rattle.strategy.specs.AcceptedLaws.{turn-accepted}
 use Rattle.strategy.specs.RoundLaws.{strategy-kept}
 
-module _ (p : Plan) (sound : Sound p) (h : History) (j i g : ℕ) (size : length h ≡ j * p .jobs + i) (job : i < p .jobs) (t : ℤ)
+module _ (p : Plan) (good : Accepted p) (h : History) (j i g : ℕ) (size : length h ≡ j * p .jobs + i) (job : i < p .jobs) (t : ℤ)
     (s : StrategyAfter p h t g) where
   -- the shortest run
   abbrev shortest : ℤ
@@ -39,7 +38,7 @@ module _ (p : Plan) (sound : Sound p) (h : History) (j i g : ℕ) (size : length
   ran = record { start = t; finish = t +ℤ shortest }
 
   kept : KeptIn p (seenFrom p j (h ++ (ran ∷ [])))
-  kept = strategy-kept p sound g (ranFor h t shortest) (s shortest (omega wholes) (turn-min-max p sound (length h))) j
+  kept = strategy-kept p good g (ranFor h t shortest) (s shortest (omega wholes) (turn-min-max p good (length h))) j
 
   there : i < length (seenFrom p j (h ++ (ran ∷ [])))
   there = omega (arith, length-seen p j (h ++ (ran ∷ [])), length-more h ran)
@@ -74,31 +73,27 @@ not-before t b r h n m = omega wholes
 not-after : (t b e d : ℤ) → ((t +ℤ e) -ℤ b) ≤ℤ d → pos 0 ≤ℤ e → d ≤ℤ latestDeadline → Within (1000000000 * 86400000) b → t ≤ℤ lastTime
 not-after t b e d h n m w = omega (reads le (any ⊕ any ⊖ any) any, wholes)
 
-module _ (p : Plan) (a : Accepted p) where
-  at-turn : (k : ℕ) → JobAccepted (turn p k)
-  at-turn k = a .job-at (k % p .jobs) (mod-lt k (a .jobs-least))
-
+module _ (p : Plan) (good : Accepted p) where
   begins-within : (j : ℕ) → suc j ≤ p .last → Within (1000000000 * 86400000) (pos j *ℤ p .window)
   begins-within j lasts =
-      let l = a .last-most in
+      let l = good .last-most in
       let few : Within 1000000000 (pos j) = omega wholes in
-      let wide : Within 86400000 (p .window) = omega (wholes, a .window-least, a .window-most) in
+      let wide : Within 86400000 (p .window) = omega (wholes, good .window-least, good .window-most) in
       mul-within few wide
 
   begins-least : (j : ℕ) → pos 0 ≤ℤ (pos j *ℤ p .window)
   begins-least j =
       let m = split-mul j (p .window) in
-      let zero : dn (pos j *ℤ p .window) ≡ 0 = m .1 ∙ ap (λ k. j * k) (none-below (p .window) (a .window-least)) ∙ mul-zero j in
+      let zero : dn (pos j *ℤ p .window) ≡ 0 = m .1 ∙ ap (λ k. j * k) (none-below (p .window) (good .window-least)) ∙ mul-zero j in
       omega (wholes, zero)
 
   pub start-time : (h : History) (j i g : ℕ) → length h ≡ j * p .jobs + i → i < p .jobs → suc j ≤ p .last → (t : ℤ) → StrategyAfter p h t g
       → within (pos 0) lastTime t ≡ true
   start-time h j i g size job lasts t s =
-      let sound = accepted-sound p a in
-      let low = start-released p sound h j i g size job t s in
-      let high = start-inTime p sound h j i g size job t s in
-      let q = at-turn i in
-      let e = at-turn (length h) in
+      let low = start-released p good h j i g size job t s in
+      let high = start-inTime p good h j i g size job t s in
+      let q = turn-accepted p good i in
+      let e = turn-accepted p good (length h) in
       in-range t
       (not-before t (pos j *ℤ p .window) (turn p i .release) low (q .release-least) (begins-least j))
       (not-after t (pos j *ℤ p .window) (turn p (length h) .min) (turn p i .deadline) high (e .min-least) (q .deadline-most) (begins-within j lasts))

@@ -9,6 +9,7 @@ use native.Mathlib.Nat.{zero-mul, add-suc, add-zero}
 use native.Mathlib.Omega.{arith}
 use Rattle.whole.specs.Clash.{clash}
 use Rattle.plan.specs.declared.Plan.{Plan}
+use Rattle.plan.specs.Accepted.{Accepted}
 use Rattle.bounds.specs.Tables.{Rows, Set, contradiction, bounds}
 use Rattle.bounds.specs.Elimination.{thenSet, eliminated}
 use Rattle.rounds.specs.declared.Verdict.the-variants.{Settled, NoStrategy}
@@ -31,13 +32,12 @@ use Rattle.rounds.specs.Rounds.{
 }
 use Rattle.rounds.specs.SameLaws.{sameRows-unique}
 use Rattle.strategy.specs.Strategies.{Strategy, StrategyFor, StrategyForAll}
-use Rattle.strategy.specs.Soundness.{Sound}
 use Rattle.strategy.specs.EliminationLaws.{below-or-last}
 use Rattle.strategy.specs.RoundLaws.{C, round-parts}
 use Rattle.strategy.specs.BeginLaws.{nothing-kept, begin-none, begin-own, begin-alone, begin-strategy}
 use Rattle.strategy.specs.FirstLaws.{round-alone}
 
-module _ (p : Plan) (sound : Sound p) where
+module _ (p : Plan) (good : Accepted p) where
   pub C-next : (m : ℕ) (c0 c : Rows) → C0 p ≡ bounds c0 → C p m ≡ bounds c → C p (suc m) ≡ round p c0 c
   unfolding C thenSet
   C-next m c0 c e0 e =
@@ -46,22 +46,22 @@ module _ (p : Plan) (sound : Sound p) where
   pub C-earlier : (m k : ℕ) (c : Rows) → C p m ≡ bounds c → k ≤ m → (b : Rows) × (C p k ≡ bounds b)
   C-earlier zero k c e h = (c, ap (C p) (let z : k ≡ 0 = omega arith in z) ∙ e)
   C-earlier (suc m) k c e h =
-      ⊎-elim (λ (a : k < suc m). let r = round-parts p sound m c e in C-earlier m k (r .before) (r .before-is) (omega arith))
+      ⊎-elim (λ (a : k < suc m). let r = round-parts p good m c e in C-earlier m k (r .before) (r .before-is) (omega arith))
       (λ (a : k ≡ suc m). (c, ap (C p) a ∙ e))
       (below-or-last k (suc m) (omega arith))
 
   no-windows : StrategyFor p 0
   unfolding Rattle.strategy.specs.Strategies.Forced
-  no-windows = subst (λ g. Strategy p [] g) (sym (zero-mul (p .jobs))) (nothing-kept p sound)
+  no-windows = subst (λ g. Strategy p [] g) (sym (zero-mul (p .jobs))) (nothing-kept p good)
 
   -- where there is a C(m), there is a strategy for m windows and fewer
   pub strategies-before : (m : ℕ) (c : Rows) → C p m ≡ bounds c → (k : ℕ) → k ≤ m → StrategyFor p k
   strategies-before m c e zero h = no-windows
   strategies-before m c e (suc k) h =
       let b = C-earlier m (suc k) c e h in
-      let r = round-parts p sound k (b .0) (b .1) in
-      let t = round-alone p sound k (b .0) r in
-      begin-strategy p sound k (r .before) (r .before-is) (r .own) (t .0) (r .own-is) (t .1)
+      let r = round-parts p good k (b .0) (b .1) in
+      let t = round-alone p good k (b .0) r in
+      begin-strategy p good k (r .before) (r .before-is) (r .own) (t .0) (r .own-is) (t .1)
 
   -- ---- settled
 
@@ -118,7 +118,7 @@ module _ (p : Plan) (sound : Sound p) where
   -- 'C(m) = C(m-1)' gives every later set
   module _ (m : ℕ) (c : Rows) (s : IsSettled m c) where
     own-of : (c0 : Rows) × (C0 p ≡ bounds c0)
-    own-of = let r = round-parts p sound (s .before) c (s .next) in (r .own, r .own-is)
+    own-of = let r = round-parts p good (s .before) c (s .next) in (r .own, r .own-is)
 
     pub settled-after : (d : ℕ) → C p (s .before + d) ≡ bounds c
     settled-after zero = ap (C p) (add-zero (s .before)) ∙ s .set
@@ -158,7 +158,7 @@ module _ (p : Plan) (sound : Sound p) where
     fails-at : failsAlone p t ≡ true → Hopeless (suc k)
     fails-at h =
         record {
-          none = begin-alone p sound k t e (fails-is t (eliminated p 0 (p .jobs) t) refl h);
+          none = begin-alone p good k t e (fails-is t (eliminated p 0 (p .jobs) t) refl h);
           fewer = λ i l. strategies-before k t e i (omega arith);
         }
 
@@ -166,11 +166,11 @@ module _ (p : Plan) (sound : Sound p) where
     stands-at h =
         let v = stands-is t (eliminated p 0 (p .jobs) t) refl h in
         record {
-          none = begin-none p sound k c0 t e0 e r;
+          none = begin-none p good k c0 t e0 e r;
           fewer =
               λ i l.
               ⊎-elim (λ (a : i < suc k). strategies-before k t e i (omega arith))
-              (λ (a : i ≡ suc k). subst (StrategyFor p) (sym a) (begin-strategy p sound k t e c0 (v .0) e0 (v .1)))
+              (λ (a : i ≡ suc k). subst (StrategyFor p) (sym a) (begin-strategy p good k t e c0 (v .0) e0 (v .1)))
               (below-or-last i (suc k) l);
         }
 
@@ -208,7 +208,7 @@ module _ (p : Plan) (sound : Sound p) where
   unfolding outcomeFrom C
   none-own K contradiction e h =
       subst Hopeless (same 1 K h)
-      (record { none = begin-own p sound e; fewer = λ k l. subst (StrategyFor p) (let z : 0 ≡ k = omega arith in z) no-windows })
+      (record { none = begin-own p good e; fewer = λ k l. subst (StrategyFor p) (let z : 0 ≡ k = omega arith in z) no-windows })
     where
       same : (a b : ℕ) → noStrategy a ≡ noStrategy b → a ≡ b
       same a b e = cc

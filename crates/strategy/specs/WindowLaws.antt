@@ -23,6 +23,7 @@ use Rattle.plan.specs.declared.Bound.{Bound}
 use Rattle.plan.specs.declared.Plan.{Plan}
 use Rattle.plan.specs.EventNames.{isNext}
 use Rattle.plan.specs.PlanWritten.{boundsOf}
+use Rattle.plan.specs.Accepted.{Accepted}
 use Rattle.bounds.specs.declared.Event.the-variants.{Start, Finish}
 use Rattle.bounds.specs.Events.{jobAt, shift, earliest, latest, nodeOf, nodes}
 use Rattle.bounds.specs.BuildLaws.{either-true, neither-true}
@@ -32,10 +33,9 @@ use Rattle.strategy.specs.Strategies.{ranIn, placeIn, kindIn, boundIn, G
 use Rattle.strategy.specs.Keeping.{when, RunsWithin, Timely}
 use Rattle.strategy.specs.SetLaws.{jobAt-turn}
 use Rattle.strategy.specs.EliminationLaws.{below-or-last}
-use Rattle.strategy.specs.Soundness.{Sound}
 use Rattle.strategy.specs.GivenLaws.{
   places-listed,
-  listed-sound,
+  listed-accepted,
   All,
   BetweenKept,
   Below,
@@ -77,7 +77,7 @@ module _ (p : Plan) where
   when-named u kind.Start i = refl
   when-named u kind.Finish i = refl
 
-  module _ (sound : Sound p) where
+  module _ (good : Accepted p) where
     pub own-below : All (Below (nodes (p .jobs))) (ownBounds p)
     unfolding nodeOf
     own-below =
@@ -94,27 +94,27 @@ module _ (p : Plan) where
           ordered = λ i h. record { y = omega arith; z = omega arith };
           given =
               λ d m n.
-              let s = listed-sound p sound d m in
+              let s = listed-accepted p good d m in
               let t = neither-true (isNext (d .a .letter)) (isNext (d .b .letter)) n in
               record {
-                y = node-below (d .b .kind) _ _ (place-this (d .b .letter) (d .b .job) (t .1) (s .b .least) (s .b .most));
-                z = node-below (d .a .kind) _ _ (place-this (d .a .letter) (d .a .job) (t .0) (s .a .least) (s .a .most));
+                y = node-below (d .b .kind) _ _ (place-this (d .b .letter) (d .b .job) (t .1) (s .b-least) (s .b-most));
+                z = node-below (d .a .kind) _ _ (place-this (d .a .letter) (d .a .job) (t .0) (s .a-least) (s .a-most));
               };
         })
 
     pub across-below : All (Below (nodes (p .jobs + p .jobs))) (betweenBounds p)
     unfolding nodeOf
     across-below =
-        let j = sound .some-job in
+        let j = good .jobs-least in
         across-all (Below (nodes (p .jobs + p .jobs))) p
         (record {
           ordered = record { y = omega arith; z = omega arith };
           given =
               λ d m n.
-              let s = listed-sound p sound d m in
+              let s = listed-accepted p good d m in
               record {
-                y = node-below (d .b .kind) _ _ (place-two (d .b .letter) (d .b .job) (s .b .least) (s .b .most));
-                z = node-below (d .a .kind) _ _ (place-two (d .a .letter) (d .a .job) (s .a .least) (s .a .most));
+                y = node-below (d .b .kind) _ _ (place-two (d .b .letter) (d .b .job) (s .b-least) (s .b-most));
+                z = node-below (d .a .kind) _ _ (place-two (d .a .letter) (d .a .job) (s .a-least) (s .a-most));
               };
         })
 
@@ -171,7 +171,7 @@ module _ (p : Plan) (u : History) (i : ℕ) (low : i < p .jobs) where
 
 -- ---- both ways
 
-module _ (p : Plan) (sound : Sound p) (u : History) where
+module _ (p : Plan) (good : Accepted p) (u : History) where
   order-of : (k : ℕ) → BetweenKept u (inOrder k) → ranIn u k .finish ≤ℤ ranIn u (suc k) .start
   order-of k h = omega wholes
 
@@ -196,29 +196,29 @@ module _ (p : Plan) (sound : Sound p) (u : History) where
             (old i (omega arith));
         ordered = λ i a. of-order i (h .kept .ordered i (omega arith) (omega arith));
         given =
-            places-listed p (sound .bound-places) (λ d. hasNext d ≡ false → BetweenKept u (meant p d)) .0
+            places-listed p good (λ d. hasNext d ≡ false → BetweenKept u (meant p d)) .0
             (λ k l n.
             let d = boundIn p k in
-            let s = sound .bounds k l in
+            let s = good .bound-at k l in
             let t = neither-true (isNext (d .a .letter)) (isNext (d .b .letter)) n in
-            let pa = place-this p (d .a .letter) (d .a .job) (t .0) (s .a .least) (s .a .most) in
-            let pb = place-this p (d .b .letter) (d .b .job) (t .1) (s .b .least) (s .b .most) in
+            let pa = place-this p (d .a .letter) (d .a .job) (t .0) (s .a-least) (s .a-most) in
+            let pb = place-this p (d .b .letter) (d .b .job) (t .1) (s .b-least) (s .b-most) in
             of-given d (omega arith) (omega arith) (h .kept .given k l));
       })
 
   pub held-across : Held p u → p .jobs + p .jobs ≤ length u → All (BetweenKept u) (betweenBounds p)
   held-across h seen =
-      let j = sound .some-job in
+      let j = good .jobs-least in
       across-all (BetweenKept u) p
       (record {
         ordered = of-order (p .jobs - 1) (h .kept .ordered (p .jobs - 1) (omega arith) (omega arith));
         given =
-            places-listed p (sound .bound-places) (λ d. hasNext d ≡ true → BetweenKept u (meant p d)) .0
+            places-listed p good (λ d. hasNext d ≡ true → BetweenKept u (meant p d)) .0
             (λ k l n.
             let d = boundIn p k in
-            let s = sound .bounds k l in
-            let pa = place-two p (d .a .letter) (d .a .job) (s .a .least) (s .a .most) in
-            let pb = place-two p (d .b .letter) (d .b .job) (s .b .least) (s .b .most) in
+            let s = good .bound-at k l in
+            let pa = place-two p (d .a .letter) (d .a .job) (s .a-least) (s .a-most) in
+            let pb = place-two p (d .b .letter) (d .b .job) (s .b-least) (s .b-most) in
             of-given d (omega arith) (omega arith) (h .kept .given k l));
       })
 
@@ -253,7 +253,7 @@ module _ (p : Plan) (sound : Sound p) (u : History) where
               released = λ i h s. range-release p u i h (o .ranged i h);
               inTime = λ i h s. range-deadline p u i h (o .ranged i h);
               ordered = λ i h s. ordered-at o a i s (last-or-not i h);
-              given = places-listed p (sound .bound-places) (GivenKept p u) .1 (λ d m. given-at o a d m (hasNext d) refl);
+              given = places-listed p good (GivenKept p u) .1 (λ d m. given-at o a d m (hasNext d) refl);
             };
         punctual = λ i h s. range-punctual p u i h (o .ranged i h);
       }
