@@ -107,8 +107,8 @@ pub numbers-right : Right numbers
 unfolding computing
 numbers-right = refl
 
-abbrev pub lines : List Case
-lines =
+abbrev pub lineCases : List Case
+lineCases =
     -- 2: a last line without LF lacks the form, whatever stands in it
     record {
       program = Calendar;
@@ -189,7 +189,7 @@ lines =
     }
     ∷ []
 
-pub lines-right : Right lines
+pub lines-right : Right lineCases
 unfolding computing
 lines-right = refl
 

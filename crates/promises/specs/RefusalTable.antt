@@ -8,11 +8,11 @@ use Rattle.lines.specs.declared.Refusal.the-variants as refusal
 use Rattle.lines.specs.Refusals.{refusedLine}
 use Rattle.promises.specs.Case.{computing}
 
-pub record Told : Type 0 where
+pub record RefusalRow : Type 0 where
   pub refused : Refusal
   pub line : String
 
-abbrev table : List Told
+abbrev table : List RefusalRow
 table =
     record { refused = refusal.Form 3; line = "refused=1,3\n" }
     ∷ record { refused = refusal.Range 0; line = "refused=2,0\n" }
@@ -28,6 +28,6 @@ table =
     ∷ record { refused = refusal.NoRoom; line = "refused=12,0\n" }
     ∷ []
 
-pub table-right : map (λ (t : Told). refusedLine (t .refused)) table ≡ map (λ (t : Told). bytes (t .line)) table
+pub table-right : map (λ (t : RefusalRow). refusedLine (t .refused)) table ≡ map (λ (t : RefusalRow). bytes (t .line)) table
 unfolding computing
 table-right = refl
