@@ -164,8 +164,8 @@ pub fn calendar_with(low: i64, high: i64, below: u64, c: i32, above: u64, d: i32
     terms[0] = Terms {
         low: WindowTime(low),
         high: WindowTime(high),
-        below: Events(below),
-        above: Events(above),
+        below: Events::of_bits(below),
+        above: Events::of_bits(above),
     };
     least[0] = c;
     most[0] = d;

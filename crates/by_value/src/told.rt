@@ -104,6 +104,6 @@ pub fn tell_numbers(c: Calendar) {
     tell_number(low.0, b'\n');
     say(b"high=");
     tell_number(high.0, b'\n');
-    tell_line(b"below=", below.0);
-    tell_line(b"above=", above.0);
+    tell_line(b"below=", below.bits());
+    tell_line(b"above=", above.bits());
 }

@@ -1,7 +1,7 @@
 -- Sets of events as bits (document 01, 'Elimination': 'are kept as bits of two numbers, the origin not among them; in each the count of its
 -- terms is the count of ones').
 use Prim.Native.Nat.{ℕ, zero, suc, _+_, _*_, _/_, _-_, _%_, _^_, _<_}
-use mathlib.Core.Bool.{Bool, true, false, cond}
+use mathlib.Core.Bool.{Bool, cond}
 use mathlib.Core.List.{List, [], _∷_}
 use lib.Dec.{eqb}
 use Rattle.text.specs.Numbers.{isEmpty}

@@ -1,16 +1,18 @@
 -- The laws of sets of events.
+-- A set is the one that its number stands for (`eventsOf-bits`).
 -- Members: a digit is a member or none (`hasEvent-digit`); an event of a set moved down is one so much later (`hasEvent-shift`), so membership is one digit
 -- (`hasEvent-at`); a set below 2^k has no event from k on (`hasEvent-past`); two sets with the same events are one (`hasEvent-unique`).
 -- Made: the events of `eventSet` are the places that hold true (`hasEvent-set`), and it has a bit for each place (`eventSet-fits`); one place more is one event
--- more, or none (`eventSet-more`). A set and an event has that event (`hasEvent-with`) and no other more (`hasEvent-with-other`), and needs no bits beyond both
--- (`withEvent-fits`); it is the bits of both (`withEvent-or`).
+-- more, or none (`eventSet-more`), and one in front makes each event one later (`eventSet-first`), for which fewer places than bits leave room
+-- (`eventSet-room`). A set and an event has that event (`hasEvent-with`) and no other more (`hasEvent-with-other`); it is the bits of both
+-- (`withEvent-or`).
 -- The count is the count of ones (`eventCount-ones`); of `eventSet` it is the count of the places that hold true (`eventCount-set`).
 -- Every event of a set is below count where nothing is left of the set moved down by count (`isBelow-shift`), and where the set is below 2^count
 -- (`isBelow-fits`).
 -- The next event from e on is the trailing zeros of the set moved down by e (`nextFrom-zeros`). It is not before e (`nextEvent-from`), it is in the set
 -- (`nextEvent-has`), and none from e on to it is (`nextEvent-least`). So a walk that does nothing at an event outside the set can go on at the next event
 -- (`nextEvent-skips`): a loop `let mut e = set.next(first); while e < count { ..; e = set.next(e + 1); }` does what a walk over every event does.
--- The count from e on is one for the next event and the count behind it (`countFrom-next`), and 0 where there is none (`countFrom-none`).
+-- The count from e on is one for the next event and the count after it (`countFrom-next`), and 0 where there is none (`countFrom-none`).
 -- The members from e on are those from the next event on (`members-next`), which comes first among them (`members-here`); past the last event there is none
 -- (`members-none`).
 
@@ -22,20 +24,25 @@ use mathlib.Core.List.{List, [], _∷_, _++_}
 use native.Mathlib.Nat.{pow-suc, pow-succ', div-div-eq-div-mul, div-one, zero-add, add-zero, suc-add, add-suc}
 use native.Mathlib.Numerals.{add-one}
 use native.Mathlib.Omega.{arith}
-use lib.Bits.{bitOr, or-step, or-zero-r, or-lt}
+use lib.Bits.{bitOr, or-step, or-zero-r}
 use lib.Count.{ones, ones-step, trailingZeros, under}
 use lib.Dec.{eqb, leb, ltb}
 use lib.ListN.{length, getD}
-use lib.Pow.{pow-lt, pow-mono, shr-lt}
+use lib.Pow.{pow-mono, shr-lt}
 use borrow.Author.Tests.{eqb-true, eqb-false, eq-eqb, ne-eqb, leb-true, leb-false, ltb-true, ltb-false}
 use Rattle.text.specs.Numbers.{isEmpty}
+use Rattle.events.specs.declared.Events.{Events}
 use Rattle.events.specs.Bits.{
+  bitsOf,
+  eventsOf,
   hasEvent,
   eventSet,
   countTrue,
   withEvent,
   withIf,
   mostBits,
+  HasRoom,
+  withFirst,
   countFrom,
   eventCount,
   isBelow,
@@ -43,6 +50,11 @@ use Rattle.events.specs.Bits.{
   nextEvent,
   membersFrom,
 }
+
+-- ---- the number that a set is
+
+pub eventsOf-bits : (s : Events) {n : ℕ} → bitsOf s ≡ n → s ≡ eventsOf n
+eventsOf-bits s e = ap eventsOf e
 
 -- ---- members
 
@@ -61,14 +73,11 @@ hasEvent-odd : (s : ℕ) → s % 2 ≡ 1 → hasEvent 0 s ≡ true
 unfolding hasEvent
 hasEvent-odd s h = eq-eqb (s % 2) 1 h
 
-pub hasEvent-digit : (s : ℕ) → s % 2 ≡ cond (hasEvent 0 s) 1 0
+hasEvent-digit : (s : ℕ) → s % 2 ≡ cond (hasEvent 0 s) 1 0
 hasEvent-digit s = ⊎-elim (λ z. rw (hasEvent-even s z) z) (λ o. rw (hasEvent-odd s o) o) (digit-cases s)
 
-pub shift-suc : (s k : ℕ) → s / 2 / 2 ^ k ≡ s / 2 ^ suc k
+shift-suc : (s k : ℕ) → s / 2 / 2 ^ k ≡ s / 2 ^ suc k
 shift-suc s k = div-div-eq-div-mul s 2 (2 ^ k) ∙ ap (λ (x : ℕ). s / x) (sym (pow-succ' 2 k))
-
-pub shift-half : (s k : ℕ) → s / 2 ^ k / 2 ≡ s / 2 ^ suc k
-shift-half s k = div-div-eq-div-mul s (2 ^ k) 2 ∙ ap (λ (x : ℕ). s / x) (sym (pow-suc 2 k))
 
 pub hasEvent-shift : (k e s : ℕ) → hasEvent e (s / 2 ^ k) ≡ hasEvent (k + e) s
 unfolding hasEvent
@@ -101,7 +110,7 @@ hasEvent-unique (suc k) s t h g same =
 
 -- ---- made
 
-digit-below : (b : Bool) → cond b 1 0 < 2
+pub digit-below : (b : Bool) → cond b 1 0 < 2
 digit-below true = omega arith
 digit-below false = omega arith
 
@@ -129,6 +138,14 @@ pub eventSet-fits : (bs : List Bool) → eventSet bs < 2 ^ length bs
 unfolding eventSet
 eventSet-fits [] = omega arith
 eventSet-fits (b ∷ bs) = omega (arith, digit-below b, eventSet-fits bs, pow-suc 2 (length bs))
+
+-- with one place more in front, each event is one later
+pub eventSet-first : (b : Bool) (bs : List Bool) → withFirst b (eventSet bs) ≡ eventSet (b ∷ bs)
+unfolding eventSet
+eventSet-first b bs = refl
+
+pub eventSet-room : (bs : List Bool) → length bs < mostBits → HasRoom (eventSet bs)
+eventSet-room bs h = let few : length bs ≤ mostBits - 1 = omega arith in omega (arith, eventSet-fits bs, pow-mono few)
 
 -- a set and an event, digit by digit
 withEvent-zero : (s : ℕ) → withEvent 0 s ≡ 1 + 2 * (s / 2)
@@ -169,9 +186,6 @@ withEvent-or (suc e) s =
     let half : 2 ^ suc e / 2 ≡ 2 ^ e = omega (arith, pow-suc 2 e) in
     let even : 2 ^ suc e % 2 ≡ 0 = omega (arith, pow-suc 2 e) in
     or-step s (2 ^ suc e) ∙ rw (half, even, withEvent-or e (s / 2)) (omega (arith, withEvent-suc e s))
-
-pub withEvent-fits : (k e s : ℕ) → e < k → s < 2 ^ k → withEvent e s < 2 ^ k
-withEvent-fits k e s l h = rw (← withEvent-or e s) (or-lt k s (2 ^ e) h (pow-lt l))
 
 pub eventSet-more : (bs : List Bool) (b : Bool) → eventSet (bs ++ (b ∷ [])) ≡ withIf b (length bs) (eventSet bs)
 unfolding eventSet
@@ -301,7 +315,7 @@ nextFrom-past s e (suc n) = of (hasEvent e s) (nextFrom-past s (suc e) n)
     of true h = omega arith
     of false h = omega arith
 
-pub nextFrom-least : (s e n d : ℕ) → e ≤ d → d < nextFrom s e n → hasEvent d s ≡ false
+nextFrom-least : (s e n d : ℕ) → e ≤ d → d < nextFrom s e n → hasEvent d s ≡ false
 unfolding nextFrom
 nextFrom-least s e zero d l h = absurd (omega arith)
 nextFrom-least s e (suc n) d l h = of (hasEvent e s) refl (nextFrom-least s (suc e) n d) h
@@ -315,7 +329,7 @@ nextFrom-least s e (suc n) d l h = of (hasEvent e s) refl (nextFrom-least s (suc
         at true k = rw (eqb-true d e k) y
         at false k = rest (omega (arith, eqb-false d e k)) g
 
-pub nextFrom-has : (s e n : ℕ) → nextFrom s e n < e + n → hasEvent (nextFrom s e n) s ≡ true
+nextFrom-has : (s e n : ℕ) → nextFrom s e n < e + n → hasEvent (nextFrom s e n) s ≡ true
 unfolding nextFrom
 nextFrom-has s e zero h = absurd (omega arith)
 nextFrom-has s e (suc n) h = of (hasEvent e s) refl (nextFrom-has s (suc e) n) h
@@ -334,7 +348,7 @@ nextEvent-from s e = nextFrom-past s e mostBits
 pub nextEvent-has : (s e : ℕ) → nextEvent s e < mostBits → hasEvent (nextEvent s e) s ≡ true
 nextEvent-has s e h = nextFrom-has s e mostBits (omega arith)
 
-pub nextEvent-least : (s e d : ℕ) → e ≤ d → d < nextEvent s e → hasEvent d s ≡ false
+nextEvent-least : (s e d : ℕ) → e ≤ d → d < nextEvent s e → hasEvent d s ≡ false
 nextEvent-least s e d = nextFrom-least s e mostBits d
 
 -- a walk from event e on over n events, which does nothing at an event outside the set, can go on at the next event; with no event left all are at one end
@@ -370,7 +384,7 @@ module _ {A : Type 0} (s count : ℕ) (walk : ℕ → ℕ → A) (past : (e n : 
           let beyond : count < nextEvent s e = leb-false (nextEvent s e) count g in
           skips-to e count (omega arith) (omega arith) (omega arith) ∙ ends count (nextEvent s e) (omega arith) (omega arith)
 
--- ---- the count from an event on: one for the next event, and those behind it
+-- ---- the count from an event on: one for the next event, and those after it
 
 countFrom-past : (s e n : ℕ) → hasEvent e s ≡ false → countFrom s e (suc n) ≡ countFrom s (suc e) n
 unfolding countFrom

@@ -6,13 +6,19 @@ use mathlib.Core.Bool.{Bool}
 use mathlib.Core.List.{[]}
 use Rattle.text.specs.Unique.{only}
 use Rattle.events.specs.declared.Events.{Events}
-use Rattle.events.specs.Bits.{hasEvent, eventSet, withEvent, withIf, withFirst, eventCount, isBelow, nextEvent}
+use Rattle.events.specs.Bits.{bitsOf, eventsOf, hasEvent, eventSet, withEvent, withIf, withFirst, eventCount, isBelow, nextEvent}
 
 events-unique : {r q : Events} {n : ℕ} → r .0 ≡ n → q .0 ≡ n → r ≡ q
 events-unique d e = ap (λ (n : ℕ). record { 0 = n }) (only d e)
 
 pub empty-unique : {r q : Events} → r .0 ≡ eventSet [] → q .0 ≡ eventSet [] → r ≡ q
 empty-unique = events-unique
+
+pub of-bits-unique : (bits : ℕ) {r q : Events} → r ≡ eventsOf bits → q ≡ eventsOf bits → r ≡ q
+of-bits-unique bits = only
+
+pub bits-unique : (s : Events) {r q : ℕ} → r ≡ bitsOf s → q ≡ bitsOf s → r ≡ q
+bits-unique s = only
 
 pub has-unique : (e : ℕ) (s : Events) {r q : Bool} → r ≡ hasEvent e (s .0) → q ≡ hasEvent e (s .0) → r ≡ q
 has-unique e s = only

@@ -5,7 +5,20 @@ use crate::MOST_BITS;
 ghost use mathlib.Core.Path.{_≡_};
 ghost use mathlib.Core.List.{[]};
 ghost use Prim.Native.Nat.{_<_};
-ghost use Rattle.events.specs.Bits.{hasEvent, eventSet, withEvent, withIf, mostBits, HasRoom, withFirst, eventCount, isBelow, nextEvent};
+ghost use Rattle.events.specs.Bits.{
+  bitsOf,
+  eventsOf,
+  hasEvent,
+  eventSet,
+  withEvent,
+  withIf,
+  mostBits,
+  HasRoom,
+  withFirst,
+  eventCount,
+  isBelow,
+  nextEvent,
+};
 
 impl Events {
     // The set of no events.
@@ -13,6 +26,21 @@ impl Events {
         ensures { λ r. ⌜ r .0 ≡ eventSet [] ⌝ }
     {
         Events(0)
+    }
+
+    // The set that a number stands for: event e is in it where digit e is one. So a calendar that was stored is put together again.
+    pub fn of_bits(bits: u64) -> Events
+        ensures { λ r. ⌜ r ≡ eventsOf bits ⌝ }
+    {
+        Events(bits)
+    }
+
+    // The number that stands for the set.
+    pub fn bits(self) -> u64
+        ensures { λ r. ⌜ r ≡ bitsOf self ⌝ }
+    {
+        let all = self.0;
+        all
     }
 
     // Whether event e is in the set.

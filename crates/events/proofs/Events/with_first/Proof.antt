@@ -1,19 +1,15 @@
 -- `with_first`: twice the number is each event one later, and the digit that is free is event 0.
-use Prim.Native.Nat.{_<_}
 use mathlib.Core.Path.{_≡_, refl}
 use mathlib.Core.Bool.{Bool, true, false, cond}
 use native.Mathlib.Omega.{arith}
 use mir.Val.{boolByte}
+use Rattle.events.specs.BitsLaws.{digit-below}
 use Rattle.events.proofs.Events.with_first.Statement.{statement}
 use Rattle.events.proofs.Events.with_first.Tie as tie
 
 digit : (b : Bool) → boolByte b ≡ cond b 1 0
 digit true = refl
 digit false = refl
-
-digit-below : (b : Bool) → cond b 1 0 < 2
-digit-below true = omega arith
-digit-below false = omega arith
 
 mul-later : tie.Need-mul-later
 mul-later c = omega arith
