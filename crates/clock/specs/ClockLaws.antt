@@ -1,6 +1,6 @@
--- In the ranges of `Spans` a window begins between 0 and 86,400,000,000,000,000 on the run's clock, so that this time and one near it fit an i64.
+-- In the ranges of `Spans` a window begins no later than as many of the longest windows on the run's clock, so that this time and one near it fit an i64.
 -- What the machine adds to a time is the number of milliseconds itself. Two comparisons tell whether a time is between two others.
-use Prim.Native.Nat.{ℕ, _-_, _≤_}
+use Prim.Native.Nat.{ℕ, _*_, _-_, _≤_}
 use mathlib.Core.Path.{_≡_}
 use mathlib.Core.Bool.{true, false}
 use mathlib.Core.Logic.{⊎-elim}
@@ -17,20 +17,20 @@ use Rattle.whole.specs.SplitLaws.{split-one, split-mul}
 use Rattle.whole.specs.Rules.{whole, wholes}
 use Rattle.clock.specs.declared.RunTime.{RunTime}
 use Rattle.clock.specs.Clock.{beginsAt, isEarlier, isBetween}
-use Rattle.clock.specs.Spans.{Spanned, Near}
+use Rattle.clock.specs.Spans.{longestLength, lastWindow, Spanned, Near}
 
 module _ (window : ℤ) (j : ℕ) (s : Spanned window j) where
   dn-none : dn window ≤ 0
   dn-none = ⊎-elim (λ (e : up window ≡ 0). omega wholes) (λ (e : dn window ≡ 0). omega wholes) (split-one window)
 
-  up-most : up window ≤ 86400000
+  up-most : up window ≤ longestLength
   up-most = omega (wholes, dn-none)
 
   pub beginsAt-least : pos 0 ≤ℤ beginsAt window j .0
-  beginsAt-least = omega (wholes, split-mul (j - 1) window, mul-le-mul {n₁ = j - 1} {n₂ = 1000000000} (omega arith) dn-none)
+  beginsAt-least = omega (wholes, split-mul (j - 1) window, mul-le-mul {n₁ = j - 1} {n₂ = lastWindow} (omega arith) dn-none)
 
-  pub beginsAt-greatest : beginsAt window j .0 ≤ℤ pos 86400000000000000
-  beginsAt-greatest = omega (wholes, split-mul (j - 1) window, mul-le-mul {n₁ = j - 1} {n₂ = 1000000000} (omega arith) up-most)
+  pub beginsAt-greatest : beginsAt window j .0 ≤ℤ pos (lastWindow * longestLength)
+  beginsAt-greatest = omega (wholes, split-mul (j - 1) window, mul-le-mul {n₁ = j - 1} {n₂ = lastWindow} (omega arith) up-most)
 
   pub window-fits : SFits w64 window
   window-fits = omega wholes

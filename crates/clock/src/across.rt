@@ -7,7 +7,7 @@ ghost use Rattle.clock.specs.Clock.{beginsAt, onRun};
 ghost use Rattle.clock.specs.Spans.{Spanned, Near};
 
 // When window j begins on the run's clock.
-pub fn begins_at(window: i32, j: u64) -> RunTime
+fn begins_at(window: i32, j: u64) -> RunTime
     requires { ⌜ Spanned window j ⌝ }
     ensures { λ r. ⌜ r ≡ beginsAt window j ⌝ }
 {

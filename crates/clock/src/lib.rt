@@ -4,7 +4,6 @@
 mod across;
 mod times;
 
-pub use across::begins_at;
 pub use across::on_run;
 pub use times::is_between;
 pub use times::is_earlier;

@@ -8,7 +8,7 @@ use lib.IntN.{ℤ, pos}
 use Rattle.text.specs.Unique.{only}
 use Rattle.clock.specs.declared.WindowTime.{WindowTime}
 use Rattle.clock.specs.declared.RunTime.{RunTime}
-use Rattle.clock.specs.Clock.{beginsAt, onRun, isEarlier, isBetween, movedBy}
+use Rattle.clock.specs.Clock.{onRun, isEarlier, isBetween, movedBy}
 use Rattle.plan.specs.declared.Plan.{Plan}
 use Rattle.bounds.specs.declared.Event.{Event}
 use Rattle.bounds.specs.Events.{eventOf}
@@ -18,9 +18,6 @@ use Rattle.rounds.specs.declared.VerdictTold.{VerdictTold}
 use Rattle.rounds.specs.Rounds.{verdict, verdictTold}
 
 -- ---- clock
-
-pub begins-at-unique : (window : ℤ) (j : ℕ) {r q : RunTime} → r ≡ beginsAt window j → q ≡ beginsAt window j → r ≡ q
-begins-at-unique window j = only
 
 pub on-run-unique : (window : ℤ) (j : ℕ) (t : WindowTime) {r q : RunTime} → r ≡ onRun window j t → q ≡ onRun window j t → r ≡ q
 on-run-unique window j t = only
