@@ -6,28 +6,26 @@ use mir.Val.{SFits, toZ, ofZ}
 use mir.Facts.{toZ-ofZ}
 use Rattle.whole.specs.Rules.{wholes}
 use Rattle.bounds.specs.Spans.{InRange}
-
-pub in-range-fits : {t : ℤ} → InRange t → SFits w32 t
-in-range-fits h = omega wholes
+use Rattle.bounds.specs.SpansLaws.{inRange-fits}
 
 pub gap-fits : {a b : ℤ} → InRange a → InRange b → SFits w32 (toZ w32 (ofZ w32 a) -ℤ toZ w32 (ofZ w32 b))
-gap-fits f g = simp (toZ-ofZ (in-range-fits f), toZ-ofZ (in-range-fits g)) (omega wholes)
+gap-fits f g = simp (toZ-ofZ (inRange-fits f), toZ-ofZ (inRange-fits g)) (omega wholes)
 
 pub gap-back : {a b : ℤ} → InRange a → InRange b → toZ w32 (ofZ w32 (toZ w32 (ofZ w32 a) -ℤ toZ w32 (ofZ w32 b))) ≡ a -ℤ b
 gap-back f g =
-    toZ-ofZ (gap-fits f g) ∙ ap₂ _-ℤ_ (toZ-ofZ (in-range-fits f)) (toZ-ofZ (in-range-fits g))
+    toZ-ofZ (gap-fits f g) ∙ ap₂ _-ℤ_ (toZ-ofZ (inRange-fits f)) (toZ-ofZ (inRange-fits g))
 
 pub total-fits : {a b : ℤ} → InRange a → InRange b → SFits w32 (toZ w32 (ofZ w32 a) +ℤ toZ w32 (ofZ w32 b))
-total-fits f g = simp (toZ-ofZ (in-range-fits f), toZ-ofZ (in-range-fits g)) (omega wholes)
+total-fits f g = simp (toZ-ofZ (inRange-fits f), toZ-ofZ (inRange-fits g)) (omega wholes)
 
 pub total-back : {a b : ℤ} → InRange a → InRange b → toZ w32 (ofZ w32 (toZ w32 (ofZ w32 a) +ℤ toZ w32 (ofZ w32 b))) ≡ a +ℤ b
 total-back f g =
-    toZ-ofZ (total-fits f g) ∙ ap₂ _+ℤ_ (toZ-ofZ (in-range-fits f)) (toZ-ofZ (in-range-fits g))
+    toZ-ofZ (total-fits f g) ∙ ap₂ _+ℤ_ (toZ-ofZ (inRange-fits f)) (toZ-ofZ (inRange-fits g))
 
 -- and one more number after what was read back
 pub chain-fits : {x a b : ℤ} → x ≡ a → InRange a → InRange b → SFits w32 (x +ℤ toZ w32 (ofZ w32 b))
 chain-fits {x} {a} {b} e f g =
-    subst (λ x. SFits w32 (x +ℤ toZ w32 (ofZ w32 b))) (sym e) (simp (toZ-ofZ (in-range-fits g)) (omega wholes))
+    subst (λ x. SFits w32 (x +ℤ toZ w32 (ofZ w32 b))) (sym e) (simp (toZ-ofZ (inRange-fits g)) (omega wholes))
 
 pub chain-back : {x a b : ℤ} → x ≡ a → InRange a → InRange b → toZ w32 (ofZ w32 (x +ℤ toZ w32 (ofZ w32 b))) ≡ a +ℤ b
-chain-back e f g = toZ-ofZ (chain-fits e f g) ∙ ap₂ _+ℤ_ e (toZ-ofZ (in-range-fits g))
+chain-back e f g = toZ-ofZ (chain-fits e f g) ∙ ap₂ _+ℤ_ e (toZ-ofZ (inRange-fits g))

@@ -33,7 +33,7 @@ pub putBounds-none : (early late : List ℤ) (ws : List ℤ) → putBounds early
 unfolding putBounds
 putBounds-none early late ws = refl
 
-pub putBounds-append : (early late : List ℤ) (bs cs : List Between) (ws : List ℤ)
+putBounds-append : (early late : List ℤ) (bs cs : List Between) (ws : List ℤ)
     → putBounds early late (bs ++ cs) ws ≡ thenFlat (putBounds early late bs ws) (putBounds early late cs)
 unfolding putBounds
 putBounds-append early late [] cs ws = refl
@@ -156,7 +156,7 @@ none-at i h = getD-replicate cells i noBound (pos 0) h
 pub noBounds-off : (y z : ℕ) → y < mostNodes → z < mostNodes → cellAt noBounds y z ≡ off
 noBounds-off y z h l = cellOf-mark (getD noBounds (place y z) (pos 0)) (ap (λ w. eqZ w noBound) (none-at (place y z) (omega arith)))
 
-pub outcome-set : (k : ℕ) (set : Set) (r : Flat) → Outcome (λ us. set ≡ bounds (rowsOf k us)) (set ≡ contradiction) r
+outcome-set : (k : ℕ) (set : Set) (r : Flat) → Outcome (λ us. set ≡ bounds (rowsOf k us)) (set ≡ contradiction) r
     → cond (r .found) contradiction (bounds (rowsOf k (r .weights))) ≡ set
 outcome-set k set r o = by (r .found) refl
   where

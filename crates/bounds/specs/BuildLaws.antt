@@ -34,7 +34,7 @@ unfolding listed
 length-listed zero f = refl
 length-listed (suc k) f = ap suc (length-listed k (λ i. f (suc i)))
 
-pub listed-past : {A : Type 0} (k : ℕ) (f : ℕ → A) (i : ℕ) (d : A) → k ≤ i → getD (listed k f) i d ≡ d
+listed-past : {A : Type 0} (k : ℕ) (f : ℕ → A) (i : ℕ) (d : A) → k ≤ i → getD (listed k f) i d ≡ d
 unfolding listed
 listed-past zero f i d h = refl
 listed-past (suc k) f zero d h = absurd (omega arith)

@@ -58,14 +58,14 @@ module _ (p : Plan) (early late : List ℤ) (clocked : Clocked p early late) (k 
     finish-weighed : (y z : ℕ) → y < suc (finishNode k) → z < suc (finishNode k) → Weighed (weightAt ws y z)
     finish-weighed = fit-weighed p (suc (finishNode k)) ws fit (clocked .accepted) last
 
-    pub less-moves : Moving (negℤ (jobAt p k .max))
+    less-moves : Moving (negℤ (jobAt p k .max))
     less-moves =
         let j = jobAt-accepted p (clocked .accepted) k (omega arith) in
         let l = running-least (jobAt p k) j in
         let m = j .max-most in
         record { least = omega (wholes, split-neg (jobAt p k .max)); greatest = omega (wholes, split-neg (jobAt p k .max)) }
 
-    pub more-moves : Moving (jobAt p k .min)
+    more-moves : Moving (jobAt p k .min)
     more-moves =
         let j = jobAt-accepted p (clocked .accepted) k (omega arith) in
         let l = j .min-least in

@@ -36,7 +36,7 @@ withoutStart p k t = judgedSet p (startNode k) (startCell k t)
 
 -- ---- several events in a row
 
--- what follows a set that is no contradiction
+-- a contradiction stays one; of a table, what the next step makes of it
 unfoldable pub thenSet : Set → (Rows → Set) → Set
 thenSet contradiction f = contradiction
 thenSet (bounds t) f = f t

@@ -2,18 +2,20 @@
 use Prim.Native.Nat.{ℕ, _+_, _<_}
 use lib.IntN.{ℤ, pos, _+ℤ_, _-ℤ_}
 use lib.Signed.{_≤ℤ_}
+use Rattle.whole.specs.SplitLaws.{split-add}
 use Rattle.whole.specs.Rules.{wholes}
 use Rattle.plan.specs.declared.Plan.{Plan}
 use Rattle.plan.specs.declared.Job.{Job}
+use Rattle.plan.specs.Limits.{longestRunning, latestDeadline}
 use Rattle.plan.specs.Accepted.{Accepted}
 use Rattle.bounds.specs.Events.{jobAt, shift}
 use Rattle.bounds.specs.Spans.{InRange}
 use Rattle.bounds.specs.FitLaws.{jobAt-accepted, ShiftIn, shift-in, running-least, running-most}
 
-sum-in : (a b : ℤ) → pos 0 ≤ℤ a → a ≤ℤ pos 172800000 → pos 0 ≤ℤ b → b ≤ℤ pos 86400000 → InRange (a +ℤ b)
-sum-in a b h k l m = record { least = omega wholes; greatest = omega wholes }
+sum-in : (a b : ℤ) → pos 0 ≤ℤ a → a ≤ℤ latestDeadline → pos 0 ≤ℤ b → b ≤ℤ longestRunning → InRange (a +ℤ b)
+sum-in a b h k l m = record { least = omega wholes; greatest = omega (wholes, split-add a b) }
 
-gap-in : (a b : ℤ) → pos 0 ≤ℤ a → a ≤ℤ pos 172800000 → pos 0 ≤ℤ b → b ≤ℤ pos 86400000 → InRange (a -ℤ b)
+gap-in : (a b : ℤ) → pos 0 ≤ℤ a → a ≤ℤ latestDeadline → pos 0 ≤ℤ b → b ≤ℤ longestRunning → InRange (a -ℤ b)
 gap-in a b h k l m = record { least = omega wholes; greatest = omega wholes }
 
 -- the numbers of one job of an accepted plan, and the window's shift
@@ -26,13 +28,13 @@ pub record JobIn (j : Job) (h : ℤ) : Type 0 where
   pub first-finish : InRange (j .release +ℤ j .min)
   pub last-start : InRange (j .deadline -ℤ j .max)
 
-small : (t : ℤ) → pos 0 ≤ℤ t → t ≤ℤ pos 172800000 → InRange t
+small : (t : ℤ) → pos 0 ≤ℤ t → t ≤ℤ latestDeadline → InRange t
 small t a b = record { least = omega wholes; greatest = omega wholes }
 
 shift-small : (h : ℤ) → ShiftIn h → InRange h
 shift-small h s = record { least = omega wholes; greatest = omega wholes }
 
-most-small : (t : ℤ) → t ≤ℤ pos 86400000 → t ≤ℤ pos 172800000
+most-small : (t : ℤ) → t ≤ℤ longestRunning → t ≤ℤ latestDeadline
 most-small t h = omega wholes
 
 pub job-in : (p : Plan) → Accepted p → (k : ℕ) → k < p .jobs + p .jobs → JobIn (jobAt p k) (shift p k)

@@ -8,9 +8,11 @@ use mathlib.Core.List.{List}
 use native.Mathlib.Omega.{arith}
 use lib.Dec.{eqb}
 use lib.IntN.{ℤ, pos, negℤ, _+ℤ_}
-use lib.Signed.{_≤ℤ_, _<ℤ_}
+use lib.Signed.{_<ℤ_}
 use borrow.Author.Tests.{eqb-true, eqb-false, eq-eqb, ne-eqb}
 use lib.ListN.{length}
+use mir.Syntax.{w32}
+use mir.Val.{SFits}
 use Rattle.whole.specs.Clash.{clash}
 use Rattle.whole.specs.Split.{eqZ}
 use Rattle.whole.specs.Rules.{wholes}
@@ -36,20 +38,24 @@ never-on : (p : Plan) (y z : ℕ) (c : Cell) → KeptCell p y z c → ((w : ℤ)
 never-on p y z off k n = refl
 never-on p y z (upto w) k n = absurd (n w (k .kept w refl))
 
-pub running-off : (p : Plan) (k : ℕ) (c : Cell) → KeptCell p (startNode k) (finishNode k) c → c ≡ off
+running-off : (p : Plan) (k : ℕ) (c : Cell) → KeptCell p (startNode k) (finishNode k) c → c ≡ off
 running-off p k c h =
     never-on p (startNode k) (finishNode k) c h
     (λ w e. judged-running p k w (ap₂ (λ a b. judged p a b w) (sym (eventOf-start k)) (sym (eventOf-finish k)) ∙ e))
 
-pub reverse-off : (p : Plan) (k : ℕ) (c : Cell) → KeptCell p (finishNode k) (startNode k) c → c ≡ off
+reverse-off : (p : Plan) (k : ℕ) (c : Cell) → KeptCell p (finishNode k) (startNode k) c → c ≡ off
 reverse-off p k c h =
     never-on p (finishNode k) (startNode k) c h
     (λ w e. judged-reverse p k w (ap₂ (λ a b. judged p a b w) (sym (eventOf-finish k)) (sym (eventOf-start k)) ∙ e))
 
 -- ---- sums
 
-moved-low : (v a : ℤ) → v ≤ℤ pos 259200000 → a ≤ℤ pos 86400000 → (v +ℤ a) <ℤ noBound
-moved-low v a h k = omega wholes
+-- a weight that is moved stays below the mark, and fits
+pub moved-low : (v a : ℤ) → Weighed v → Moving a → eqZ v noBound ≡ false → (v +ℤ a) <ℤ noBound
+moved-low v a h m e = let most = h .greatest e in omega wholes
+
+pub moved-sum : (v a : ℤ) → Weighed v → Moving a → eqZ v noBound ≡ false → SFits w32 (v +ℤ a)
+moved-sum v a h m e = let least = h .least e in let most = h .greatest e in omega wholes
 
 -- ---- places of two rows, or of two columns
 
@@ -137,7 +143,7 @@ module _ (p : Plan) (early late : List ℤ) (s f : ℕ) (less more : ℤ) (ws : 
       (subst (λ c. KeptCell p y z c) (sym here) (kept y z (omega arith) (omega arith)))
       (weightAt us a b)
       m
-      (λ e. moved-low (weightAt us a b) m (subst Weighed (sym there) (weighed a b k l) .greatest e) (moves .greatest)))
+      (moved-low (weightAt us a b) m (subst Weighed (sym there) (weighed a b k l)) moves))
 
   -- between the two cells of node y: the first is written
   record Half (y : ℕ) (us vs : List ℤ) : Type 0 where
@@ -264,7 +270,7 @@ module _ (p : Plan) (early late : List ℤ) (s f : ℕ) (less more : ℤ) (ws : 
       subst₂ (λ c d. JudgedCell p y z c d) (sym (made-other y z m n)) (sym (ap cellOf (g .other y z m n (omega arith))))
       (judged-again p y z (cellAt ws y z) (kept y z (omega arith) (omega arith)))
 
-  pub movedRows-is : let r = movedRows early late s f less more ws in
+  movedRows-is : let r = movedRows early late s f less more ws in
       cond (r .found) contradiction (bounds (rowsOf f (r .weights))) ≡ judgedSet p f made
   movedRows-is =
       answer-is p f made (movedRows early late s f less more ws)

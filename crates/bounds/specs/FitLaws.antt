@@ -10,10 +10,11 @@ use lib.Signed.{_≤ℤ_, leZ}
 use lib.ListN.{getD}
 use borrow.Author.Tests.{ltb-true, ltb-false}
 use Rattle.whole.specs.Clash.{clash}
-use Rattle.whole.specs.SplitLaws.{split-neg}
+use Rattle.whole.specs.SplitLaws.{split-add, split-neg}
 use Rattle.whole.specs.Rules.{whole, wholes}
 use Rattle.plan.specs.declared.Plan.{Plan}
 use Rattle.plan.specs.declared.Job.{Job}
+use Rattle.plan.specs.Limits.{longestWindow, longestRunning, latestDeadline}
 use Rattle.plan.specs.PlanLines.{noJob}
 use Rattle.plan.specs.Accepted.{JobAccepted, Accepted}
 use Rattle.bounds.specs.declared.Judgement.{Judgement}
@@ -25,21 +26,22 @@ use Rattle.bounds.specs.Tables.{Cell, off, upto, least, Rows, at, judgem
 use Rattle.bounds.specs.Elimination.{startCell, withoutStart, finishCell, withoutFinish}
 use Rattle.bounds.specs.BuildLaws.{at-build, byNode, eventOf-start, eventOf-finish}
 use Rattle.bounds.specs.TablesLaws.{JudgedCell, KeptCell, judged-kept, judgedSet-back}
-use Rattle.bounds.specs.Flat.{weightAt, cellAt, rowsOf, Weighed}
+use Rattle.bounds.specs.Spans.{farthestTime}
+use Rattle.bounds.specs.Flat.{weightAt, cellAt, rowsOf, greatestWeight, Weighed}
 use Rattle.bounds.specs.PutLaws.{cellOf-on}
 use Rattle.bounds.specs.JudgementsLaws.{judged-least, judged-most, judged-origin, judged-from-origin, judged-to-origin}
 use Rattle.bounds.specs.Fit.{AtMost, Fit}
 
 -- ---- the times of an accepted plan
 
--- a time that no window of an accepted plan is past
+-- the earliest, and the latest, of an event of two windows
 pub record EarlyIn (t : ℤ) : Type 0 where
   pub least : pos 0 ≤ℤ t
-  pub greatest : t ≤ℤ pos 345600000
+  pub greatest : t ≤ℤ farthestTime
 
 pub record LateIn (t : ℤ) : Type 0 where
-  pub least : negℤ (pos 86400000) ≤ℤ t
-  pub greatest : t ≤ℤ pos 259200000
+  pub least : negℤ longestRunning ≤ℤ t
+  pub greatest : t ≤ℤ greatestWeight
 
 job-at : (p : Plan) → Accepted p → (k : ℕ) → k < p .jobs + p .jobs → (b : Bool) → isThis p k ≡ b
     → JobAccepted (getD (p .job) (cond b k (k - p .jobs)) noJob)
@@ -52,7 +54,7 @@ jobAt-accepted p a k h = job-at p a k h (isThis p k) refl
 
 pub record ShiftIn (h : ℤ) : Type 0 where
   pub least : pos 0 ≤ℤ h
-  pub greatest : h ≤ℤ pos 86400000
+  pub greatest : h ≤ℤ longestWindow
 
 pub shift-in : (p : Plan) → Accepted p → (k : ℕ) → ShiftIn (shift p k)
 unfolding shift
@@ -62,22 +64,22 @@ shift-in p a k = by (isThis p k)
     by true = record { least = omega wholes; greatest = omega wholes }
     by false = let l = a .window-least in let m = a .window-most in record { least = omega wholes; greatest = omega wholes }
 
-start-early : (r h : ℤ) → pos 0 ≤ℤ r → r ≤ℤ pos 172800000 → ShiftIn h → EarlyIn (r +ℤ h)
-start-early r h a b c = record { least = omega wholes; greatest = omega wholes }
+start-early : (r h : ℤ) → pos 0 ≤ℤ r → r ≤ℤ latestDeadline → ShiftIn h → EarlyIn (r +ℤ h)
+start-early r h a b c = record { least = omega wholes; greatest = omega (wholes, split-add r h) }
 
-finish-early : (r m h : ℤ) → pos 0 ≤ℤ r → r ≤ℤ pos 172800000 → pos 0 ≤ℤ m → m ≤ℤ pos 86400000 → ShiftIn h → EarlyIn ((r +ℤ m) +ℤ h)
-finish-early r m h a b c d e = record { least = omega wholes; greatest = omega wholes }
+finish-early : (r m h : ℤ) → pos 0 ≤ℤ r → r ≤ℤ latestDeadline → pos 0 ≤ℤ m → m ≤ℤ longestRunning → ShiftIn h → EarlyIn ((r +ℤ m) +ℤ h)
+finish-early r m h a b c d e = record { least = omega wholes; greatest = omega (wholes, split-add (r +ℤ m) h, split-add r m) }
 
-start-late : (d m h : ℤ) → pos 0 ≤ℤ d → d ≤ℤ pos 172800000 → pos 0 ≤ℤ m → m ≤ℤ pos 86400000 → ShiftIn h → LateIn ((d -ℤ m) +ℤ h)
+start-late : (d m h : ℤ) → pos 0 ≤ℤ d → d ≤ℤ latestDeadline → pos 0 ≤ℤ m → m ≤ℤ longestRunning → ShiftIn h → LateIn ((d -ℤ m) +ℤ h)
 start-late d m h a b c e g = record { least = omega wholes; greatest = omega wholes }
 
-finish-late : (d h : ℤ) → pos 0 ≤ℤ d → d ≤ℤ pos 172800000 → ShiftIn h → LateIn (d +ℤ h)
+finish-late : (d h : ℤ) → pos 0 ≤ℤ d → d ≤ℤ latestDeadline → ShiftIn h → LateIn (d +ℤ h)
 finish-late d h a b c = record { least = omega wholes; greatest = omega wholes }
 
 pub running-least : (j : Job) → JobAccepted j → pos 0 ≤ℤ j .max
 running-least j a = let l = a .min-least in let m = a .min-most in omega wholes
 
-pub running-most : (j : Job) → JobAccepted j → j .min ≤ℤ pos 86400000
+pub running-most : (j : Job) → JobAccepted j → j .min ≤ℤ longestRunning
 running-most j a = let l = a .max-most in let m = a .min-most in omega wholes
 
 module _ (p : Plan) (a : Accepted p) where
@@ -132,14 +134,14 @@ held-most : {c : Cell} {w a : ℤ} → c ≡ upto w → AtMost c a → w ≤ℤ 
 held-most {c} {w} {a} e m = let h = m .held in let same : w ≡ m .weight = cc in subst (λ w. w ≤ℤ a) (sym same) (m .most)
 
 module _ (p : Plan) (a : Accepted p) (k : ℕ) (t : Rows) (size : k ≤ nodes (p .jobs + p .jobs)) (fit : Fit p k t) where
-  pub least-weight : (y z : ℕ) (w : ℤ) → y < k → z < k → at t y z ≡ upto w → negℤ (pos 259200000) ≤ℤ w
+  pub least-weight : (y z : ℕ) (w : ℤ) → y < k → z < k → at t y z ≡ upto w → negℤ greatestWeight ≤ℤ w
   least-weight y z w h l e =
       let low = judged-least p (eventOf y) (eventOf z) w (fit .kept y z w h l e) in
       let early = earliest-in p a z (omega arith) .least in
       let late = latest-in p a y (omega arith) .greatest in
       omega wholes
 
-  pub most-weight : (y z : ℕ) (w : ℤ) → y < k → z < k → at t y z ≡ upto w → w ≤ℤ pos 259200000
+  pub most-weight : (y z : ℕ) (w : ℤ) → y < k → z < k → at t y z ≡ upto w → w ≤ℤ greatestWeight
   most-weight zero zero w h l e =
       absurd (judged-origin p w (subst₂ (λ a b. judged p a b w ≡ Kept) origin-node origin-node (fit .kept 0 0 w h l e)))
   most-weight zero (suc z) w h l e =
@@ -174,14 +176,14 @@ module _ (p : Plan) (k : ℕ) (ws : List ℤ) (fit : Fit p k (rowsOf k ws)) wher
 -- ---- a judged set is fit
 
 -- a bound of the lesser of two cells is at most one of the first
-lesser : (w v a : ℤ) (b : Bool) → leZ w v ≡ b → w ≤ℤ a → AtMost (cond b (upto w) (upto v)) a
-lesser w v a true e h = record { weight = w; held = refl; most = h }
-lesser w v a false e h = record { weight = v; held = refl; most = omega whole }
+lesser-most : (w v a : ℤ) (b : Bool) → leZ w v ≡ b → w ≤ℤ a → AtMost (cond b (upto w) (upto v)) a
+lesser-most w v a true e h = record { weight = w; held = refl; most = h }
+lesser-most w v a false e h = record { weight = v; held = refl; most = omega whole }
 
 upto-least : (w a : ℤ) (d : Cell) → w ≤ℤ a → AtMost (least (upto w) d) a
 unfolding least
 upto-least w a off h = record { weight = w; held = refl; most = h }
-upto-least w a (upto v) h = lesser w v a (leZ w v) refl h
+upto-least w a (upto v) h = lesser-most w v a (leZ w v) refl h
 
 pub least-most : {c : Cell} (d : Cell) {a : ℤ} → AtMost c a → AtMost (least c d) a
 least-most d {a} m = subst (λ c. AtMost (least c d) a) (sym (m .held)) (upto-least (m .weight) a d (m .most))

@@ -10,6 +10,7 @@ use lib.ListN.{getD, set, replicate}
 use mir.Syntax.{w32}
 use mir.Val.{SFits}
 use Rattle.whole.specs.Split.{eqZ}
+use Rattle.plan.specs.Limits.{longestWindow, longestRunning, latestDeadline}
 use Rattle.events.specs.declared.Events.{Events}
 use Rattle.events.specs.Bits.{bitsOf, hasEvent, eventSet}
 use Rattle.bounds.specs.declared.Judgement.{Judgement}
@@ -27,9 +28,12 @@ side = mostNodes
 abbrev pub cells : ℕ
 cells = side * side
 
--- the mark for no bound
+-- the mark for no bound: the greatest number that an i32 holds, which no bound comes near
+abbrev pub markNumber : ℕ
+markNumber = 2147483647
+
 abbrev pub noBound : ℤ
-noBound = pos 2147483647
+noBound = pos markNumber
 
 abbrev pub place : ℕ → ℕ → ℕ
 place y z = y * side + z
@@ -140,15 +144,19 @@ movedRows early late s f less more = eachNode (movedAt early late s f less more)
 
 -- ---- what the sums of a table's weights rest on
 
+-- no bound that is kept is greater: it is at most latest(z) - earliest(y), and the latest is at most a deadline of the next window
+abbrev pub greatestWeight : ℤ
+greatestWeight = latestDeadline +ℤ longestWindow
+
 -- a weight is the mark, or lies in this range
 pub record Weighed (w : ℤ) : Type 0 where
-  pub least : eqZ w noBound ≡ false → negℤ (pos 259200000) ≤ℤ w
-  pub greatest : eqZ w noBound ≡ false → w ≤ℤ pos 259200000
+  pub least : eqZ w noBound ≡ false → negℤ greatestWeight ≤ℤ w
+  pub greatest : eqZ w noBound ≡ false → w ≤ℤ greatestWeight
 
--- by how much a finish's bounds move, which is a running time
+-- by how much bounds move: those of a finish by a running time, and those that are put on the next window by a window, which is at most as long
 pub record Moving (a : ℤ) : Type 0 where
-  pub least : negℤ (pos 86400000) ≤ℤ a
-  pub greatest : a ≤ℤ pos 86400000
+  pub least : negℤ longestRunning ≤ℤ a
+  pub greatest : a ≤ℤ longestRunning
 
 abbrev pub AllTimed : List ℤ → List ℤ → Type 0
 AllTimed early late = (y : ℕ) → y < mostNodes → Timed early late y

@@ -1,4 +1,4 @@
--- Tables in one array. How `putAt` goes, as the code goes: no bound to put, one that is no less than what stands there, or one that is judged.
+-- Tables in one array. The cases of `putAt`, as the code has them: no bound to put, one that is not less than what stands there, or one that is judged.
 use Prim.Native.Nat.{ℕ, zero, suc, _+_, _-_, _≤_, _<_}
 use mathlib.Core.Path.{_≡_, refl, sym, ap, ap₂, subst, _∙_}
 use mathlib.Core.Bool.{Bool, true, false, cond, not}
@@ -10,9 +10,8 @@ use lib.Dec.{eqb}
 use lib.IntN.{ℤ, pos, _+ℤ_}
 use lib.Signed.{leZ}
 use lib.ListN.{length, getD, length-set}
-use lib.Pow.{pow-mono}
 use lib.Seq.{getD-set-other}
-use borrow.Author.Tests.{not-false}
+use borrow.Author.Tests.{eq-eqb, ne-eqb, not-false}
 use mir.Syntax.{w32}
 use mir.Val.{SFits, ofZ}
 use mir.Facts.{sfits-lit}
@@ -21,13 +20,14 @@ use Rattle.whole.specs.Split.{eqZ}
 use Rattle.whole.specs.SplitLaws.{bits-eqb}
 use Rattle.events.specs.declared.Events.{Events}
 use Rattle.events.specs.Bits.{bitsOf, hasEvent, eventSet, mostBits, HasRoom, withFirst, nextEvent}
-use Rattle.events.specs.BitsLaws.{eventSet-nil, nextEvent-skips}
+use Rattle.events.specs.BitsLaws.{eventSet-nil, eventSet-first, eventSet-room, nextEvent-skips}
 use Rattle.bounds.specs.declared.Judgement.{Judgement}
 use Rattle.bounds.specs.declared.Judgement.the-variants.{Contradiction, LeftOut, Kept}
 use Rattle.bounds.specs.Events.{nodeOf}
 use Rattle.bounds.specs.Tables.{listed, Between}
 use Rattle.bounds.specs.Spans.{judgedAt}
 use Rattle.bounds.specs.Flat.{
+  markNumber,
   noBound,
   place,
   weightAt,
@@ -50,7 +50,7 @@ use Rattle.bounds.specs.Flat.{
   movedAt,
   movedRows,
 }
-use Rattle.bounds.specs.BuildLaws.{eventSet-listed-fits, hasEvent-listed}
+use Rattle.bounds.specs.BuildLaws.{length-listed, hasEvent-listed}
 use Rattle.bounds.specs.TablesLaws.{listed-ext}
 
 module _ (early late : List ℤ) (y z : ℕ) (v a : ℤ) (ws : List ℤ) where
@@ -87,10 +87,10 @@ putAt-same early late y z v a ws i d n =
     (either (leZ (weightAt ws y z) (v +ℤ a)) _ ws i d
     (stored-same (judgedAt early late y z (v +ℤ a)) (place y z) (v +ℤ a) ws i d n))
 
-stored-length : (j : Judgement) (at : ℕ) (w : ℤ) (ws : List ℤ) → length (stored j at w ws .weights) ≡ length ws
-stored-length Contradiction at w ws = refl
-stored-length LeftOut at w ws = length-set ws at noBound
-stored-length Kept at w ws = length-set ws at w
+storedCell-length : (j : Judgement) (at : ℕ) (w : ℤ) (ws : List ℤ) → length (stored j at w ws .weights) ≡ length ws
+storedCell-length Contradiction at w ws = refl
+storedCell-length LeftOut at w ws = length-set ws at noBound
+storedCell-length Kept at w ws = length-set ws at w
 
 either-length : (b : Bool) (r : Flat) (ws : List ℤ) → length (r .weights) ≡ length ws → length (cond b (flat false ws) r .weights) ≡ length ws
 either-length true r ws h = refl
@@ -101,7 +101,7 @@ unfolding putAt keptAt
 putAt-length early late y z v a ws =
     either-length (eqZ v noBound) _ ws
     (either-length (leZ (weightAt ws y z) (v +ℤ a)) _ ws
-    (stored-length (judgedAt early late y z (v +ℤ a)) (place y z) (v +ℤ a) ws))
+    (storedCell-length (judgedAt early late y z (v +ℤ a)) (place y z) (v +ℤ a) ws))
 
 -- ---- what follows
 
@@ -160,7 +160,7 @@ pub thenFlat-outcome : (P Q : List ℤ → Type 0) (F : Type 0) (r : Flat) (f : 
     → ((us : List ℤ) → P us → Outcome Q F (f us)) → Outcome Q F (thenFlat r f)
 thenFlat-outcome P Q F r f o g = outcome-then P Q F r f (r .found) refl o g
 
-pub eachNode-keeps : (step : ℕ → List ℤ → Flat) (n : ℕ) (P : List ℤ → Type 0)
+eachNode-keeps : (step : ℕ → List ℤ → Flat) (n : ℕ) (P : List ℤ → Type 0)
     → ((z : ℕ) (ws : List ℤ) → z < n → P ws → P (step z ws .weights))
     → (z count : ℕ) → z + count ≡ n → (ws : List ℤ) → P ws → P (eachNode step z count ws .weights)
 unfolding eachNode
@@ -200,11 +200,18 @@ putBounds-length early late (b ∷ bs) ws =
 
 -- ---- a row of a start that is eliminated
 
--- whether a weight is a bound, as the machine tests it
-pub isBound-read : {w : ℤ} → SFits w32 w → not (eqb (ofZ w32 w) 2147483647) ≡ isBound w
-isBound-read f = ap not (bits-eqb f (sfits-lit tt))
+-- whether a weight is the mark or a bound, as the machine tests it
+module _ {w : ℤ} (f : SFits w32 w) where
+  pub is-mark : ofZ w32 w ≡ markNumber → eqZ w noBound ≡ true
+  is-mark e = sym (bits-eqb f (sfits-lit tt)) ∙ eq-eqb (ofZ w32 w) markNumber e
 
--- the nodes to which row s has a bound are told by row s
+  pub no-mark : (ofZ w32 w ≡ markNumber → ⊥) → eqZ w noBound ≡ false
+  no-mark d = sym (bits-eqb f (sfits-lit tt)) ∙ ne-eqb (ofZ w32 w) markNumber d
+
+  pub isBound-read : not (eqb (ofZ w32 w) markNumber) ≡ isBound w
+  isBound-read = ap not (bits-eqb f (sfits-lit tt))
+
+-- a set made of row s has the nodes to which row s has a bound
 pub boundedNodes-has : (ws : List ℤ) (s : ℕ) (set : Events) → bitsOf set ≡ boundedNodes ws s → HasBounded ws s set
 boundedNodes-has ws s set e z h = ap (hasEvent z) e ∙ hasEvent-listed s (isBounded ws s) z h
 
@@ -219,19 +226,20 @@ boundedFrom ws s z = eventSet (listed (s - z) (λ i. isBounded ws s (z + i)))
 module _ (ws : List ℤ) (s z : ℕ) where
   pub boundedFrom-room : s < mostBits → HasRoom (boundedFrom ws s z)
   boundedFrom-room h =
-      let few : s - z ≤ mostBits - 1 = omega arith in
-      omega (arith, eventSet-listed-fits (s - z) (λ i. isBounded ws s (z + i)), pow-mono few)
+      let here : ℕ → Bool = λ i. isBounded ws s (z + i) in
+      eventSet-room (listed (s - z) here) (omega (arith, length-listed (s - z) here))
 
   pub boundedFrom-end : s ≤ z → 0 ≡ boundedFrom ws s z
   unfolding listed
   boundedFrom-end h = let none : s - z ≡ 0 = omega arith in rw none (sym eventSet-nil)
 
   pub boundedFrom-more : z < s → withFirst (isBounded ws s z) (boundedFrom ws s (z + 1)) ≡ boundedFrom ws s z
-  unfolding listed eventSet
+  unfolding listed
   boundedFrom-more h =
       let left : suc (s - (z + 1)) ≡ s - z = omega arith in
       ap₂ withFirst (ap (isBounded ws s) (sym (add-zero z)))
       (ap eventSet (listed-ext (s - (z + 1)) _ _ (λ i l. let place : z + 1 + i ≡ z + suc i = omega arith in ap (isBounded ws s) place)))
+      ∙ eventSet-first (isBounded ws s (z + 0)) (listed (s - (z + 1)) (λ i. isBounded ws s (z + suc i)))
       ∙ ap (λ (k : ℕ). eventSet (listed k (λ i. isBounded ws s (z + i)))) left
 
 pub boundedFrom-all : (ws : List ℤ) (s : ℕ) → boundedFrom ws s 0 ≡ boundedNodes ws s

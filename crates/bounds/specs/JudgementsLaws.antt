@@ -1,10 +1,9 @@
--- What a judgement tells of a weight. A bound that is kept is at least earliest(z) - latest(y), and, where neither event is the origin, at most
+-- What a judgement says about a weight. A bound that is kept is at least earliest(z) - latest(y), and, where neither event is the origin, at most
 -- latest(z) - earliest(y). A bound with the origin is kept unless it is a contradiction. A bound of an event with itself, or of a job's start with
 -- its finish, is never kept. What is left out stays left out where it is greater, and what is a contradiction stays one where it is less.
 use Prim.Native.Nat.{ℕ}
 use mathlib.Core.Path.{_≡_, refl}
 use mathlib.Core.Bool.{Bool, true, false, cond}
-use native.Mathlib.Omega.{arith}
 use lib.Dec.{eqb}
 use lib.IntN.{ℤ, pos, negℤ, _-ℤ_}
 use lib.Signed.{_≤ℤ_, ltZ, leZ}

@@ -1,10 +1,11 @@
 -- Elimination, as document 01 has it. In reading order: events with their earliest and latest, the judgement of a bound, tables of bounds, the
--- elimination of one event, and then what the code has of these: times and tables in arrays. These files are
--- definitions alone.
+-- elimination of one event; then what the code works with: times and tables in arrays. These files are definitions alone, and the laws follow.
+-- ---- document 01
 pub mod Events
 pub mod Judgements
 pub mod Tables
 pub mod Elimination
+-- ---- what the code works with
 pub mod Spans
 pub mod Flat
 pub mod Fit

@@ -23,6 +23,12 @@ setIn-found k found ws e = ap (λ b. setIn k b ws) e
 pub setIn-left : (k : ℕ) (found : Bool) (ws : List ℤ) → found ≡ false → setIn k found ws ≡ bounds (rowsOf k ws)
 setIn-left k found ws e = ap (λ b. setIn k b ws) e
 
+-- where a set and what follows it leave a table, the set left one too
+pub thenSet-some : (s : Set) (f : Rows → Set) (u : Rows) {P : Type 0} → ((v : Rows) → s ≡ bounds v → f v ≡ bounds u → P) → thenSet s f ≡ bounds u → P
+unfolding thenSet
+thenSet-some contradiction f u g e = clash (cc)
+thenSet-some (bounds v) f u g e = g v refl e
+
 -- ---- nodes
 
 pub finish-next : (k : ℕ) → finishNode k ≡ suc (startNode k)
@@ -42,16 +48,14 @@ module _ (p : Plan) (k : ℕ) (t : Rows) where
   unfolding withoutPlace thenSet
   withoutPlace-some u e = ap (λ s. thenSet s (withoutStart p k)) e
 
-then-fit : (p : Plan) (k : ℕ) (s : Set) (u : Rows) → ((v : Rows) → s ≡ bounds v → Fit p (finishNode k) v) → thenSet s (withoutStart p k) ≡ bounds u
-    → Fit p (startNode k) u
-unfolding thenSet
-then-fit p k contradiction u f e = clash (cc)
-then-fit p k (bounds v) u f e = withoutStart-fit p k v u (subst (λ n. Fit p n v) (finish-next k) (f v refl)) e
-
 pub withoutPlace-fit : (p : Plan) (k : ℕ) (t u : Rows) → Fit p (nodes (k + 1)) t → withoutPlace p k t ≡ bounds u → Fit p (nodes k) u
 unfolding withoutPlace
 withoutPlace-fit p k t u fit e =
-    then-fit p k (withoutFinish p k t) u (λ v h. withoutFinish-fit p k t v (subst (λ n. Fit p n t) (sym (place-next k)) fit) h) e
+    thenSet-some (withoutFinish p k t) (withoutStart p k) u
+    (λ v h q.
+    let left = withoutFinish-fit p k t v (subst (λ n. Fit p n t) (sym (place-next k)) fit) h in
+    withoutStart-fit p k v u (subst (λ n. Fit p n v) (finish-next k) left) q)
+    e
 
 -- ---- several places
 

@@ -64,17 +64,17 @@ module _ (p : Plan) (early late : List ℤ) (y z : ℕ) (ws : List ℤ)
     (room : place y z < length ws)
     (kept : KeptCell p y z (cellAt ws y z)) where
   -- what is left of a cell, or that the cell is a contradiction
-  abbrev pub Left : Cell → Flat → Type 0
-  Left c r = Outcome (λ us. JudgedCell p y z c (cellAt us y z)) (isContradiction (judgement p y z c) ≡ true) r
+  abbrev IsLeft : Cell → Flat → Type 0
+  IsLeft c r = Outcome (λ us. JudgedCell p y z c (cellAt us y z)) (isContradiction (judgement p y z c) ≡ true) r
 
-  stays : (c : Cell) → c ≡ cellAt ws y z → Left c (flat false ws)
+  stays : (c : Cell) → c ≡ cellAt ws y z → IsLeft c (flat false ws)
   stays c e =
       record {
         fails = λ f. absurd (true≢false (sym f));
         keeps = λ f. subst (λ c. JudgedCell p y z c (cellAt ws y z)) (sym e) (judged-again p y z (cellAt ws y z) kept);
       }
 
-  lands : (w : ℤ) → w <ℤ noBound → (j : Judgement) → judged p (eventOf y) (eventOf z) w ≡ j → Left (upto w) (stored j (place y z) w ws)
+  lands : (w : ℤ) → w <ℤ noBound → (j : Judgement) → judged p (eventOf y) (eventOf z) w ≡ j → IsLeft (upto w) (stored j (place y z) w ws)
   unfolding judgement
   lands w h Contradiction e = record { fails = λ f. ap isContradiction e; keeps = λ f. absurd (true≢false f) }
   lands w h LeftOut e =
@@ -105,22 +105,22 @@ module _ (p : Plan) (early late : List ℤ) (y z : ℕ) (ws : List ℤ)
       }
 
   compared : (w : ℤ) → w <ℤ noBound → (t : Bool) → leZ (weightAt ws y z) w ≡ t
-      → Left (least (cellAt ws y z) (upto w)) (cond t (flat false ws) (stored (judgedAt early late y z w) (place y z) w ws))
+      → IsLeft (least (cellAt ws y z) (upto w)) (cond t (flat false ws) (stored (judgedAt early late y z w) (place y z) w ws))
   compared w h true e = stays _ (least-present (weightAt ws y z) w _ refl h e)
   compared w h false e =
-      subst (λ c. Left c (stored (judgedAt early late y z w) (place y z) w ws)) (sym (least-lower (weightAt ws y z) w _ refl e))
-      (subst (λ j. Left (upto w) (stored j (place y z) w ws)) (sym (judges w))
+      subst (λ c. IsLeft c (stored (judgedAt early late y z w) (place y z) w ws)) (sym (least-lower (weightAt ws y z) w _ refl e))
+      (subst (λ j. IsLeft (upto w) (stored j (place y z) w ws)) (sym (judges w))
       (lands w h (judged p (eventOf y) (eventOf z) w) refl))
 
   put-by : (v a : ℤ) → (eqZ v noBound ≡ false → (v +ℤ a) <ℤ noBound) → (b : Bool) → eqZ v noBound ≡ b
-      → Left (least (cellAt ws y z) (plus (cellOf v) a)) (cond b (flat false ws) (keptAt early late y z (v +ℤ a) ws))
+      → IsLeft (least (cellAt ws y z) (plus (cellOf v) a)) (cond b (flat false ws) (keptAt early late y z (v +ℤ a) ws))
   unfolding keptAt plus
   put-by v a h true e = stays _ (ap (λ c. least (cellAt ws y z) (plus c a)) (cellOf-mark v e) ∙ least-off (cellAt ws y z))
   put-by v a h false e =
-      subst (λ c. Left (least (cellAt ws y z) (plus c a)) (keptAt early late y z (v +ℤ a) ws)) (sym (cellOf-on v e))
+      subst (λ c. IsLeft (least (cellAt ws y z) (plus c a)) (keptAt early late y z (v +ℤ a) ws)) (sym (cellOf-on v e))
       (compared (v +ℤ a) (h e) _ refl)
 
   pub putAt-left : (v a : ℤ) → (eqZ v noBound ≡ false → (v +ℤ a) <ℤ noBound)
-      → Left (least (cellAt ws y z) (plus (cellOf v) a)) (putAt early late y z v a ws)
+      → IsLeft (least (cellAt ws y z) (plus (cellOf v) a)) (putAt early late y z v a ws)
   unfolding putAt
   putAt-left v a h = put-by v a h (eqZ v noBound) refl

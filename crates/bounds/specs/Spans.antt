@@ -4,10 +4,11 @@ use mathlib.Core.Path.{_≡_}
 use mathlib.Core.Bool.{cond}
 use mathlib.Core.List.{List}
 use lib.Dec.{eqb}
-use lib.IntN.{ℤ, pos, negℤ, _-ℤ_}
+use lib.IntN.{ℤ, pos, negℤ, _+ℤ_, _-ℤ_}
 use lib.Signed.{_≤ℤ_}
 use lib.ListN.{getD}
 use Rattle.plan.specs.declared.Plan.{Plan}
+use Rattle.plan.specs.Limits.{longestWindow, longestRunning, latestDeadline}
 use Rattle.bounds.specs.declared.Event.{Event}
 use Rattle.bounds.specs.declared.Event.the-variants.{Origin, Start, Finish}
 use Rattle.bounds.specs.declared.Judgement.{Judgement}
@@ -49,10 +50,14 @@ pub record Times (p : Plan) (k : ℕ) (early late : List ℤ) : Type 0 where
   pub earliest-at : (y : ℕ) → y < k → timeAt early y ≡ earliest p (eventOf y)
   pub latest-at : (y : ℕ) → y < k → timeAt late y ≡ latest p (eventOf y)
 
+-- no earliest and no latest is farther from 0: the sums that make them have a release or a deadline, a running time, and the window of the next window's events
+abbrev pub farthestTime : ℤ
+farthestTime = (latestDeadline +ℤ longestRunning) +ℤ longestWindow
+
 -- the times of an accepted plan's events lie in this range
 pub record InRange (t : ℤ) : Type 0 where
-  pub least : negℤ (pos 345600000) ≤ℤ t
-  pub greatest : t ≤ℤ pos 345600000
+  pub least : negℤ farthestTime ≤ℤ t
+  pub greatest : t ≤ℤ farthestTime
 
 -- what it takes to judge a bound between two nodes
 pub record Timed (early late : List ℤ) (y : ℕ) : Type 0 where

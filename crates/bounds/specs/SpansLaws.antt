@@ -1,5 +1,5 @@
 -- The judgement from two arrays: it is the judgement by the four differences that they give, and where they hold a plan's times it is the
--- plan's judgement.
+-- plan's judgement. A time in range fits an i32 (`inRange-fits`).
 use Prim.Native.Nat.{ℕ, _<_}
 use mathlib.Core.Path.{_≡_, refl, sym, _∙_, ap, ap₂}
 use mathlib.Core.Bool.{Bool, true, false, cond}
@@ -7,6 +7,8 @@ use mathlib.Core.List.{List}
 use lib.Dec.{eqb}
 use lib.IntN.{ℤ, negℤ, _+ℤ_, _-ℤ_}
 use borrow.Author.Tests.{eqb-true}
+use mir.Syntax.{w32}
+use mir.Val.{SFits}
 use Rattle.whole.specs.SplitLaws.{split-add, split-sub, split-neg}
 use Rattle.whole.specs.Order.{neg-sub}
 use Rattle.whole.specs.Rules.{wholes}
@@ -16,7 +18,10 @@ use Rattle.bounds.specs.declared.Event.the-variants.{Origin, Start, Fini
 use Rattle.bounds.specs.declared.Judgement.{Judgement}
 use Rattle.bounds.specs.Events.{earliest, latest, eventOf, jobAt, shift}
 use Rattle.bounds.specs.Judgements.{judged, atLeast}
-use Rattle.bounds.specs.Spans.{judgedBy, judgedAt, timeAt, Times}
+use Rattle.bounds.specs.Spans.{judgedBy, judgedAt, timeAt, Times, InRange}
+
+pub inRange-fits : {t : ℤ} → InRange t → SFits w32 t
+inRange-fits h = omega wholes
 
 pub judgedAt-by : (early late : List ℤ) (y z : ℕ) (w : ℤ) {low high later sooner : ℤ} {a b : Event}
     → low ≡ timeAt early z -ℤ timeAt late y
@@ -38,11 +43,11 @@ late-is-max d m h = omega (wholes, split-add d h, split-add (d -ℤ m) h, split-
 early-is-min : (r m h : ℤ) → (r +ℤ h) -ℤ ((r +ℤ m) +ℤ h) ≡ negℤ m
 early-is-min r m h = omega (wholes, split-add r h, split-add (r +ℤ m) h, split-add r m, split-neg m)
 
-pub latest-finish : (p : Plan) (k : ℕ) → latest p (Finish k) -ℤ latest p (Start k) ≡ jobAt p k .max
+latest-finish : (p : Plan) (k : ℕ) → latest p (Finish k) -ℤ latest p (Start k) ≡ jobAt p k .max
 unfolding latest
 latest-finish p k = late-is-max (jobAt p k .deadline) (jobAt p k .max) (shift p k)
 
-pub earliest-start : (p : Plan) (k : ℕ) → earliest p (Start k) -ℤ earliest p (Finish k) ≡ negℤ (jobAt p k .min)
+earliest-start : (p : Plan) (k : ℕ) → earliest p (Start k) -ℤ earliest p (Finish k) ≡ negℤ (jobAt p k .min)
 unfolding earliest
 earliest-start p k = early-is-min (jobAt p k .release) (jobAt p k .min) (shift p k)
 

@@ -1,5 +1,5 @@
--- Events eliminated from an array, one after the other: where no contradiction is found, the array that remains stands for what follows, and where one is,
--- that is the whole answer.
+-- Events eliminated from an array, one after the other: where no contradiction is found, the array holds the table that remains, and where one is, that is
+-- the whole answer.
 use Prim.Native.Nat.{ℕ, suc, _+_, _-_, _<_}
 use mathlib.Core.Path.{_≡_, sym, ap, subst, _∙_}
 use mathlib.Core.Bool.{Bool, true, false}

@@ -34,7 +34,23 @@ use Rattle.bounds.specs.TablesLaws.{
 }
 use Rattle.bounds.specs.Spans.{Times}
 use Rattle.bounds.specs.SpansLaws.{judgedAt-is}
-use Rattle.bounds.specs.Flat.{noBound, place, weightAt, cellOf, cellAt, rowsOf, Weighed, Flat, flat, joinedAt, joinedCells, joinedRow, joinedRows, cells}
+use Rattle.bounds.specs.Flat.{
+  noBound,
+  place,
+  weightAt,
+  cellOf,
+  cellAt,
+  rowsOf,
+  greatestWeight,
+  Weighed,
+  Flat,
+  flat,
+  joinedAt,
+  joinedCells,
+  joinedRow,
+  joinedRows,
+  cells,
+}
 use Rattle.bounds.specs.FlatLaws.{putAt-same, putAt-length, Outcome, eachNode-outcome}
 use Rattle.bounds.specs.PutLaws.{cellOf-mark, cellOf-on, putAt-left}
 
@@ -65,10 +81,10 @@ module _ (p : Plan) (k : ℕ) (f : ℕ → ℕ → Cell) where
 
 -- ---- sums
 
-sum-low : (v w : ℤ) → v ≤ℤ pos 259200000 → w ≤ℤ pos 259200000 → (v +ℤ w) <ℤ noBound
+sum-low : (v w : ℤ) → v ≤ℤ greatestWeight → w ≤ℤ greatestWeight → (v +ℤ w) <ℤ noBound
 sum-low v w a b = omega wholes
 
-pub weighed-low : (v w : ℤ) → Weighed v → Weighed w → eqZ w noBound ≡ false → eqZ v noBound ≡ false → (v +ℤ w) <ℤ noBound
+weighed-low : (v w : ℤ) → Weighed v → Weighed w → eqZ w noBound ≡ false → eqZ v noBound ≡ false → (v +ℤ w) <ℤ noBound
 weighed-low v w a b on e = sum-low v w (a .greatest e) (b .greatest on)
 
 -- ---- the start s
@@ -174,7 +190,7 @@ module _ (p : Plan) (early late : List ℤ) (s : ℕ) (ws : List ℤ)
       ws
       (record { len = size; done = λ u x a b q. absurd (omega arith); rest = λ i q. refl })
 
-  pub joinedRows-is : cond (joinedRows early late s ws .found) contradiction (bounds (rowsOf s (joinedRows early late s ws .weights))) ≡ judgedSet p s made
+  joinedRows-is : cond (joinedRows early late s ws .found) contradiction (bounds (rowsOf s (joinedRows early late s ws .weights))) ≡ judgedSet p s made
   joinedRows-is =
       answer-is p s made (joinedRows early late s ws)
       (record { fails = rows-outcome .fails; keeps = λ f y z a b. rows-outcome .keeps f .done y z a b (omega arith) })

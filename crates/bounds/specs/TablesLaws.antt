@@ -66,7 +66,7 @@ join-plus w (upto v) = ap upto (sum-comm w v)
 
 -- ---- tests, lists and tables
 
-pub anyBelow-one : (k : ℕ) (f : ℕ → Bool) (i : ℕ) → i < k → f i ≡ true → anyBelow k f ≡ true
+anyBelow-one : (k : ℕ) (f : ℕ → Bool) (i : ℕ) → i < k → f i ≡ true → anyBelow k f ≡ true
 unfolding anyBelow
 anyBelow-one zero f i h e = absurd (omega arith)
 anyBelow-one (suc k) f zero h e = rw e
@@ -99,7 +99,7 @@ build-ext k f g h = listed-ext k _ _ (λ y a. listed-ext k _ _ (λ z b. h y z a 
 
 -- ---- judged cells
 
--- the cell of (y, z) that is left of c: c is no contradiction, and d is what is kept of it
+-- d is what the judgement leaves of the cell c of (y, z), and c is not a contradiction
 pub record JudgedCell (p : Plan) (y z : ℕ) (c d : Cell) : Type 0 where
   pub sound : isContradiction (judgement p y z c) ≡ false
   pub left : d ≡ keptCell (judgement p y z c) c
@@ -162,7 +162,7 @@ pub judgedSet-ext : (p : Plan) (k : ℕ) (f g : ℕ → ℕ → Cell) → ((y z 
 unfolding judgedSet
 judgedSet-ext p k f g h = ap (judgedRows p k) (build-ext k f g h)
 
-set-back : (b : Bool) (t u : Rows) → cond b contradiction (bounds t) ≡ bounds u → (b ≡ false) × (t ≡ u)
+pub set-back : (b : Bool) (t u : Rows) → cond b contradiction (bounds t) ≡ bounds u → (b ≡ false) × (t ≡ u)
 set-back true t u h = clash (cc)
 set-back false t u h = (refl, cc)
 

@@ -48,13 +48,13 @@ use Rattle.bounds.specs.StartLaws.{place-one}
 
 -- ---- the lesser of three
 
-lesser : (w v u : ℤ) (a b : Bool) → leZ w v ≡ a → leZ v u ≡ b
+lesser-of-three : (w v u : ℤ) (a b : Bool) → leZ w v ≡ a → leZ v u ≡ b
     → least (cond a (upto w) (upto v)) (upto u) ≡ least (upto w) (cond b (upto v) (upto u))
 unfolding least
-lesser w v u true true e f = let top : leZ w u ≡ true = omega whole in rw (e, top)
-lesser w v u true false e f = refl
-lesser w v u false true e f = rw (e, f)
-lesser w v u false false e f = let top : leZ w u ≡ false = omega whole in rw (f, top)
+lesser-of-three w v u true true e f = let top : leZ w u ≡ true = omega whole in rw (e, top)
+lesser-of-three w v u true false e f = refl
+lesser-of-three w v u false true e f = rw (e, f)
+lesser-of-three w v u false false e f = let top : leZ w u ≡ false = omega whole in rw (f, top)
 
 pub least-assoc : (c d e : Cell) → least (least c d) e ≡ least c (least d e)
 unfolding least
@@ -65,7 +65,7 @@ least-assoc (upto w) (upto v) off = by (leZ w v)
     by : (b : Bool) → least (cond b (upto w) (upto v)) off ≡ cond b (upto w) (upto v)
     by true = refl
     by false = refl
-least-assoc (upto w) (upto v) (upto u) = lesser w v u (leZ w v) (leZ v u) refl refl
+least-assoc (upto w) (upto v) (upto u) = lesser-of-three w v u (leZ w v) (leZ v u) refl refl
 
 pub least-comm : (c d : Cell) → least c d ≡ least d c
 unfolding least
@@ -82,14 +82,14 @@ least-comm (upto w) (upto v) = by (leZ w v) refl (leZ v w) refl
 
 -- ---- cells of which the same is left
 
-pub record SameLeft (p : Plan) (y z : ℕ) (c d : Cell) : Type 0 where
-  pub sound : isContradiction (judgement p y z c) ≡ isContradiction (judgement p y z d)
-  pub left : keptCell (judgement p y z c) c ≡ keptCell (judgement p y z d) d
+record SameLeft (p : Plan) (y z : ℕ) (c d : Cell) : Type 0 where
+  sound : isContradiction (judgement p y z c) ≡ isContradiction (judgement p y z d)
+  left : keptCell (judgement p y z c) c ≡ keptCell (judgement p y z d) d
 
-pub same-left : (p : Plan) (y z : ℕ) {c d : Cell} → c ≡ d → SameLeft p y z c d
+same-left : (p : Plan) (y z : ℕ) {c d : Cell} → c ≡ d → SameLeft p y z c d
 same-left p y z e = record { sound = ap (λ c. isContradiction (judgement p y z c)) e; left = ap (λ c. keptCell (judgement p y z c) c) e }
 
-pub judgedSet-same : (p : Plan) (k : ℕ) (f g : ℕ → ℕ → Cell) → ((y z : ℕ) → y < k → z < k → SameLeft p y z (f y z) (g y z)) → judgedSet p k f ≡ judgedSet p k g
+judgedSet-same : (p : Plan) (k : ℕ) (f g : ℕ → ℕ → Cell) → ((y z : ℕ) → y < k → z < k → SameLeft p y z (f y z) (g y z)) → judgedSet p k f ≡ judgedSet p k g
 unfolding judgedSet contradicts keptRows
 judgedSet-same p k f g h =
     let in-f : (y z : ℕ) → y < k → z < k → at (build k f) y z ≡ f y z = at-build k f in
@@ -146,7 +146,7 @@ unfolding judgement
 left-does-cell p y z off e s = same-left p y z refl
 left-does-cell p y z (upto w) e s = left-does-by p y z w e (judged p (eventOf y) (eventOf z) w) refl s
 
-pub left-does : (p : Plan) (y z : ℕ) {c d : Cell} (e : Cell) → JudgedCell p y z c d → SameLeft p y z (least c e) (least d e)
+left-does : (p : Plan) (y z : ℕ) {c d : Cell} (e : Cell) → JudgedCell p y z c d → SameLeft p y z (least c e) (least d e)
 left-does p y z {c} e j = subst (λ d. SameLeft p y z (least c e) (least d e)) (sym (j .left)) (left-does-cell p y z c e (j .sound))
 
 none-by : (p : Plan) (y z : ℕ) (w : ℤ) (e : Cell) (j : Judgement) → judged p (eventOf y) (eventOf z) w ≡ j → isContradiction j ≡ true
@@ -155,7 +155,7 @@ none-by p y z w e Contradiction h s = beside-none p y z w e h
 none-by p y z w e LeftOut h s = clash (cc)
 none-by p y z w e Kept h s = clash (cc)
 
-pub none-stays : (p : Plan) (y z : ℕ) (c e : Cell) → isContradiction (judgement p y z c) ≡ true → isContradiction (judgement p y z (least c e)) ≡ true
+none-stays : (p : Plan) (y z : ℕ) (c e : Cell) → isContradiction (judgement p y z c) ≡ true → isContradiction (judgement p y z (least c e)) ≡ true
 unfolding judgement
 none-stays p y z off e s = clash (cc)
 none-stays p y z (upto w) e s = none-by p y z w e (judged p (eventOf y) (eventOf z) w) refl s

@@ -10,7 +10,7 @@ ghost use Rattle.bounds.specs.Events.{jobAt, shift};
 ghost use Rattle.bounds.specs.Fit.{Clocked};
 
 // The job at a place.
-pub fn job_at(p: Plan, k: usize) -> Job
+fn job_at(p: Plan, k: usize) -> Job
     requires { ⌜ (Accepted p) × (k < p .jobs + p .jobs) ⌝ }
     ensures { λ r. ⌜ r ≡ jobAt p k ⌝ }
 {
@@ -22,7 +22,7 @@ pub fn job_at(p: Plan, k: usize) -> Job
 }
 
 // By how much the events of a place are later than on the window's own clock.
-pub fn shift_at(p: Plan, k: usize) -> i32
+fn shift_at(p: Plan, k: usize) -> i32
     ensures { λ r. ⌜ r ≡ shift p k ⌝ }
 {
     if k < p.jobs {

@@ -7,8 +7,8 @@ use Rattle.whole.specs.SplitLaws.{told-fits}
 use Rattle.bounds.specs.declared.Judgement.the-variants.{Contradiction, LeftOut, Kept}
 use Rattle.bounds.specs.Spans.{judgedAt}
 use Rattle.bounds.specs.Flat.{weightAt, place, flat}
-use Rattle.bounds.specs.FlatLaws.{putAt-none, putAt-more, putAt-judged}
-use Rattle.bounds.proofs.Sums.{is-mark, no-mark, sum-fits, sum-back, sum-test}
+use Rattle.bounds.specs.FlatLaws.{is-mark, no-mark, putAt-none, putAt-more, putAt-judged}
+use Rattle.bounds.proofs.Sums.{sum-fits, sum-back, sum-test}
 use borrow.Author.Needs.{needs}
 use Rattle.bounds.proofs.cells.put.Statement.{statement}
 use Rattle.bounds.proofs.cells.put.Tie as tie

@@ -80,18 +80,21 @@ put-requires c κs =
           (subst Weighed (sym (same-row t (l .z))) (s .pre .row (l .z) low)) (s .pre .weighed) (s .pre .on),
     )
 
--- after `put`: the turn, and what it answers
+-- after `put`: the turn, and that what it answers is the step
 abbrev turn : tie.After-put Inv-loop μ-loop → tie.In-loop Inv-loop μ-loop
 turn c = c .before .before .before
 
-put-is : (c : tie.After-put Inv-loop μ-loop) → let l = turn c .before .loop in flat (c .put .result) (c .put .last .0) ≡ step (turn c) (l .z) (l .weights)
-put-is c =
+put-is : (c : tie.After-put Inv-loop μ-loop)
+    → let a = entry (turn c) .args in
+    let l = turn c .before .loop in
+    let answer = flat (c .put .result) (c .put .last .0) in
+    answer
+    ≡ putAt (a .early .now) (a .late .now) (a .y) (l .z) (toZ w32 (ofZ w32 (weightAt (l .weights) (a .s) (l .z)))) (toZ w32 (ofZ w32 (a .w))) (l .weights)
+    → answer ≡ step (turn c) (l .z) (l .weights)
+put-is c answered =
     let a = entry (turn c) .args in
     let l = turn c .before .loop in
-    let answer : flat (c .put .result) (c .put .last .0)
-    ≡ putAt (a .early .now) (a .late .now) (a .y) (l .z) (toZ w32 (ofZ w32 (weightAt (l .weights) (a .s) (l .z)))) (toZ w32 (ofZ w32 (a .w))) (l .weights)
-    = c .put .ensures in
-    answer
+    answered
     ∙ ap (λ v. putAt (a .early .now) (a .late .now) (a .y) (l .z) v (toZ w32 (ofZ w32 (a .w))) (l .weights))
     (toZ-ofZ (told-fits w32 (weightAt (l .weights) (a .s) (l .z)) (c .before .before .v .given)))
 
@@ -109,7 +112,8 @@ returns c =
     let l = t .before .loop in
     sym
     (l .inv .0
-    ∙ eachNode-stop (step t) (entry t .args .s) (l .z) (l .weights) (p .put .result) (p .put .last .0) (t .loop-test .taken) (put-is p) (c .if1 .taken))
+    ∙ eachNode-stop (step t) (entry t .args .s) (l .z) (l .weights) (p .put .result) (p .put .last .0) (t .loop-test .taken) (put-is p (p .put .ensures))
+    (c .if1 .taken))
     ∙ answered (entry t)
 
 add-after : tie.Need-add-after Inv-loop μ-loop
@@ -133,11 +137,11 @@ loop-again c =
     let us = p .put .last .0 in
     let same : (i : ℕ) → place (a .y) (a .s) ≤ i → getD us i (pos 0) ≡ getD (a .weights .now) i (pos 0)
     = λ i h.
-    ap (λ f. getD (f .weights) i (pos 0)) (put-is p)
+    ap (λ f. getD (f .weights) i (pos 0)) (put-is p (p .put .ensures))
     ∙ putAt-same (a .early .now) (a .late .now) (a .y) (l .z) _ _ (l .weights) i (pos 0) (λ e. omega (arith, t .loop-test))
     ∙ l .inv .1 i h in (
       l .inv .0
-          ∙ eachNode-past (step t) (a .s) (l .z) (l .weights) (p .put .result) us (t .loop-test .taken) (put-is p) (c .before .if1 .left)
+          ∙ eachNode-past (step t) (a .s) (l .z) (l .weights) (p .put .result) us (t .loop-test .taken) (put-is p (p .put .ensures)) (c .before .if1 .left)
           ∙ joinedCells-skips (a .early .now) (a .late .now) (a .s) (a .y) (toZ w32 (ofZ w32 (a .w))) us (a .set)
           (HasBounded-same (a .weights .now) us (a .s) (a .set) (λ z h. same (place (a .s) z) (omega (arith, s .pre .before))) (s .pre .bounded))
           (l .z + 1)

@@ -5,8 +5,7 @@ use mir.Syntax.{w32}
 use mir.Facts.{toZ-ofZ}
 use Rattle.whole.specs.SplitLaws.{told-fits}
 use Rattle.bounds.specs.Flat.{weightAt, JoinsCells, joinedCells}
-use Rattle.bounds.specs.FlatLaws.{joinedRow-none, joinedRow-on}
-use Rattle.bounds.proofs.Sums.{is-mark, no-mark}
+use Rattle.bounds.specs.FlatLaws.{is-mark, no-mark, joinedRow-none, joinedRow-on}
 use Rattle.bounds.proofs.eliminate.join_row.Statement.{statement}
 use Rattle.bounds.proofs.eliminate.join_row.Tie as tie
 

@@ -1,4 +1,5 @@
--- `bounds::places::drop_finish` meets its contract: the nodes are moved by -max and by min, which the times tell, and `finish-is` says what that comes to.
+-- `bounds::places::drop_finish` meets its contract: the nodes are moved by -max and by min, which are differences of the times, and by `finish-is` that
+-- eliminates the finish.
 use Prim.Native.Nat.{suc}
 use mathlib.Core.Path.{_≡_, sym, _∙_, ap, ap₂, subst₂}
 use native.Mathlib.Omega.{arith}

@@ -1,4 +1,4 @@
--- `bounds::places::drop_start` meets its contract: the rows are joined, and `start-is` says what that comes to.
+-- `bounds::places::drop_start` meets its contract: the rows are joined, and by `start-is` that eliminates the start.
 use borrow.Author.Needs.{needs}
 use mathlib.Core.Path.{_∙_, ap}
 use lib.ListN.{length}
