@@ -1,37 +1,32 @@
 -- By how much a bound moves, as the machine has it: the difference of two events' moves fits, and so does a weight moved by it.
 use mathlib.Core.Path.{_≡_, sym, _∙_, ap, ap₂, subst₂}
-use mathlib.Core.Bool.{false}
-use lib.IntN.{ℤ, pos, negℤ, _+ℤ_, _-ℤ_}
-use lib.Signed.{_≤ℤ_}
+use lib.IntN.{ℤ, _+ℤ_, _-ℤ_}
 use mir.Syntax.{w32}
 use mir.Val.{SFits, toZ, ofZ}
 use mir.Facts.{toZ-ofZ}
 use Rattle.whole.specs.Split.{eqZ}
 use Rattle.whole.specs.Rules.{wholes}
 use Rattle.bounds.specs.Flat.{noBound, Putting, Weighed, Moving}
-use Rattle.rounds.specs.NextLaws.{Shifted}
+use Rattle.bounds.specs.FinishLaws.{moved-sum}
+use Rattle.bounds.specs.FitLaws.{ShiftIn}
 
-shifted-fits : {a : ℤ} → Shifted a → SFits w32 a
-shifted-fits h = omega wholes
+shift-fits : {a : ℤ} → ShiftIn a → SFits w32 a
+shift-fits h = omega wholes
 
-less-fits : (a b : ℤ) → Shifted a → Shifted b → SFits w32 (a -ℤ b)
+less-fits : (a b : ℤ) → ShiftIn a → ShiftIn b → SFits w32 (a -ℤ b)
 less-fits a b h l = omega wholes
 
-pub shifted-back : {x a : ℤ} → x ≡ a → Shifted a → toZ w32 (ofZ w32 x) ≡ a
-shifted-back e h = ap (λ x. toZ w32 (ofZ w32 x)) e ∙ toZ-ofZ (shifted-fits h)
+pub shift-back : {x a : ℤ} → x ≡ a → ShiftIn a → toZ w32 (ofZ w32 x) ≡ a
+shift-back e h = ap (λ x. toZ w32 (ofZ w32 x)) e ∙ toZ-ofZ (shift-fits h)
 
-module _ (x y : ℤ) {a b : ℤ} (e : toZ w32 (ofZ w32 x) ≡ a) (f : toZ w32 (ofZ w32 y) ≡ b) (h : Shifted a) (l : Shifted b) where
+module _ (x y : ℤ) {a b : ℤ} (e : toZ w32 (ofZ w32 x) ≡ a) (f : toZ w32 (ofZ w32 y) ≡ b) (h : ShiftIn a) (l : ShiftIn b) where
   pub apart-fits : SFits w32 (toZ w32 (ofZ w32 x) -ℤ toZ w32 (ofZ w32 y))
   apart-fits = subst₂ (λ x y. SFits w32 (x -ℤ y)) (sym e) (sym f) (less-fits a b h l)
 
   pub apart-back : toZ w32 (ofZ w32 (toZ w32 (ofZ w32 x) -ℤ toZ w32 (ofZ w32 y))) ≡ a -ℤ b
   apart-back = toZ-ofZ apart-fits ∙ ap₂ _-ℤ_ e f
 
-moved-sum : (v a : ℤ) → negℤ (pos 259200000) ≤ℤ v → v ≤ℤ pos 259200000 → Moving a → SFits w32 (v +ℤ a)
-moved-sum v a h k m = omega wholes
-
 -- a weight of a table, moved
 pub moved-putting : {v a x y : ℤ} → x ≡ v → y ≡ a → Weighed v → Moving a → Putting x y
 moved-putting {v} {a} e f h m on =
-    let here : eqZ v noBound ≡ false = sym (ap (λ v. eqZ v noBound) e) ∙ on in
-    subst₂ (λ x y. SFits w32 (x +ℤ y)) (sym e) (sym f) (moved-sum v a (h .least here) (h .greatest here) m)
+    subst₂ (λ x y. SFits w32 (x +ℤ y)) (sym e) (sym f) (moved-sum v a h m (sym (ap (λ v. eqZ v noBound) e) ∙ on))

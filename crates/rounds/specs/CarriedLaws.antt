@@ -11,7 +11,6 @@ use lib.IntN.{ℤ, pos, negℤ, _+ℤ_, _-ℤ_}
 use lib.Signed.{_≤ℤ_}
 use lib.ListN.{getD}
 use borrow.Author.Tests.{eq-eqb, ltb-true, ltb-false}
-use Rattle.whole.specs.Clash.{clash}
 use Rattle.whole.specs.SplitLaws.{split-add, split-sub, split-neg}
 use Rattle.whole.specs.Rules.{wholes}
 use Rattle.plan.specs.declared.Plan.{Plan}
@@ -20,13 +19,13 @@ use Rattle.bounds.specs.declared.Event.{Event}
 use Rattle.bounds.specs.declared.Event.the-variants.{Start, Finish}
 use Rattle.bounds.specs.Events.{jobAt, shift, earliest, latest, eventOf, nodeOf, startNode, finishNode, nodes}
 use Rattle.bounds.specs.EventsLaws.{jobAt-this, jobAt-next, shift-this, shift-next}
-use Rattle.bounds.specs.Tables.{Cell, upto, least, plus, Rows, at, Between, leastOf, Set, contradiction, bounds}
-use Rattle.bounds.specs.Elimination.{thenSet, withoutPlace, eliminated}
+use Rattle.bounds.specs.Tables.{Cell, upto, least, plus, Rows, at, Between, leastOf, bounds}
+use Rattle.bounds.specs.Elimination.{withoutPlace, eliminated}
 use Rattle.bounds.specs.BuildLaws.{byNode, eventOf-start, eventOf-finish}
 use Rattle.bounds.specs.TowardsLaws.{least-comm}
 use Rattle.bounds.specs.Fit.{AtMost, Fit}
 use Rattle.bounds.specs.FitLaws.{least-most, fit-judged}
-use Rattle.bounds.specs.PlacesLaws.{withoutPlace-fit}
+use Rattle.bounds.specs.PlacesLaws.{thenSet-some, withoutPlace-fit}
 use Rattle.bounds.specs.StartLaws.{less-or-same}
 use Rattle.rounds.specs.Given.{upTo, downTo, ranges, ownBounds, betweenBounds}
 use Rattle.rounds.specs.Rounds.{C0, ownNodes, onNext, joined}
@@ -127,7 +126,7 @@ module _ (p : Plan) where
 
 -- ---- the next window's times
 
-zero-between : (a w : ℤ) → a +ℤ w ≡ (a +ℤ pos 0) +ℤ w
+pub zero-between : (a w : ℤ) → a +ℤ w ≡ (a +ℤ pos 0) +ℤ w
 zero-between a w = omega (wholes, split-add a w, split-add (a +ℤ pos 0) w, split-add a (pos 0))
 
 module _ (p : Plan) (k : ℕ) (h : k < p .jobs) where
@@ -254,12 +253,6 @@ module _ (p : Plan) (c0 t : Rows) (own-fit : Fit p (nodes (p .jobs)) c0) (fit : 
 
 -- ---- what remains
 
-then-fit : (p : Plan) (low count : ℕ) (s : Set) (u : Rows) → ((v : Rows) → s ≡ bounds v → (eliminated p low count v ≡ bounds u) → Fit p (nodes low) u)
-    → thenSet s (eliminated p low count) ≡ bounds u → Fit p (nodes low) u
-unfolding thenSet
-then-fit p low count contradiction u f e = clash (cc)
-then-fit p low count (bounds v) u f e = f v refl e
-
 pub eliminated-fit : (p : Plan) (low count : ℕ) (t u : Rows) → Fit p (nodes (low + count)) t → eliminated p low count t ≡ bounds u → Fit p (nodes low) u
 unfolding eliminated
 eliminated-fit p low zero t u fit e =
@@ -267,7 +260,7 @@ eliminated-fit p low zero t u fit e =
     let same : t ≡ u = cc in
     subst₂ (λ n t. Fit p n t) none same fit
 eliminated-fit p low (suc count) t u fit e =
-    then-fit p low count (withoutPlace p (low + count) t) u
+    thenSet-some (withoutPlace p (low + count) t) (eliminated p low count) u
     (λ v h q.
     let last : nodes (low + suc count) ≡ nodes (low + count + 1) = omega arith in
     eliminated-fit p low count v u (withoutPlace-fit p (low + count) t v (subst (λ n. Fit p n t) last fit) h) q)

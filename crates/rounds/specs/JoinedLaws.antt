@@ -1,4 +1,4 @@
--- The set that a round starts with, as the code comes to it. An array with the own bounds holds C(0) and nothing else; with the bounds between windows put
+-- The set that a round starts with, as the code makes it. An array with the own bounds holds C(0) and nothing else; with the bounds between windows put
 -- into it, it leads, with every carried set still to be put on the next window, to the joined set, or every joined set is a contradiction.
 use Prim.Native.Nat.{ℕ, _+_, _≤_, _<_}
 use mathlib.Core.Path.{_≡_, refl, sym, ap, ap₂, subst, _∙_}

@@ -18,11 +18,12 @@ use Rattle.plan.specs.declared.Kind.the-variants as kind
 use Rattle.plan.specs.declared.EventName.{EventName}
 use Rattle.plan.specs.declared.Bound.{Bound}
 use Rattle.plan.specs.declared.Plan.{Plan}
+use Rattle.plan.specs.Limits.{greatestC}
 use Rattle.plan.specs.EventNames.{isNext}
 use Rattle.plan.specs.PlanLines.{noBound}
 use Rattle.plan.specs.PlanWritten.{boundsOf}
 use Rattle.plan.specs.Accepted.{BoundAccepted, Accepted}
-use Rattle.plan.specs.ListLaws.{All}
+use Rattle.plan.specs.ListLaws.{All, All-of}
 use Rattle.bounds.specs.declared.Event.{Event}
 use Rattle.bounds.specs.declared.Event.the-variants.{Start, Finish}
 use Rattle.bounds.specs.Events.{nodeOf, earliest, latest, eventOf, nodes}
@@ -39,18 +40,13 @@ use Rattle.rounds.specs.Rounds.{C0}
 
 -- ---- the bounds of an accepted plan
 
-All-take : {A : Type 0} (P : A → Type 0) (d : A) (n : ℕ) (xs : List A) → n ≤ length xs → ((i : ℕ) → i < n → P (getD xs i d)) → All P (take n xs)
-All-take P d zero xs h f = tt
-All-take P d (suc n) [] h f = absurd (omega arith)
-All-take P d (suc n) (x ∷ xs) h f = (f 0 (omega arith), All-take P d n xs (omega arith) (λ i l. f (suc i) (omega arith)))
-
-pub boundsOf-accepted : (p : Plan) → Accepted p → All (BoundAccepted (p .jobs)) (boundsOf p)
+boundsOf-accepted : (p : Plan) → Accepted p → All (BoundAccepted (p .jobs)) (boundsOf p)
 boundsOf-accepted p a =
-    All-take (BoundAccepted (p .jobs)) noBound (p .bounds) (p .bound) (let most = a .bounds-most in omega (arith, a .bound-places)) (a .bound-at)
+    All-of (BoundAccepted (p .jobs)) (p .bound) noBound (p .bounds) (let most = a .bounds-most in omega (arith, a .bound-places)) (a .bound-at)
 
 -- ---- the events that they name
 
-eventAt-node : (k : Kind) (i n : ℕ) → i < n → nodeOf (eventAt k i) < nodes n
+pub eventAt-node : (k : Kind) (i n : ℕ) → i < n → nodeOf (eventAt k i) < nodes n
 unfolding nodeOf
 eventAt-node kind.Start i n h = omega arith
 eventAt-node kind.Finish i n h = omega arith
@@ -63,13 +59,13 @@ placeOf-this : (p : Plan) (l : Letter) (i : ℕ) → 1 ≤ i → i ≤ p .jobs �
 placeOf-this p This i a b e = omega arith
 placeOf-this p Next i a b e = clash (cc)
 
-pub named-both : (p : Plan) (e : EventName) → 1 ≤ e .job → e .job ≤ p .jobs → nodeOf (named p e) < nodes (p .jobs + p .jobs)
+named-both : (p : Plan) (e : EventName) → 1 ≤ e .job → e .job ≤ p .jobs → nodeOf (named p e) < nodes (p .jobs + p .jobs)
 named-both p e a b = eventAt-node (e .kind) (placeOf p (e .letter) (e .job)) (p .jobs + p .jobs) (placeOf-both p (e .letter) (e .job) a b)
 
-pub named-this : (p : Plan) (e : EventName) → 1 ≤ e .job → e .job ≤ p .jobs → isNext (e .letter) ≡ false → nodeOf (named p e) < nodes (p .jobs)
+named-this : (p : Plan) (e : EventName) → 1 ≤ e .job → e .job ≤ p .jobs → isNext (e .letter) ≡ false → nodeOf (named p e) < nodes (p .jobs)
 named-this p e a b t = eventAt-node (e .kind) (placeOf p (e .letter) (e .job)) (p .jobs) (placeOf-this p (e .letter) (e .job) a b t)
 
-c-low : (c : ℤ) → c ≤ℤ pos 1000000000 → c <ℤ flat.noBound
+c-low : (c : ℤ) → c ≤ℤ greatestC → c <ℤ flat.noBound
 c-low c h = omega wholes
 
 meant-both : (p : Plan) (d : Bound) → BoundAccepted (p .jobs) d → Named (nodes (p .jobs + p .jobs)) (meant p d)

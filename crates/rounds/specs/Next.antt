@@ -5,16 +5,14 @@ use mathlib.Core.List.{List}
 use lib.Dec.{eqb}
 use lib.IntN.{ℤ, pos, _-ℤ_}
 use lib.Signed.{_≤ℤ_}
-use Rattle.plan.specs.Limits.{mostJobs}
+use Rattle.plan.specs.Limits.{longestWindow, mostJobs}
 use Rattle.bounds.specs.Events.{nodes}
 use Rattle.bounds.specs.Flat.{weightAt, Flat, putAt, eachNode, AllTimed, Weighed}
+use Rattle.rounds.specs.Rounds.{movedBy}
 
--- the node on the next window of a node of one window, and by how much its event moves; the origin stays
+-- the node on the next window of a node of one window; the origin stays
 unfoldable pub onto : ℕ → ℕ → ℕ
 onto jobs y = cond (eqb y 0) 0 (y + 2 * jobs)
-
-unfoldable pub movedBy : ℤ → ℕ → ℤ
-movedBy window y = cond (eqb y 0) (pos 0) window
 
 -- 'Where a set is put on the next window, its bounds to and from the origin move by `window` too.'
 abbrev pub nextAt : List ℤ → List ℤ → ℕ → ℤ → List ℤ → ℕ → ℕ → List ℤ → Flat
@@ -31,5 +29,5 @@ pub record Nexts (early late : List ℤ) (jobs : ℕ) (window : ℤ) (ts : List 
   pub times : AllTimed early late
   pub jobs-most : jobs ≤ mostJobs
   pub window-least : pos 0 ≤ℤ window
-  pub window-most : window ≤ℤ pos 86400000
+  pub window-most : window ≤ℤ longestWindow
   pub weighed : (y z : ℕ) → y < nodes jobs → z < nodes jobs → Weighed (weightAt ts y z)

@@ -7,24 +7,27 @@ use mathlib.Core.Bool.{Bool, true, false, cond, _&&_, or-true}
 use mathlib.Core.List.{List}
 use native.Mathlib.Omega.{arith}
 use lib.Dec.{eqb, ltb, leb}
-use lib.IntN.{ℤ, pos, _+ℤ_, _-ℤ_}
-use lib.Signed.{_≤ℤ_, _<ℤ_}
+use lib.IntN.{ℤ, pos, _-ℤ_}
+use lib.Signed.{_≤ℤ_}
 use borrow.Author.Tests.{eq-eqb, ne-eqb, lt-ltb, le-ltb, ltb-true, ltb-false, le-leb, lt-leb, leb-false}
 use Rattle.whole.specs.Rules.{wholes}
 use Rattle.plan.specs.declared.Plan.{Plan}
+use Rattle.plan.specs.Limits.{longestWindow}
 use Rattle.plan.specs.Accepted.{Accepted}
 use Rattle.bounds.specs.Events.{nodes}
 use Rattle.bounds.specs.Tables.{Cell, off, least, plus, Rows, at, Set, contradiction, bounds}
 use Rattle.bounds.specs.BuildLaws.{at-build}
 use Rattle.bounds.specs.TablesLaws.{least-off, judgedSet-ext}
 use Rattle.bounds.specs.Spans.{Times}
-use Rattle.bounds.specs.Flat.{noBound, place, weightAt, cellOf, cellAt, rowsOf, Moving, Weighed}
+use Rattle.bounds.specs.Flat.{place, weightAt, cellOf, cellAt, rowsOf, Moving, Weighed}
 use Rattle.bounds.specs.FlatLaws.{Outcome, eachNode-outcome}
 use Rattle.bounds.specs.StartLaws.{place-one}
 use Rattle.bounds.specs.TowardsLaws.{Towards, putAt-towards, towards-end}
+use Rattle.bounds.specs.FinishLaws.{moved-low}
+use Rattle.bounds.specs.FitLaws.{ShiftIn}
 use Rattle.bounds.specs.ClockedLaws.{nodes-room}
-use Rattle.rounds.specs.Rounds.{ownNodes, isOwn, moved, onNext}
-use Rattle.rounds.specs.Next.{onto, movedBy, nextAt, nextRow, nextRows}
+use Rattle.rounds.specs.Rounds.{ownNodes, isOwn, movedBy, onNext}
+use Rattle.rounds.specs.Next.{onto, nextAt, nextRow, nextRows}
 
 -- ---- one node
 
@@ -37,11 +40,9 @@ unfolding onto
 onto-event jobs y n = rw (ne-eqb y 0 n)
 
 pub movedBy-origin : (window : ℤ) (y : ℕ) → y ≡ 0 → pos 0 ≡ movedBy window y
-unfolding movedBy
 movedBy-origin window y e = rw (eq-eqb y 0 e)
 
 pub movedBy-event : (window : ℤ) (y : ℕ) → (y ≡ 0 → ⊥) → window ≡ movedBy window y
-unfolding movedBy
 movedBy-event window y n = rw (ne-eqb y 0 n)
 
 pub onto-below : (jobs y n : ℕ) → y + 2 * jobs < n → onto jobs y < n
@@ -55,20 +56,15 @@ onto-below jobs y n h = by (eqb y 0)
 -- ---- by how much a bound moves
 
 -- a node moves by 0 or by a window
-pub record Shifted (a : ℤ) : Type 0 where
-  pub least : pos 0 ≤ℤ a
-  pub greatest : a ≤ℤ pos 86400000
-
-pub movedBy-in : (window : ℤ) (y : ℕ) → pos 0 ≤ℤ window → window ≤ℤ pos 86400000 → Shifted (movedBy window y)
-unfolding movedBy
+pub movedBy-in : (window : ℤ) (y : ℕ) → pos 0 ≤ℤ window → window ≤ℤ longestWindow → ShiftIn (movedBy window y)
 movedBy-in window y h l = by (eqb y 0)
   where
-    by : (b : Bool) → Shifted (cond b (pos 0) window)
+    by : (b : Bool) → ShiftIn (cond b (pos 0) window)
     by true = record { least = omega wholes; greatest = omega wholes }
     by false = record { least = h; greatest = l }
 
-pub shifted-moving : (a b : ℤ) → Shifted a → Shifted b → Moving (a -ℤ b)
-shifted-moving a b h l = record { least = omega wholes; greatest = omega wholes }
+pub shift-moving : (a b : ℤ) → ShiftIn a → ShiftIn b → Moving (a -ℤ b)
+shift-moving a b h l = record { least = omega wholes; greatest = omega wholes }
 
 -- ---- the bounds of the next window
 
@@ -89,18 +85,20 @@ module _ (p : Plan) where
       ap (isOwn p) (sym (onto-event (p .jobs) (suc y) (λ e. omega arith)))
       ∙ ap₂ _&&_ (le-leb 1 (suc y + ownNodes p) (omega arith)) (lt-leb (suc y + ownNodes p) (ownNodes p) (omega arith))
 
-  moved-onto : (y : ℕ) → moved p (onto (p .jobs) y) ≡ movedBy (p .window) y
-  moved-onto zero = ap (moved p) (sym (onto-origin (p .jobs) 0 refl)) ∙ movedBy-origin (p .window) 0 refl
+  moved-onto : (y : ℕ) → movedBy (p .window) (onto (p .jobs) y) ≡ movedBy (p .window) y
+  moved-onto zero = ap (movedBy (p .window)) (sym (onto-origin (p .jobs) 0 refl))
   moved-onto (suc y) =
-      ap (moved p) (sym (onto-event (p .jobs) (suc y) (λ e. omega arith)))
-      ∙ ap (λ b. cond b (pos 0) (p .window)) (ne-eqb (suc y + ownNodes p) 0 (λ e. omega arith))
+      sym (movedBy-event (p .window) (onto (p .jobs) (suc y)) (λ e. later (onto-event (p .jobs) (suc y) (λ e. omega arith)) e))
       ∙ movedBy-event (p .window) (suc y) (λ e. omega arith)
+    where
+      later : {n : ℕ} → suc y + ownNodes p ≡ n → n ≡ 0 → ⊥
+      later e f = omega arith
 
   pub onNext-onto : (t : Rows) (y z : ℕ) → onNext p t (onto (p .jobs) y) (onto (p .jobs) z) ≡ plus (at t y z) (movedBy (p .window) z -ℤ movedBy (p .window) y)
   unfolding onNext
   onNext-onto t y z =
       rw (onto-not-own y, onto-not-own z)
-      (ap₂ (λ a b. plus (at t a b) (moved p (onto (p .jobs) z) -ℤ moved p (onto (p .jobs) y))) (onto-back y) (onto-back z)
+      (ap₂ (λ a b. plus (at t a b) (movedBy (p .window) (onto (p .jobs) z) -ℤ movedBy (p .window) (onto (p .jobs) y))) (onto-back y) (onto-back z)
       ∙ ap₂ (λ a b. plus (at t y z) (a -ℤ b)) (moved-onto z) (moved-onto y))
 
   pub onNext-own : (t : Rows) (y z : ℕ) → (isOwn p y ≡ true) ⊎ (isOwn p z ≡ true) → onNext p t y z ≡ off
@@ -109,7 +107,7 @@ module _ (p : Plan) where
   onNext-own t y z (inr h) = rw (h, or-true (isOwn p y))
 
   -- a node of two windows is one of this window's, or one of the next window's or the origin
-  pub own-or-next : (y : ℕ) → (isOwn p y ≡ true) ⊎ (y ≡ onto (p .jobs) (y - ownNodes p))
+  own-or-next : (y : ℕ) → (isOwn p y ≡ true) ⊎ (y ≡ onto (p .jobs) (y - ownNodes p))
   own-or-next zero = let none : 0 - ownNodes p ≡ 0 = omega arith in inr (onto-origin (p .jobs) (0 - ownNodes p) none)
   own-or-next (suc y) = by (leb (suc y) (ownNodes p)) refl
     where
@@ -121,9 +119,6 @@ module _ (p : Plan) where
           inr (past ∙ onto-event (p .jobs) (suc y - ownNodes p) (λ q. omega arith))
 
 -- ---- cell by cell
-
-moved-low : (v a : ℤ) → v ≤ℤ pos 259200000 → Moving a → (v +ℤ a) <ℤ noBound
-moved-low v a h m = omega wholes
 
 module _ (p : Plan) (early late : List ℤ) (times : Times p (nodes (p .jobs + p .jobs)) early late) (accepted : Accepted p) (set : Set) (ts : List ℤ)
     (weighed : (y z : ℕ) → y < nodes (p .jobs) → z < nodes (p .jobs) → Weighed (weightAt ts y z)) where
@@ -181,7 +176,7 @@ module _ (p : Plan) (early late : List ℤ) (times : Times p (nodes (p .jobs + p
       let a = movedBy (p .window) z -ℤ movedBy (p .window) y in
       let least-window = accepted .window-least in
       let most-window = accepted .window-most in
-      let moves : Moving a = shifted-moving (movedBy (p .window) z) (movedBy (p .window) y) (movedBy-in (p .window) z (omega wholes) (omega wholes))
+      let moves : Moving a = shift-moving (movedBy (p .window) z) (movedBy (p .window) y) (movedBy-in (p .window) z (omega wholes) (omega wholes))
       (movedBy-in (p .window) y (omega wholes) (omega wholes)) in
       let same : place (onto (p .jobs) y - ownNodes p) (onto (p .jobs) z - ownNodes p) ≡ place y z = ap₂ place (onto-back p y) (onto-back p z) in
       let cell = plus (cellOf (weightAt ts y z)) a in
@@ -191,7 +186,7 @@ module _ (p : Plan) (early late : List ℤ) (times : Times p (nodes (p .jobs + p
       (onto-below (p .jobs) z (nodes (p .jobs + p .jobs)) (omega arith))
       (weightAt ts y z)
       a
-      (λ e. moved-low (weightAt ts y z) a (weighed y z h l .greatest e) moves)
+      (moved-low (weightAt ts y z) a (weighed y z h l) moves)
       (put-on (place y z) (onto (p .jobs) y) (onto (p .jobs) z) (omega (arith, same))
       ∙ onNext-onto p (rowsOf (nodes (p .jobs)) ts) y z
       ∙ ap (λ c. plus c a) (at-build (nodes (p .jobs)) (cellAt ts) y z h l)

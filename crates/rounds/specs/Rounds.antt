@@ -30,8 +30,11 @@ abbrev pub isOwn : Plan → ℕ → Bool
 isOwn p y = leb 1 y && leb y (ownNodes p)
 
 -- by how much an event moves where its set is put on the next window; the origin stays
+abbrev pub movedBy : ℤ → ℕ → ℤ
+movedBy window y = cond (eqb y 0) (pos 0) window
+
 abbrev pub moved : Plan → ℕ → ℤ
-moved p y = cond (eqb y 0) (pos 0) (p .window)
+moved p = movedBy (p .window)
 
 -- 'Where a set is put on the next window, its bounds to and from the origin move by `window` too.'
 unfoldable pub onNext : Plan → Rows → ℕ → ℕ → Cell
@@ -110,7 +113,7 @@ verdictOf p unsettled = Unsettled (p .rounds)
 abbrev pub verdict : Plan → Verdict
 verdict p = verdictOf p (outcome p)
 
--- '4 | no strategy | K', '5 | unsettled | rounds'; every answer that tells a verdict tells it so
+-- '4 | no strategy | K', '5 | unsettled | rounds'; so every answer states a verdict
 abbrev pub verdictTold : Verdict → VerdictTold
 verdictTold (Settled m) = told.Settled m
 verdictTold (NoStrategy K) = told.Refused (refusal.NoStrategy K)

@@ -16,14 +16,14 @@ use Rattle.bounds.specs.Flat.{noBound, cellOf}
 use Rattle.bounds.specs.PutLaws.{cellOf-mark, cellOf-on}
 use Rattle.rounds.specs.Rounds.{sameCell, sameRow, sameRows}
 
-pub sameCell-unique : (c d : Cell) → sameCell c d ≡ true → c ≡ d
+sameCell-unique : (c d : Cell) → sameCell c d ≡ true → c ≡ d
 unfolding sameCell
 sameCell-unique off off h = refl
 sameCell-unique off (upto v) h = clash (cc)
 sameCell-unique (upto w) off h = clash (cc)
 sameCell-unique (upto w) (upto v) h = ap upto (eqZ-true-iff w v .0 h)
 
-pub sameRow-unique : (cs ds : List Cell) → sameRow cs ds ≡ true → cs ≡ ds
+sameRow-unique : (cs ds : List Cell) → sameRow cs ds ≡ true → cs ≡ ds
 unfolding sameRow
 sameRow-unique [] [] h = refl
 sameRow-unique [] (d ∷ ds) h = clash (cc)

@@ -1,4 +1,4 @@
--- The rounds as the code goes: one turn of its loop is one round, of which each way out is a way of `decided`.
+-- The rounds as the code runs them: one turn of its loop is one round, of which each way out is a way of `decided`.
 use Prim.Native.Nat.{ℕ, suc, _+_, _-_, _<_}
 use mathlib.Core.Path.{_≡_, refl, sym, ap, subst, _∙_}
 use mathlib.Core.Bool.{Bool, true, false, cond}
@@ -22,6 +22,7 @@ use Rattle.bounds.specs.PlacesLaws.{setIn-found, setIn-left}
 use Rattle.rounds.specs.declared.Verdict.the-variants.{Settled, NoStrategy, Unsettled}
 use Rattle.rounds.specs.Given.{ownBounds, betweenBounds}
 use Rattle.rounds.specs.Rounds.{
+  movedBy,
   C0,
   onNext,
   joined,
@@ -41,7 +42,7 @@ use Rattle.rounds.specs.Rounds.{
   verdict,
 }
 use Rattle.rounds.specs.SameLaws.{sameRows-unique}
-use Rattle.rounds.specs.Next.{Nexts, onto, movedBy, nextAt, nextRow, nextRows}
+use Rattle.rounds.specs.Next.{Nexts, onto, nextAt, nextRow, nextRows}
 use Rattle.rounds.specs.NextLaws.{nextRows-outcome}
 use Rattle.rounds.specs.JoinedLaws.{own-rows, between-outcome}
 use Rattle.rounds.specs.CarriedLaws.{C0-fit, joined-fit, eliminated-fit}
@@ -83,7 +84,7 @@ module _ (p : Plan) where
   verdict-unsettled e = sym (ap (verdictOf p) e)
 
   -- where it is not settled nothing is asked of the table
-  pub not-settled : (u : Rows) → ((m : ℕ) (t : Rows) → outcome p ≡ settled m t → ⊥) → SettledOn p u
+  not-settled : (u : Rows) → ((m : ℕ) (t : Rows) → outcome p ≡ settled m t → ⊥) → SettledOn p u
   not-settled u n = record { joins = λ m t e. absurd (n m t e); fits = λ m t e. absurd (n m t e); sound = λ m t e. absurd (n m t e) }
 
   pub none-on : (K : ℕ) (u : Rows) → outcome p ≡ noStrategy K → SettledOn p u
@@ -214,7 +215,7 @@ module _ {p : Plan} {early late own base : List ℤ} {m left : ℕ} {ts : List �
           subst (λ us. joined p (rowsOf k own) (rowsOf k ts) ≡ bounds (rowsOf both us)) (ap (λ r. r .weights) (sym put))
           (next-outcome .keeps (ap (λ r. r .found) (sym put) ∙ f))
 
-      pub joined-fits : Fit p (nodes (p .jobs + p .jobs)) (rowsOf (nodes (p .jobs + p .jobs)) us)
+      joined-fits : Fit p (nodes (p .jobs + p .jobs)) (rowsOf (nodes (p .jobs + p .jobs)) us)
       joined-fits =
           joined-fit p (rowsOf k own) (rowsOf k ts) (own-fit p early late (g .clocked) own (g .based .own-put)) (g .fit) (rowsOf both us) joined-is
 

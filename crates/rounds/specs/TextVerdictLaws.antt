@@ -1,5 +1,6 @@
--- A verdict that is told as settled is settled (`told-settled`). By what the reader of a plan answered, the text judged to its end is refused at the place that
--- the reader told (`verdictAfter-refused`), or read (`verdictAfter-settled`), or refused by its verdict, with nothing left of the text (`verdictAfter-judged`).
+-- A verdict that is stated as settled is settled (`told-settled`). By what the reader of a plan answered, the text judged to its end is refused where the
+-- reader refused it (`verdictAfter-refused`), or read (`verdictAfter-settled`), or refused by its verdict, with nothing left of the text
+-- (`verdictAfter-judged`).
 use Prim.Native.Nat.{ℕ}
 use mathlib.Core.Path.{_≡_, ap, _∙_}
 use mathlib.Core.List.{List, []}

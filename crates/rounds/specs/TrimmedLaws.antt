@@ -134,7 +134,7 @@ module _ (p : Plan) (job : List Job) (bound : List Bound) (same : SamePlaces p j
   judgement-agrees y z off g h = refl
   judgement-agrees y z (upto w) g h = judged-agrees (eventOf y) (eventOf z) w (near y g) (near z h)
 
-  pub judgedSet-agrees : (k : ℕ) (f : ℕ → ℕ → Cell) → k ≤ nodes (p .jobs + p .jobs) → judgedSet q k f ≡ judgedSet p k f
+  judgedSet-agrees : (k : ℕ) (f : ℕ → ℕ → Cell) → k ≤ nodes (p .jobs + p .jobs) → judgedSet q k f ≡ judgedSet p k f
   unfolding judgedSet contradicts keptRows
   judgedSet-agrees k f l =
       let t = build k f in
@@ -243,7 +243,7 @@ module _ (p : Plan) (job : List Job) (bound : List Bound) (same : SamePlaces p j
   outcomeFrom-agrees contradiction = refl
   outcomeFrom-agrees (bounds t) = roundsFrom-agrees t 1 (p .rounds) t
 
-  pub outcome-agrees : outcome q ≡ outcome p
+  outcome-agrees : outcome q ≡ outcome p
   unfolding outcome
   outcome-agrees = ap (outcomeFrom q) C0-agrees ∙ outcomeFrom-agrees (C0 p)
 

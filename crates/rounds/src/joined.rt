@@ -6,7 +6,8 @@ ghost use Prim.Native.Nat.{_+_, _*_, _≤_, _<_};
 ghost use Rattle.plan.specs.Limits.{mostJobs};
 ghost use Rattle.bounds.specs.Flat.{flat};
 ghost use Rattle.bounds.specs.Events.{mostNodes};
-ghost use Rattle.rounds.specs.Next.{Nexts, onto, movedBy, nextAt, nextRow, nextRows};
+ghost use Rattle.rounds.specs.Next.{Nexts, onto, nextAt, nextRow, nextRows};
+ghost use Rattle.rounds.specs.Rounds.{movedBy};
 
 // The node on the next window of node y of one window; the origin stays.
 fn node_onto(jobs: usize, y: usize) -> usize
@@ -23,10 +24,7 @@ fn node_onto(jobs: usize, y: usize) -> usize
 fn moved_by(window: i32, y: usize) -> i32
     ensures { λ r. ⌜ r ≡ movedBy window y ⌝ }
 {
-    if y == 0 {
-        return 0;
-    }
-    window
+    if y == 0 { 0 } else { window }
 }
 
 // The bound of (y, z), put on the next window. Answers whether it is a contradiction.

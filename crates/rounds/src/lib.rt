@@ -19,7 +19,7 @@ pub enum Verdict {
     Unsettled(u64),
 }
 
-// A verdict as it is told: settled in a round, or the refusal that it is.
+// A verdict as answers state it: settled in a round, or a refusal.
 pub enum VerdictTold {
     Settled(u64),
     Refused(Refusal),

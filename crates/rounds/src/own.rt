@@ -71,7 +71,7 @@ fn put_ranges<'a>(
 }
 
 // The finish at place k is at most the start at the next place.
-pub fn put_order<'a>(
+fn put_order<'a>(
     weights: &mut [i32; Table::SIZE],
     early: &'a [i32; Table::SIDE],
     late: &'a [i32; Table::SIDE],

@@ -10,9 +10,11 @@ use Rattle.whole.specs.SplitLaws.{told-fits}
 use Rattle.bounds.specs.Spans.{Timed}
 use Rattle.bounds.specs.Flat.{weightAt, putAt}
 use Rattle.bounds.specs.Events.{mostNodes}
-use Rattle.rounds.specs.Next.{onto, movedBy}
-use Rattle.rounds.specs.NextLaws.{Shifted, onto-below, movedBy-in, shifted-moving}
-use Rattle.rounds.proofs.Moved.{shifted-back, apart-fits, apart-back, moved-putting}
+use Rattle.bounds.specs.FitLaws.{ShiftIn}
+use Rattle.rounds.specs.Rounds.{movedBy}
+use Rattle.rounds.specs.Next.{onto}
+use Rattle.rounds.specs.NextLaws.{onto-below, movedBy-in, shift-moving}
+use Rattle.rounds.proofs.Moved.{shift-back, apart-fits, apart-back, moved-putting}
 use Rattle.rounds.proofs.joined.put_next_cell.Statement.{statement}
 use Rattle.rounds.proofs.joined.put_next_cell.Tie as tie
 
@@ -40,7 +42,7 @@ moved-by-requires c κs = tt
 moved-by-requires-2 : tie.Need-moved-by-requires-2
 moved-by-requires-2 c κs = tt
 
-shifts : (s : tie.Start) (y : ℕ) → Shifted (movedBy (s .args .window) y)
+shifts : (s : tie.Start) (y : ℕ) → ShiftIn (movedBy (s .args .window) y)
 shifts s y = movedBy-in (s .args .window) y (s .pre .0 .window-least) (s .pre .0 .window-most)
 
 -- what the two calls of `moved_by` answer
@@ -48,13 +50,13 @@ more-is : (c : tie.After-moved-by)
     → let a = c .before .before .before .before .args in toZ w32 (ofZ w32 (c .moved-by .result)) ≡ movedBy (a .window) (a .z)
 more-is c =
     let s = c .before .before .before .before in
-    shifted-back (c .moved-by .ensures ∙ ap (λ w. movedBy w (s .args .z)) (toZ-ofZ (s .fits .window))) (shifts s (s .args .z))
+    shift-back (c .moved-by .ensures ∙ ap (λ w. movedBy w (s .args .z)) (toZ-ofZ (s .fits .window))) (shifts s (s .args .z))
 
 less-is : (c : tie.After-moved-by2)
     → let a = c .before .before .before .before .before .args in toZ w32 (ofZ w32 (c .moved-by2 .result)) ≡ movedBy (a .window) (a .y)
 less-is c =
     let s = c .before .before .before .before .before in
-    shifted-back (c .moved-by2 .ensures ∙ ap (λ w. movedBy w (s .args .y)) (toZ-ofZ (s .fits .window))) (shifts s (s .args .y))
+    shift-back (c .moved-by2 .ensures ∙ ap (λ w. movedBy w (s .args .y)) (toZ-ofZ (s .fits .window))) (shifts s (s .args .y))
 
 sub-a : tie.Need-sub-a
 sub-a c =
@@ -82,7 +84,7 @@ put-requires c κs =
       moved-putting (toZ-ofZ (told-fits w32 (weightAt (a .carried .now) (a .y) (a .z)) (c .before .before .before .before .before .v .given)))
           (apart-is (c .before))
           (s .pre .0 .weighed (a .y) (a .z) (s .pre .1) (s .pre .2))
-          (shifted-moving (movedBy (a .window) (a .z)) (movedBy (a .window) (a .y)) (shifts s (a .z)) (shifts s (a .y))),
+          (shift-moving (movedBy (a .window) (a .z)) (movedBy (a .window) (a .y)) (shifts s (a .z)) (shifts s (a .y))),
     )
 
 returns : tie.Need-returns

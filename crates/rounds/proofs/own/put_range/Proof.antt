@@ -10,7 +10,8 @@ use Rattle.bounds.specs.Spans.{timeAt}
 use Rattle.bounds.specs.Flat.{flat, putAt, putBounds}
 use Rattle.bounds.specs.BoundsLaws.{putBounds-stop, putBounds-past}
 use Rattle.rounds.specs.PutLaws.{upBound, downBound, up-is, down-is}
-use Rattle.rounds.proofs.Times.{time-fits, plus-zero-fits, zero-less-fits, zero-less-back, negated-fits}
+use Rattle.bounds.specs.SpansLaws.{inRange-fits}
+use Rattle.rounds.proofs.Times.{plus-zero-fits, zero-less-fits, zero-less-back, negated-fits}
 use borrow.Author.Needs.{needs}
 use Rattle.rounds.proofs.own.put_range.Statement.{statement}
 use Rattle.rounds.proofs.own.put_range.Tie as tie
@@ -38,7 +39,7 @@ first-is c =
     let s = c .before .before .before in
     let a = s .args in
     c .put .ensures
-    ∙ ap (λ v. putAt (a .early .now) (a .late .now) 0 (a .y) v (pos 0) (a .weights .now)) (toZ-ofZ (time-fits (s .pre .0 (a .y) (s .pre .1) .late-in)))
+    ∙ ap (λ v. putAt (a .early .now) (a .late .now) 0 (a .y) v (pos 0) (a .weights .now)) (toZ-ofZ (inRange-fits (s .pre .0 (a .y) (s .pre .1) .late-in)))
     ∙ up-is (a .early .now) (a .late .now) (a .y) (a .weights .now)
 
 returns : tie.Need-returns

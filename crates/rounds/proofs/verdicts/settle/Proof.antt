@@ -8,7 +8,6 @@ use Rattle.bounds.specs.FlatLaws.{putBounds-length}
 use Rattle.rounds.specs.Given.{ownBounds, betweenBounds}
 use Rattle.rounds.specs.JoinedLaws.{own-none}
 use Rattle.rounds.specs.SettleLaws.{verdict-none, none-on, first-none, own-standing, between-none}
-use borrow.Author.Needs.{needs}
 use Rattle.rounds.proofs.verdicts.settle.Statement.{statement}
 use Rattle.rounds.proofs.verdicts.settle.Tie as tie
 
