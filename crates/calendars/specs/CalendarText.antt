@@ -19,8 +19,8 @@ use Rattle.rounds.specs.declared.Verdict.{Verdict}
 use Rattle.rounds.specs.declared.VerdictTold.{VerdictTold}
 use Rattle.rounds.specs.declared.VerdictTold.the-variants.{Settled, Refused}
 use Rattle.rounds.specs.Rounds.{Outcome, outcome, verdictOf, verdictTold}
-use Rattle.events.specs.Bits.{hasEvent}
-use Rattle.calendars.specs.Calendars.{eventsAhead, mostEvents, noTerms, madeCalendar}
+use Rattle.events.specs.Bits.{bitsOf, hasEvent, mostEvents}
+use Rattle.calendars.specs.Calendars.{eventsAhead, noTerms, madeCalendar}
 
 -- ---- the events' names: 'p events (previous window) before t events, by job, s before f'. jobs is the plan's count of jobs.
 
@@ -57,8 +57,8 @@ jobHead i t = keyed (bytes "job=") (pos (i + 1)) (keyed (bytes "low=") (t .low .
 unfoldable pub jobText : ℕ → ℕ → Terms → List ℤ → List ℤ → List ℕ
 jobText jobs i t least most =
     jobHead i t
-    ++ (termLines jobs (bytes "atleast=") (t .below .0) least (i * mostEvents) 0 (eventsAhead jobs i)
-    ++ termLines jobs (bytes "atmost=") (t .above .0) most (i * mostEvents) 0 (eventsAhead jobs i))
+    ++ (termLines jobs (bytes "atleast=") (bitsOf (t .below)) least (i * mostEvents) 0 (eventsAhead jobs i)
+    ++ termLines jobs (bytes "atmost=") (bitsOf (t .above)) most (i * mostEvents) 0 (eventsAhead jobs i))
 
 -- count jobs from the one at place i on
 unfoldable pub jobTexts : ℕ → Calendar → ℕ → ℕ → List ℕ
@@ -70,12 +70,23 @@ jobTexts jobs c i (suc count) =
 unfoldable pub calendarText : ℕ → ℕ → Calendar → List ℕ
 calendarText jobs m c = keyed (bytes "settled=") (pos m) (jobTexts jobs c 0 jobs)
 
--- ---- how long it is: a job's text has three lines of at most 29 bytes, and on either side a line of at most 52 bytes for each event before its start,
--- which are at most all events of two windows but the last job's two
+-- ---- how long it is
+
+-- a line of at most 8 bytes of key, 20 of number and the LF; and one with the name of an event, of at most 22 bytes, and a comma before the number
+abbrev pub mostLineBytes : ℕ
+mostLineBytes = 8 + 20 + 1
+
+abbrev pub mostTermBytes : ℕ
+mostTermBytes = 8 + 22 + 1 + 20 + 1
+
+-- a job has three lines, and on either side a line for each event before its start: at most all events of two windows but the last job's two
+abbrev pub mostHeadBytes : ℕ
+mostHeadBytes = 3 * mostLineBytes
 
 abbrev pub mostJobBytes : ℕ
-mostJobBytes = 3 * 29 + 2 * (52 * (mostEvents - 2))
+mostJobBytes = mostHeadBytes + 2 * (mostTermBytes * (mostEvents - 2))
 
+-- a round number that is enough for the line of the round and all jobs, as the contract of `put_calendar` says
 abbrev pub mostCalendarBytes : ℕ
 mostCalendarBytes = 32768
 

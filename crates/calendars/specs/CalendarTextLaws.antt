@@ -1,12 +1,11 @@
 -- The laws of the calendar's text.
--- How long it is: an event's name has at most 22 bytes (`eventBytes-short`), a term's line 52 (`termLine-short`), and the whole text `mostCalendarBytes`, where
--- every number of the calendar fits its type (`calendarText-short`).
+-- How long it is: an event's name has at most 22 bytes (`eventBytes-short`), a term's line `mostTermBytes` (`termLine-short`).
 -- One turn of a writer: the next term of a side (`termLines-next`, `termLines-stop`; by what is left, `left-term`, `left-terms`), and the next job (`left-job`,
 -- `left-jobs`).
--- What writers did: an event's name from its parts (`stored-event`), and how far a term moves the place (`stored-term-near`); of lines, `PlanWrittenLaws` of
--- `values` tells.
+-- What writers did: an event's name from its parts (`stored-event`), and how far a term moves the place (`stored-term-near`). Laws of
+-- whole lines are in `KeyedLaws` of `lines`.
 
-use Prim.Native.Nat.{ℕ, zero, suc, _+_, _*_, _-_, _/_, _^_, _≤_, _<_}
+use Prim.Native.Nat.{ℕ, suc, _+_, _*_, _-_, _/_, _^_, _≤_, _<_}
 use mathlib.Core.Path.{_≡_, refl, sym, ap, _∙_, subst}
 use mathlib.Core.Bool.{Bool, true, false, cond}
 use mathlib.Core.List.{List, [], _∷_, _++_}
@@ -17,22 +16,17 @@ use lib.IntN.{ℤ, pos}
 use lib.ListN.{length, getD, length-append}
 use mir.Syntax.{w32, w64}
 use mir.Val.{SFits, toZ, ofZ}
-use mir.Facts.{toZ-ofZ, sfits-widen}
+use mir.Facts.{toZ-ofZ}
 use Rattle.whole.specs.SplitLaws.{cast-wide}
-use Rattle.text.specs.Bytes.{bytes}
 use Rattle.text.specs.Lent.{Stored}
 use Rattle.text.specs.Lines.{LF, comma}
 use Rattle.text.specs.Numbers.{decimal, digits}
 use Rattle.text.specs.DigitLaws.{digits-short}
 use Rattle.text.specs.NumberLaws.{decimal-short}
-use Rattle.plan.specs.Limits.{mostJobs}
-use Rattle.lines.specs.Keyed.{keyed}
-use Rattle.lines.specs.KeyedLaws.{keyed-short, count-short}
 use Rattle.events.specs.Bits.{hasEvent, mostBits, nextEvent}
 use Rattle.events.specs.BitsLaws.{nextEvent-has, nextEvent-skips}
-use Rattle.calendars.specs.declared.Terms.{Terms}
 use Rattle.calendars.specs.declared.Calendar.{Calendar}
-use Rattle.calendars.specs.Calendars.{eventsAhead, mostEvents, noTerms}
+use Rattle.calendars.specs.Calendars.{noTerms}
 use Rattle.text.specs.LeftLaws.{Left, left-past, left-end}
 use Rattle.calendars.specs.CalendarText.{
   eventLetter,
@@ -41,12 +35,9 @@ use Rattle.calendars.specs.CalendarText.{
   eventBytes,
   termLine,
   termLines,
-  jobHead,
   jobText,
   jobTexts,
-  calendarText,
-  mostJobBytes,
-  mostCalendarBytes,
+  mostTermBytes,
 }
 
 -- ---- how long it is
@@ -61,7 +52,7 @@ eventJob-fits jobs e h = of (ltb e (2 * jobs))
 pub eventBytes-short : (jobs e : ℕ) → e < 2 ^ 64 → length (eventBytes jobs e) ≤ 22
 eventBytes-short jobs e h = omega (arith, digits-short (eventJob jobs e) (eventJob-fits jobs e h))
 
-pub termLine-short : (jobs : ℕ) (key : List ℕ) (e : ℕ) (c : ℤ) → length key ≤ 8 → e < 2 ^ 64 → SFits w64 c → length (termLine jobs key e c) ≤ 52
+termLine-short : (jobs : ℕ) (key : List ℕ) (e : ℕ) (c : ℤ) → length key ≤ 8 → e < 2 ^ 64 → SFits w64 c → length (termLine jobs key e c) ≤ mostTermBytes
 termLine-short jobs key e c k h f =
     omega (
       arith,
@@ -71,83 +62,6 @@ termLine-short jobs key e c k h f =
       eventBytes-short jobs e h,
       decimal-short c f,
     )
-
--- every number of a calendar fits its type
-pub record CalendarFits (c : Calendar) : Type 0 where
-  pub low : (i : ℕ) → SFits w64 (getD (c .terms) i noTerms .low .0)
-  pub high : (i : ℕ) → SFits w64 (getD (c .terms) i noTerms .high .0)
-  pub least : (k : ℕ) → SFits w32 (getD (c .«at_least») k (pos 0))
-  pub most : (k : ℕ) → SFits w32 (getD (c .«at_most») k (pos 0))
-
-wide : {z : ℤ} → SFits w32 z → SFits w64 z
-wide f = sfits-widen tt f
-
-termLines-short : (jobs : ℕ) (key : List ℕ) (set : ℕ) (cs : List ℤ) (row : ℕ) → length key ≤ 8 → ((k : ℕ) → SFits w32 (getD cs k (pos 0)))
-    → (e n : ℕ) → e + n ≤ mostBits → length (termLines jobs key set cs row e n) ≤ 52 * n
-unfolding termLines
-termLines-short jobs key set cs row l f e zero h = omega arith
-termLines-short jobs key set cs row l f e (suc n) h = of (hasEvent e set) (termLines-short jobs key set cs row l f (suc e) n (omega arith))
-  where
-    line : List ℕ
-    line = termLine jobs key e (getD cs (row + e) (pos 0))
-
-    of : (b : Bool) → length (termLines jobs key set cs row (suc e) n) ≤ 52 * n
-        → length (cond b line [] ++ termLines jobs key set cs row (suc e) n) ≤ 52 * suc n
-    of true r = omega (
-      arith,
-      length-append line (termLines jobs key set cs row (suc e) n),
-      termLine-short jobs key e (getD cs (row + e) (pos 0)) l (omega arith) (wide (f (row + e))),
-    )
-    of false r = omega arith
-
-jobHead-short : (i : ℕ) (t : Terms) → i < mostJobs → SFits w64 (t .low .0) → SFits w64 (t .high .0) → length (jobHead i t) ≤ 87
-unfolding bytes
-jobHead-short i t h f g =
-    let high = keyed (bytes "high=") (t .high .0) [] in
-    let low = keyed (bytes "low=") (t .low .0) high in
-    omega (
-      arith,
-      keyed-short (bytes "job=") 8 (pos (i + 1)) low (omega arith) (count-short (i + 1) (omega arith)),
-      keyed-short (bytes "low=") 8 (t .low .0) high (omega arith) (decimal-short (t .low .0) f),
-      keyed-short (bytes "high=") 8 (t .high .0) [] (omega arith) (decimal-short (t .high .0) g),
-    )
-
-module _ (jobs : ℕ) (c : Calendar) (few : jobs ≤ mostJobs) (fits : CalendarFits c) where
-  jobText-short : (i : ℕ) → i < mostJobs → length (jobText jobs i (getD (c .terms) i noTerms) (c .«at_least») (c .«at_most»)) ≤ mostJobBytes
-  unfolding jobText bytes
-  jobText-short i h =
-      let t = getD (c .terms) i noTerms in
-      let count = eventsAhead jobs i in
-      let below = termLines jobs (bytes "atleast=") (t .below .0) (c .«at_least») (i * mostEvents) 0 count in
-      let above = termLines jobs (bytes "atmost=") (t .above .0) (c .«at_most») (i * mostEvents) 0 count in
-      omega (
-        arith,
-        length-append (jobHead i t) (below ++ above),
-        length-append below above,
-        jobHead-short i t (omega arith) (fits .low i) (fits .high i),
-        termLines-short jobs (bytes "atleast=") (t .below .0) (c .«at_least») (i * mostEvents) (omega arith) (fits .least) 0 count (omega arith),
-        termLines-short jobs (bytes "atmost=") (t .above .0) (c .«at_most») (i * mostEvents) (omega arith) (fits .most) 0 count (omega arith),
-      )
-
-  jobTexts-short : (i n : ℕ) → i + n ≤ mostJobs → length (jobTexts jobs c i n) ≤ mostJobBytes * n
-  unfolding jobTexts
-  jobTexts-short i zero h = omega arith
-  jobTexts-short i (suc n) h =
-      omega (
-        arith,
-        length-append (jobText jobs i (getD (c .terms) i noTerms) (c .«at_least») (c .«at_most»)) (jobTexts jobs c (suc i) n),
-        jobText-short i (omega arith),
-        jobTexts-short (suc i) n (omega arith),
-      )
-
-  pub calendarText-short : (m : ℕ) → m < 2 ^ 64 → length (calendarText jobs m c) ≤ mostCalendarBytes
-  unfolding calendarText bytes
-  calendarText-short m h =
-      omega (
-        arith,
-        keyed-short (bytes "settled=") 8 (pos m) (jobTexts jobs c 0 jobs) (omega arith) (count-short m h),
-        jobTexts-short 0 jobs (omega arith),
-      )
 
 -- ---- the terms of one side
 
@@ -169,7 +83,7 @@ module _ (jobs : ℕ) (key : List ℕ) (set : ℕ) (cs : List ℤ) (row : ℕ) w
         nextEvent-skips set count (termLines jobs key set cs row) (λ e n l. termLines-past e n) (λ e d. refl) e
         ∙ ap (λ (j : ℕ). termLines jobs key set cs row j (count - j)) (sym next)
 
-    pub termLines-next : k < count → count ≤ mostBits
+    termLines-next : k < count → count ≤ mostBits
         → termLines jobs key set cs row e (count - e)
         ≡ termLine jobs key k (getD cs (row + k) (pos 0)) ++ termLines jobs key set cs row (k + 1) (count - (k + 1))
     termLines-next h m =
@@ -178,7 +92,7 @@ module _ (jobs : ℕ) (key : List ℕ) (set : ℕ) (cs : List ℤ) (row : ℕ) w
         ∙ termLines-here k (count - (k + 1)) (rw next (nextEvent-has set e (omega arith)))
         ∙ ap (λ (j : ℕ). termLine jobs key k (getD cs (row + k) (pos 0)) ++ termLines jobs key set cs row j (count - (k + 1))) (sym (add-one k))
 
-    pub termLines-stop : count ≤ k → termLines jobs key set cs row e (count - e) ≡ []
+    termLines-stop : count ≤ k → termLines jobs key set cs row e (count - e) ≡ []
     unfolding termLines
     termLines-stop h = let none : count - k ≡ 0 = omega arith in skipped ∙ ap (termLines jobs key set cs row k) none
 
@@ -221,7 +135,7 @@ module _ (jobs : ℕ) (c : Calendar) (i count : ℕ) where
 
 -- how far a term moves the place
 pub stored-term-near : {o o′ : List ℕ} {j j′ : ℕ} (jobs : ℕ) (key : List ℕ) (k : ℕ) {c : ℤ} → length key ≤ 8 → k < mostBits → SFits w32 c
-    → Stored o j (termLine jobs key k (toZ w32 (ofZ w32 c))) o′ j′ → j′ ≤ j + 52
+    → Stored o j (termLine jobs key k (toZ w32 (ofZ w32 c))) o′ j′ → j′ ≤ j + mostTermBytes
 stored-term-near jobs key k {c} l h f d = omega (arith, d .place, termLine-short jobs key k (toZ w32 (ofZ w32 c)) l (omega arith) (cast-wide tt f))
 
 -- the letter, the kind and the job as they were worked out

@@ -3,7 +3,6 @@ use Prim.Native.Nat.{ℕ, zero, suc, _+_, _*_, _-_}
 use mathlib.Core.Bool.{Bool, true, false}
 use mathlib.Core.List.{List, [], _∷_, _++_}
 use lib.IntN.{ℤ, pos, negℤ, _-ℤ_}
-use Rattle.clock.specs.declared.WindowTime.{WindowTime}
 use Rattle.plan.specs.declared.Plan.{Plan}
 use Rattle.plan.specs.Limits.{mostJobs}
 use Rattle.plan.specs.PlanLines.{filled}
@@ -18,7 +17,7 @@ pub use Rattle.events.specs.Bits.{mostEvents}
 
 -- ---- 'the bounds on each start just before it is eliminated'
 
--- what follows a set that is no contradiction; a settled set gives none
+-- no tables of a contradiction, which a settled set does not give; of a table, what the next step makes of it
 unfoldable pub thenTables : Set → (Rows → List Rows) → List Rows
 thenTables contradiction f = []
 thenTables (bounds t) f = f t
@@ -102,7 +101,7 @@ calendarOf p ts =
 unfoldable pub calendar : Plan → Rows → Calendar
 calendar p t = calendarOf p (thenTables (thenSet (C0 p) (λ c0. joined p c0 t)) (beforeStarts p (p .jobs)))
 
--- a calendar that says nothing, beside a verdict that is no `settled`
+-- a calendar that says nothing, beside a verdict other than `settled`
 abbrev pub noCalendar : Plan → Calendar
 noCalendar p = calendarOf p []
 

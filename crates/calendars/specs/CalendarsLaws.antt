@@ -7,7 +7,7 @@
 -- and what the code's two eliminations rest on holds (`Walked-finish`, `Walked-last`); with no job left the calendar is `calendarOf` (`Walked-end`).
 use Prim.Native.Nat.{ℕ, suc, _+_, _*_, _-_, _≤_, _<_}
 use mathlib.Core.Path.{_≡_, refl, sym, ap, ap₂, subst, _∙_}
-use mathlib.Core.Bool.{Bool, true, false, cond}
+use mathlib.Core.Bool.{Bool, true, false}
 use mathlib.Core.List.{List, [], _∷_, _++_, append-assoc, append-nil}
 use native.Mathlib.Omega.{arith}
 use lib.IntN.{ℤ, pos}
@@ -19,8 +19,8 @@ use Rattle.plan.specs.PlanLines.{filled}
 use Rattle.plan.specs.ListLaws.{filled-length}
 use Rattle.plan.specs.Accepted.{Accepted}
 use Rattle.events.specs.declared.Events.{Events}
-use Rattle.events.specs.Bits.{bitsOf, eventsOf, eventSet}
-use Rattle.events.specs.BitsLaws.{eventSet-nil}
+use Rattle.events.specs.Bits.{bitsOf, eventSet, mostEvents}
+use Rattle.events.specs.BitsLaws.{eventsOf-bits, eventSet-nil}
 use Rattle.bounds.specs.Events.{startNode, finishNode, nodes}
 use Rattle.bounds.specs.Tables.{Rows, Set, contradiction, bounds}
 use Rattle.bounds.specs.Elimination.{withoutFinish, withoutStart, withoutPlace, thenSet, eliminated}
@@ -32,19 +32,19 @@ use Rattle.bounds.specs.PlacesLaws.{setIn-left, finish-next, withoutPlace-some}
 use Rattle.calendars.specs.declared.Terms.{Terms}
 use Rattle.calendars.specs.declared.Calendar.{Calendar}
 use Rattle.rounds.specs.Rounds.{isContradictory}
-use Rattle.calendars.specs.Calendars.{thenTables, beforeStarts, termsOf, leastCs, mostCs, mostEvents, noTerms, allTerms, allCs, calendarOf, noCalendar}
+use Rattle.calendars.specs.Calendars.{thenTables, beforeStarts, termsOf, leastCs, mostCs, noTerms, allTerms, allCs, calendarOf, noCalendar}
 use Rattle.calendars.specs.Recorded.{rowAt}
 
 -- ---- sizes
 
-pub leastCs-short : (p : Plan) → Accepted p → (i : ℕ) (t : Rows) → i < p .jobs → length (leastCs p i t) ≤ mostEvents
+leastCs-short : (p : Plan) → Accepted p → (i : ℕ) (t : Rows) → i < p .jobs → length (leastCs p i t) ≤ mostEvents
 unfolding leastCs
 leastCs-short p a i t h =
     let most = a .jobs-most in
     let size : length (leastCs p i t) ≡ 2 * (p .jobs + i) = length-listed (2 * (p .jobs + i)) _ in
     omega (arith, size)
 
-pub mostCs-short : (p : Plan) → Accepted p → (i : ℕ) (t : Rows) → i < p .jobs → length (mostCs p i t) ≤ mostEvents
+mostCs-short : (p : Plan) → Accepted p → (i : ℕ) (t : Rows) → i < p .jobs → length (mostCs p i t) ≤ mostEvents
 unfolding mostCs
 mostCs-short p a i t h =
     let most = a .jobs-most in
@@ -57,7 +57,7 @@ allTerms-length p i [] = refl
 allTerms-length p i (t ∷ ts) = ap suc (allTerms-length p (suc i) ts)
 
 module _ (cs : ℕ → Rows → List ℤ) (n : ℕ) (short : (i : ℕ) (t : Rows) → i < n → length (cs i t) ≤ mostEvents) where
-  pub allCs-length : (i : ℕ) (ts : List Rows) → i + length ts ≤ n → length (allCs cs i ts) ≡ rowAt (length ts)
+  allCs-length : (i : ℕ) (ts : List Rows) → i + length ts ≤ n → length (allCs cs i ts) ≡ rowAt (length ts)
   unfolding allCs
   allCs-length i [] h = refl
   allCs-length i (t ∷ ts) h =
@@ -68,7 +68,7 @@ module _ (cs : ℕ → Rows → List ℤ) (n : ℕ) (short : (i : ℕ) (t : Rows
 
 -- ---- one job recorded before those after it
 
-pub allTerms-more : (p : Plan) (i : ℕ) (t : Rows) (ts : List Rows) (rest us : List Terms) (x : Terms)
+allTerms-more : (p : Plan) (i : ℕ) (t : Rows) (ts : List Rows) (rest us : List Terms) (x : Terms)
     → us ≡ replicate (suc i) noTerms ++ (allTerms p (suc i) ts ++ rest)
     → x ≡ termsOf p i t
     → set us i x ≡ replicate i noTerms ++ (allTerms p i (t ∷ ts) ++ rest)
@@ -105,7 +105,7 @@ zeros-stored n xs others h =
     (ap (drop (n + m)) late ∙ drop-at (zeros (n + m)) left (n + m) (length-replicate (n + m) (pos 0)))
     ∙ append-assoc (zeros n) xs left
 
-pub allCs-more : (cs : ℕ → Rows → List ℤ) (i : ℕ) (t : Rows) (ts : List Rows) (rest us : List ℤ) → length (cs i t) ≤ mostEvents
+allCs-more : (cs : ℕ → Rows → List ℤ) (i : ℕ) (t : Rows) (ts : List Rows) (rest us : List ℤ) → length (cs i t) ≤ mostEvents
     → us ≡ replicate (rowAt (suc i)) (pos 0) ++ (allCs cs (suc i) ts ++ rest)
     → sets us (rowAt i) (cs i t) ≡ replicate (rowAt i) (pos 0) ++ (allCs cs i (t ∷ ts) ++ rest)
 unfolding allCs
@@ -121,7 +121,7 @@ allCs-more cs i t ts rest us h e =
 
 -- ---- tables
 
-pub beforeStarts-more : (p : Plan) (count : ℕ) (t u v : Rows) → withoutFinish p (p .jobs + count) t ≡ bounds u → withoutStart p (p .jobs + count) u ≡ bounds v
+beforeStarts-more : (p : Plan) (count : ℕ) (t u v : Rows) → withoutFinish p (p .jobs + count) t ≡ bounds u → withoutStart p (p .jobs + count) u ≡ bounds v
     → beforeStarts p (suc count) t ≡ beforeStarts p count v ++ (u ∷ [])
 unfolding beforeStarts thenTables
 beforeStarts-more p count t u v f s =
@@ -161,7 +161,7 @@ no-terms : (p : Plan) (i : ℕ) → [] ≡ allTerms p i []
 unfolding allTerms
 no-terms p i = refl
 
-pub noCalendar-is : (p : Plan)
+noCalendar-is : (p : Plan)
     → _≡_ {A = Calendar}
     (record {
       terms = replicate mostJobs noTerms;
@@ -194,13 +194,13 @@ pub noCalendar-made : (none : Events) → bitsOf none ≡ eventSet [] → (p : P
     })
     (noCalendar p)
 noCalendar-made none h p =
-    ap (λ (bits : ℕ).
+    ap (λ (set : Events).
     record {
-      terms = replicate mostJobs (record { low = record { 0 = pos 0 }; high = record { 0 = pos 0 }; below = eventsOf bits; above = eventsOf bits });
+      terms = replicate mostJobs (record { low = record { 0 = pos 0 }; high = record { 0 = pos 0 }; below = set; above = set });
       «at_least» = replicate (mostJobs * mostEvents) (pos 0);
       «at_most» = replicate (mostJobs * mostEvents) (pos 0);
     })
-    (h ∙ eventSet-nil)
+    (eventsOf-bits none (h ∙ eventSet-nil))
     ∙ noCalendar-is p
 
 module _ (p : Plan) (a : Accepted p) where

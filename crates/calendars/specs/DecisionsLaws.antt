@@ -1,7 +1,7 @@
 -- The laws of what is decided. A plan whose verdict is settled has a settled set (`verdict-settled`), and the calendar made from the joined table is the plan's
--- (`calendar-joined`, `made-settled`); beside any other verdict the calendar says nothing (`made-refused`, `made-unsettled`). The text of a decision, by how
--- its verdict is told (`text-settled`, `text-refused`), is what the program prints for the plan (`text-of-outcome`), and so for a text that was read
--- (`plan-accepted`) or refused (`plan-refused`).
+-- (`calendar-joined`, `made-settled`); beside any other verdict the calendar says nothing (`made-refused`, `made-unsettled`). The text of a decision, one
+-- case for each way to state its verdict (`text-settled`, `text-refused`), is what the program prints for the plan (`text-of-outcome`), and so for a text
+-- that was read (`plan-accepted`) or refused (`plan-refused`).
 
 use Prim.Native.Nat.{ℕ}
 use mathlib.Core.Path.{_≡_, refl, sym, ap, _∙_}
@@ -31,7 +31,7 @@ use Rattle.calendars.specs.CalendarText.{calendarText, toldText, decisio
 
 -- ---- the calendar by the verdict
 
-pub calendar-joined : (p : Plan) (t u : Rows) → thenSet (C0 p) (λ c0. joined p c0 t) ≡ bounds u → calendarOf p (beforeStarts p (p .jobs) u) ≡ calendar p t
+calendar-joined : (p : Plan) (t u : Rows) → thenSet (C0 p) (λ c0. joined p c0 t) ≡ bounds u → calendarOf p (beforeStarts p (p .jobs) u) ≡ calendar p t
 unfolding calendar thenTables
 calendar-joined p t u e = sym (ap (λ (s : Set). calendarOf p (thenTables s (beforeStarts p (p .jobs)))) e)
 

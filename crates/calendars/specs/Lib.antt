@@ -1,8 +1,9 @@
--- The calendar, as document 01 has it. In reading order: the calendar, and the calendar program's output; these files are definitions alone, and Recorded is
--- how the code reads one side of a start. Then the laws of the calendar, of its text, of what is decided, and that the places beyond a plan's jobs and bounds
--- have no part in it.
+-- The calendar, as document 01 has it. In reading order: the calendar, and the calendar program's output; then how the code reads one side of a start.
+-- These files are definitions alone. The laws: of the calendar, of its text, of what is decided; and places beyond a plan's jobs and bounds do not matter.
+-- ---- document 01
 pub mod Calendars
 pub mod CalendarText
+-- ---- what the code works with
 pub mod Recorded
 -- ---- laws
 pub mod CalendarTextLaws

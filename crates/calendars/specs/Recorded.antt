@@ -8,8 +8,8 @@ use Rattle.bounds.specs.Tables.{Cell, listed}
 use Rattle.bounds.specs.Flat.{weightAt, cellOf}
 use Rattle.calendars.specs.declared.Side.{Side}
 use Rattle.calendars.specs.declared.Side.the-variants.{Below, Above}
-use Rattle.events.specs.Bits.{eventSet}
-use Rattle.calendars.specs.Calendars.{isOn, weight, nodeOfEvent, mostEvents}
+use Rattle.events.specs.Bits.{eventSet, mostEvents}
+use Rattle.calendars.specs.Calendars.{isOn, weight, nodeOfEvent}
 
 -- the weight by which event e bounds the start s
 abbrev pub weightOn : Side → List ℤ → ℕ → ℕ → ℤ

@@ -3,28 +3,23 @@
 -- Cells: the c of the mark is 0 (`cOn-mark`), and of a bound it is the weight on its side (`cOn-below`, `cOn-above`); the weight on a side is read in the
 -- start's row or in its column (`weightOn-below`, `weightOn-above`). One turn of the walk over the events: `eventsOn-more` and `csOn-more`. In a fit table the
 -- weights lie in range (`weightOn-fits`), the c are `leastCs` and `mostCs` (`csOn-least`, `csOn-most`), and the terms are `termsOf` (`termsOf-is`).
-use Prim.Native.Nat.{ℕ, zero, suc, _+_, _*_, _<_}
+use Prim.Native.Nat.{ℕ, suc, _+_, _*_, _<_}
 use mathlib.Core.Path.{_≡_, refl, sym, ap, ap₂, subst, _∙_}
 use mathlib.Core.Bool.{Bool, true, false, not}
 use mathlib.Core.List.{List, [], _∷_, _++_}
 use native.Mathlib.Nat.{add-zero}
 use native.Mathlib.Numerals.{add-one}
 use native.Mathlib.Omega.{arith}
-use borrow.Author.Tests.{eq-eqb, ne-eqb}
 use lib.IntN.{ℤ, pos, negℤ, _-ℤ_}
 use lib.ListN.{length, set}
 use lib.Seq.{sets}
-use mir.Syntax.{w32}
-use mir.Val.{SFits, ofZ}
-use mir.Facts.{sfits-lit}
 use Rattle.whole.specs.Clash.{clash}
 use Rattle.whole.specs.Split.{eqZ}
-use Rattle.whole.specs.SplitLaws.{bits-eqb}
 use Rattle.clock.specs.declared.WindowTime.{WindowTime}
 use Rattle.plan.specs.declared.Plan.{Plan}
 use Rattle.plan.specs.Accepted.{Accepted}
 use Rattle.bounds.specs.Events.{startNode}
-use Rattle.bounds.specs.Tables.{Cell, upto, Rows, at, listed}
+use Rattle.bounds.specs.Tables.{upto, Rows, at, listed}
 use Rattle.bounds.specs.Flat.{noBound, isBound, weightAt, cellOf, cellAt, rowsOf, Weighed}
 use Rattle.bounds.specs.Fit.{Fit, AtMost}
 use Rattle.bounds.specs.BuildLaws.{length-listed, listed-more, eventSet-listed, at-build}
@@ -36,24 +31,17 @@ use Rattle.calendars.specs.declared.Terms.{Terms}
 use Rattle.calendars.specs.declared.Side.{Side}
 use Rattle.calendars.specs.declared.Side.the-variants.{Below, Above}
 use Rattle.events.specs.Bits.{bitsOf, eventsOf, eventSet, withIf}
+use Rattle.events.specs.BitsLaws.{eventsOf-bits}
 use Rattle.calendars.specs.Calendars.{isOn, weight, fromBelow, fromAbove, eventsBefore, termsOf, leastCs, mostCs}
 use Rattle.calendars.specs.Recorded.{weightOn, cOn, isOnSide, cOnSide, eventsOn, csOn}
 
 -- ---- lists
 
-pub sets-more : {A : Type 0} (l : List A) (i : ℕ) (xs : List A) (a : A) → sets l i (xs ++ (a ∷ [])) ≡ set (sets l i xs) (i + length xs) a
+sets-more : {A : Type 0} (l : List A) (i : ℕ) (xs : List A) (a : A) → sets l i (xs ++ (a ∷ [])) ≡ set (sets l i xs) (i + length xs) a
 sets-more l i [] a = ap (λ (k : ℕ). set l k a) (sym (add-zero i))
 sets-more l i (x ∷ xs) a =
     let place : suc i + length xs ≡ i + suc (length xs) = omega arith in
     sets-more (set l i x) (suc i) xs a ∙ ap (λ (k : ℕ). set (sets (set l i x) (suc i) xs) k a) place
-
--- ---- the mark for no bound, as the machine tests it
-
-pub is-mark : {v : ℤ} → SFits w32 v → ofZ w32 v ≡ 2147483647 → eqZ v noBound ≡ true
-is-mark {v} f e = sym (bits-eqb f (sfits-lit tt)) ∙ eq-eqb (ofZ w32 v) 2147483647 e
-
-pub no-mark : {v : ℤ} → SFits w32 v → (ofZ w32 v ≡ 2147483647 → ⊥) → eqZ v noBound ≡ false
-no-mark {v} f d = sym (bits-eqb f (sfits-lit tt)) ∙ ne-eqb (ofZ w32 v) 2147483647 d
 
 -- ---- cells
 
@@ -167,8 +155,9 @@ module _ (p : Plan) (a : Accepted p) (i : ℕ) (job : i < p .jobs) (ws : List �
       made : {x y : ℤ} {m n : ℕ} → low .0 ≡ x → high .0 ≡ y → bitsOf below ≡ m → bitsOf above ≡ n
           → _≡_ {A = Terms} (record { low = low; high = high; below = below; above = above })
           (record { low = record { 0 = x }; high = record { 0 = y }; below = eventsOf m; above = eventsOf n })
-      made {x} {y} {m} l h b u =
+      made {x} {y} l h b u =
           ap (λ (z : ℤ). record { low = record { 0 = z }; high = high; below = below; above = above }) l
           ∙ ap (λ (z : ℤ). record { low = record { 0 = x }; high = record { 0 = z }; below = below; above = above }) h
-          ∙ ap (λ (k : ℕ). record { low = record { 0 = x }; high = record { 0 = y }; below = eventsOf k; above = above }) b
-          ∙ ap (λ (k : ℕ). record { low = record { 0 = x }; high = record { 0 = y }; below = eventsOf m; above = eventsOf k }) u
+          ∙ ap₂ (λ (s t : Events). record { low = record { 0 = x }; high = record { 0 = y }; below = s; above = t })
+          (eventsOf-bits below b)
+          (eventsOf-bits above u)

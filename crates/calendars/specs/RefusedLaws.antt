@@ -1,6 +1,5 @@
--- What is told of a text that begins with a plan, judged to its end, by what the reader of the plan answered: the refusal of its lines (`told-lines`), or the
--- refusal of its verdict (`told-verdict`), whatever comes after a plan that is settled; and of a plan alone, nothing (`told-settled-alone`). a is the answer
--- that is told.
+-- How a text that begins with a plan is refused, by what the reader of the plan answered: as its lines are (`told-lines`), or as its verdict is
+-- (`told-verdict`), whatever comes after the plan; a plan alone that is settled is not refused (`told-settled-alone`). a is what the reader answered.
 use Prim.Native.Nat.{ℕ}
 use mathlib.Core.Path.{_≡_, refl, sym, ap, subst, _∙_}
 use mathlib.Core.List.{List}

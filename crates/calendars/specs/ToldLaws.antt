@@ -1,4 +1,4 @@
--- What the calendar program's output tells back. Where it prints `refused=4,K`, its text was read as a plan whose verdict is 'no strategy', K
+-- What follows from the calendar program's output. Where it prints `refused=4,K`, its text was read as a plan whose verdict is 'no strategy', K
 -- (`calendar-told`); and where what it prints begins with `settled=`, as a plan that is settled (`calendar-settled`).
 use Prim.Native.Nat.{ℕ}
 use mathlib.Core.Path.{_≡_, refl, ap}
@@ -7,8 +7,6 @@ use native.Mathlib.Omega.{arith}
 use lib.IntN.{pos}
 use lib.ListN.{getD}
 use Rattle.text.specs.Bytes.{bytes}
-use Rattle.lines.specs.declared.Fault.{Fault}
-use Rattle.lines.specs.declared.Fault.the-variants as fault
 use Rattle.plan.specs.declared.Plan.{Plan}
 use Rattle.lines.specs.declared.Refusal.{Refusal}
 use Rattle.lines.specs.declared.Refusal.the-variants as refusal
@@ -38,7 +36,7 @@ settled-not-refused : (m : ℕ) (t : List ℕ) (x : Refusal) → keyed (bytes "s
 unfolding refusedLine bytes
 settled-not-refused m t x e = let d : _≡_ {A = ℕ} 115 114 = ap (λ (s : List ℕ). getD s 0 0) e in omega arith
 
-pub outcome-told : (p : Plan) (o : Outcome) (K : ℕ) → outcomeText p o ≡ refusedLine (refusal.NoStrategy K) → verdictOf p o ≡ NoStrategy K
+outcome-told : (p : Plan) (o : Outcome) (K : ℕ) → outcomeText p o ≡ refusedLine (refusal.NoStrategy K) → verdictOf p o ≡ NoStrategy K
 unfolding outcomeText calendarText
 outcome-told p (settled m c) K e = absurd (settled-not-refused m (jobTexts (p .jobs) (calendar p c) 0 (p .jobs)) (refusal.NoStrategy K) e)
 outcome-told p (noStrategy k) K e =

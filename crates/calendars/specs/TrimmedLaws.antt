@@ -27,7 +27,8 @@ use Rattle.rounds.specs.TrimmedLaws.{
   outcome-trimmed,
 }
 use Rattle.calendars.specs.declared.Terms.{Terms}
-use Rattle.calendars.specs.Calendars.{thenTables, beforeStarts, termsOf, leastCs, mostCs, mostEvents, allTerms, allCs, calendarOf, calendar}
+use Rattle.events.specs.Bits.{mostEvents}
+use Rattle.calendars.specs.Calendars.{thenTables, beforeStarts, termsOf, leastCs, mostCs, allTerms, allCs, calendarOf, calendar}
 use Rattle.calendars.specs.CalendarText.{calendarText, outcomeText}
 
 thenTables-same : {s u : Set} {f g : Rows → List Rows} → s ≡ u → ((t : Rows) → f t ≡ g t) → thenTables s f ≡ thenTables u g

@@ -1,44 +1,28 @@
--- No two answers meet the promise of a public operation: each promise is an equation, and `only` of the crate `text` says the rest. What a writer of the
--- calendar leaves and answers is one slice and one place (`stored-unique` of `text`).
-use Prim.Native.Nat.{ℕ, _+_}
-use mathlib.Core.Path.{_≡_, ap, ap₂}
-use mathlib.Core.Bool.{Bool}
-use mathlib.Core.List.{List, []}
-use lib.IntN.{ℤ}
+-- No two answers meet the promise of a public operation: each promise is an equation, and `only` of the crate `text` says the rest.
+use Prim.Native.Nat.{ℕ}
+use mathlib.Core.Path.{_≡_, ap₂}
+use mathlib.Core.List.{List}
 use lib.ListN.{length, take}
-use Rattle.text.specs.Unique.{only, stored-unique}
-use Rattle.text.specs.Lent.{Stored, written}
+use Rattle.text.specs.Unique.{only}
+use Rattle.text.specs.Lent.{written}
 use Rattle.plan.specs.declared.Plan.{Plan}
 use Rattle.lines.specs.declared.Written.{Written}
 use Rattle.lines.specs.Written.{writtenAs}
 use Rattle.lines.specs.Reading.{refusedNumber, refusedValue, faultyPart}
-use Rattle.bounds.specs.Events.{nodes}
-use Rattle.bounds.specs.Flat.{rowsOf}
 use Rattle.rounds.specs.declared.Verdict.{Verdict}
 use Rattle.rounds.specs.Rounds.{outcome, verdict}
 use Rattle.rounds.specs.TextVerdict.{settledAlone}
 use Rattle.calendars.specs.declared.Calendar.{Calendar}
 use Rattle.calendars.specs.declared.Decision.{Decision}
-use Rattle.calendars.specs.Calendars.{beforeStarts, calendarOf, noCalendar, madeCalendar}
-use Rattle.calendars.specs.CalendarText.{calendarText, decisionText, calendarOutput}
+use Rattle.calendars.specs.Calendars.{noCalendar, madeCalendar}
+use Rattle.calendars.specs.CalendarText.{decisionText, calendarOutput}
 use Rattle.lines.specs.Whole.{writtenWhole}
 use Rattle.lines.specs.Unique.{whole-unique}
 
--- ---- the calendar and its text
+-- ---- the calendar
 
 pub empty-calendar-unique : (p : Plan) {r q : Calendar} → r ≡ noCalendar p → q ≡ noCalendar p → r ≡ q
 empty-calendar-unique p = only
-
-module _ (p : Plan) (joined : List ℤ) where
-  pub calendar-of-unique : {r q : Calendar} → r ≡ calendarOf p (beforeStarts p (p .jobs) (rowsOf (nodes (p .jobs + p .jobs)) joined))
-      → q ≡ calendarOf p (beforeStarts p (p .jobs) (rowsOf (nodes (p .jobs + p .jobs)) joined))
-      → r ≡ q
-  calendar-of-unique = only
-
-pub put-calendar-unique : (jobs m : ℕ) (c : Calendar) {out o p : List ℕ} {at j k : ℕ} → Stored out at (calendarText jobs m c) o j
-    → Stored out at (calendarText jobs m c) p k
-    → (o ≡ p) × (j ≡ k)
-put-calendar-unique jobs m c = stored-unique
 
 -- ---- what is decided
 

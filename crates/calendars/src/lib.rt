@@ -14,11 +14,9 @@ pub struct Terms {
     pub above: Events,
 }
 
-// The places of a row, one for each event of two windows. The last two, of the last job of this window, are before no start.
-pub const MOST_EVENTS: usize = events::MOST_EVENTS;
-
-// The places of a calendar's c on one side: a row of MOST_EVENTS for each job.
-pub const MOST_TERMS: usize = plan::MOST_JOBS * MOST_EVENTS;
+// The places of a calendar's c on one side: for each job a row with a place for each event of two windows. The last two places of a row, for the last
+// job of this window, are before no start.
+pub const MOST_TERMS: usize = plan::MOST_JOBS * events::MOST_EVENTS;
 
 // A calendar. The c of event e for the job at place i stands at i * MOST_EVENTS + e, of `at_least` in start >= E + c and of `at_most` in
 // start <= E + c; places that no bit names are no part of the calendar, and hold zeros where the calendar was made here.
@@ -54,9 +52,7 @@ mod walk;
 
 pub use decided::decide;
 pub use decision_text::write_decision;
-pub use print::put_calendar;
 pub use printed::answer_read;
 pub use program::answer;
 pub use refused::refused_in_plan;
-pub use walk::calendar_of;
 pub use walk::empty_calendar;

@@ -1,16 +1,15 @@
 // The calendar's text, written into a lent slice.
 use crate::Calendar;
-use crate::MOST_EVENTS;
 use crate::MOST_TERMS;
 use crate::Terms;
 use events::Events;
+use events::MOST_EVENTS;
 ghost use mathlib.Core.Path.{_≡_};
 ghost use lib.ListN.{length};
 ghost use Prim.Native.Nat.{_+_, _*_, _^_, _≤_, _<_};
 ghost use Rattle.text.specs.Lent.{Stored};
 ghost use Rattle.plan.specs.Limits.{mostJobs};
-ghost use Rattle.events.specs.Bits.{bitsOf};
-ghost use Rattle.calendars.specs.Calendars.{mostEvents};
+ghost use Rattle.events.specs.Bits.{bitsOf, mostEvents};
 ghost use Rattle.calendars.specs.CalendarText.{
   eventLetter,
   eventKind,
@@ -22,6 +21,8 @@ ghost use Rattle.calendars.specs.CalendarText.{
   jobText,
   jobTexts,
   calendarText,
+  mostTermBytes,
+  mostHeadBytes,
   mostJobBytes,
   mostCalendarBytes,
 };
@@ -106,7 +107,7 @@ fn put_terms(
     requires { ⌜ count ≤ mostEvents ⌝ }
     requires { ⌜ row + count ≤ mostJobs * mostEvents ⌝ }
     ensures { λ r. ⌜ Stored (now (out .entry)) at (termLines jobs (now (key .entry)) (bitsOf set) (now (cs .entry)) row 0 count) (now (out .exit)) r ⌝ }
-    ensures { λ r. ⌜ r ≤ at + 52 * count ⌝ }
+    ensures { λ r. ⌜ r ≤ at + mostTermBytes * count ⌝ }
 {
     let mut end = at;
     let mut e: usize = 0;
@@ -130,7 +131,7 @@ fn put_head(out: &mut [u8], at: usize, i: usize, terms: Terms) -> usize
     requires { ⌜ at ≤ 2 ^ 59 ⌝ }
     requires { ⌜ i < mostJobs ⌝ }
     ensures { λ r. ⌜ Stored (now (out .entry)) at (jobHead i terms) (now (out .exit)) r ⌝ }
-    ensures { λ r. ⌜ r ≤ at + 87 ⌝ }
+    ensures { λ r. ⌜ r ≤ at + mostHeadBytes ⌝ }
 {
     let low = terms.low;
     let high = terms.high;
@@ -185,7 +186,7 @@ fn put_jobs(out: &mut [u8], at: usize, jobs: usize, c: Calendar) -> usize
     end
 }
 
-// The calendar of a plan with so many jobs, settled in round m: its text from a place on, as far as there is room; answers the place behind it.
+// The calendar of a plan with so many jobs, settled in round m: its text from a place on, as far as there is room; answers the place after it.
 pub fn put_calendar(out: &mut [u8], at: usize, jobs: usize, m: u64, c: Calendar) -> usize
     requires { ⌜ at ≤ 2 ^ 56 ⌝ }
     requires { ⌜ jobs ≤ mostJobs ⌝ }

@@ -23,7 +23,7 @@ fn answer_whole(text: &[u8], out: &mut [u8; MOST_BYTES]) -> usize
 }
 
 // The answer to the first n bytes of what was read, or to all of them where n is greater, and its length. One byte more is read than the longest text has, so
-// that a longer one is told.
+// that a longer one is recognised.
 pub fn answer_read(read: &[u8; LONGEST_TEXT + 1], n: usize, out: &mut [u8; MOST_BYTES]) -> usize
     ensures { λ r. ⌜ r ≡ length (calendarOutput (take n (now (read .entry)))) ⌝ }
     ensures { λ _. ⌜ now (out .exit) ≡ writtenWhole (calendarOutput (take n (now (read .entry)))) (now (out .entry)) ⌝ }

@@ -1,11 +1,11 @@
 // The terms of one start, read from the table just before it is eliminated.
-use crate::MOST_EVENTS;
 use crate::MOST_TERMS;
 use crate::Side;
 use crate::Terms;
 use bounds::Table;
 use clock::WindowTime;
 use events::Events;
+use events::MOST_EVENTS;
 use plan::Plan;
 ghost use mathlib.Core.Path.{_≡_};
 ghost use lib.IntN.{negℤ, _-ℤ_};

@@ -4,7 +4,7 @@ use mathlib.Core.Path.{_∙_}
 use native.Mathlib.Omega.{arith}
 use borrow.Author.Needs.{needs}
 use Rattle.plan.specs.declared.Plan.{Plan}
-use Rattle.calendars.specs.DecisionsLaws.{SettledIn, verdict-settled, made-settled, made-refused, made-unsettled}
+use Rattle.calendars.specs.DecisionsLaws.{verdict-settled, made-settled, made-refused, made-unsettled}
 use Rattle.calendars.proofs.decided.decide.Statement.{statement}
 use Rattle.calendars.proofs.decided.decide.Tie as tie
 

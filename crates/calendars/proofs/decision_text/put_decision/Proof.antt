@@ -1,4 +1,4 @@
--- `put_decision`: by how the verdict is told, `text-settled`, `text-refused`.
+-- `put_decision`: one case for each way to state a verdict, `text-settled`, `text-refused`.
 use native.Mathlib.Omega.{arith}
 use Rattle.lines.specs.WrittenLaws.{stored-as}
 use Rattle.calendars.specs.DecisionsLaws.{text-settled, text-refused}

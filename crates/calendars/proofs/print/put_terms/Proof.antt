@@ -1,5 +1,5 @@
 -- `put_terms`: the lines from event e on are left, as many as the set has events from there on. One law a turn: `termLines-next`, `termLines-stop`, and of
--- the count `countFrom-next`, `countFrom-none`; an event passed moves the place by at most 52.
+-- the count `countFrom-next`, `countFrom-none`; an event passed moves the place by at most `mostTermBytes`.
 use Prim.Native.Nat.{_+_, _*_, _-_, _≤_}
 use mathlib.Core.Path.{_≡_, refl, sym, _∙_}
 use native.Mathlib.Omega.{arith}
@@ -9,7 +9,7 @@ use mir.Syntax.{w32}
 use Rattle.whole.specs.SplitLaws.{told-fits}
 use Rattle.events.specs.Bits.{bitsOf, mostBits, countFrom, nextEvent}
 use Rattle.events.specs.BitsLaws.{nextEvent-from, countFrom-next, countFrom-none}
-use Rattle.calendars.specs.CalendarText.{termLines}
+use Rattle.calendars.specs.CalendarText.{termLines, mostTermBytes}
 use Rattle.calendars.specs.CalendarTextLaws.{stored-term-near, left-term, left-terms}
 use Rattle.text.specs.LeftLaws.{Left, left-whole}
 use borrow.Author.Needs.{needs}
@@ -18,7 +18,7 @@ use Rattle.calendars.proofs.print.put_terms.Tie as tie
 
 abbrev Inv-loop : tie.InvT-loop
 Inv-loop out₀ at key jobs set cs row count end₀ e₀ left₀ out end e left =
-    (e ≤ count) × (end ≤ at + 52 * e) × (length out ≡ length out₀) × (countFrom (bitsOf set) e (mostBits - e) ≡ left)
+    (e ≤ count) × (end ≤ at + mostTermBytes * e) × (length out ≡ length out₀) × (countFrom (bitsOf set) e (mostBits - e) ≡ left)
     × Left out₀ at (termLines jobs key (bitsOf set) cs row 0 count) out end (termLines jobs key (bitsOf set) cs row e (count - e))
 
 abbrev μ-loop : tie.MeasureT-loop

@@ -1,4 +1,4 @@
--- `answer_read`: where n is no count of its bytes, all that was read is its first n bytes (`whole-cut`).
+-- `answer_read`: where n is more than what was read, its first n bytes are all of it (`whole-cut`).
 use native.Mathlib.Omega.{arith}
 use denote.Ref.{now}
 use lib.ListN.{length-take}

@@ -7,7 +7,8 @@ use mir.Facts.{toZ-ofZ}
 use borrow.Author.Needs.{needs}
 use Rattle.whole.specs.Rules.{wholes}
 use Rattle.whole.specs.SplitLaws.{split-neg}
-use Rattle.calendars.specs.RecordedLaws.{is-mark, no-mark, cOn-mark, cOn-below, cOn-above}
+use Rattle.bounds.specs.FlatLaws.{is-mark, no-mark}
+use Rattle.calendars.specs.RecordedLaws.{cOn-mark, cOn-below, cOn-above}
 use Rattle.calendars.proofs.recorded.c_on.Statement.{statement}
 use Rattle.calendars.proofs.recorded.c_on.Tie as tie
 

@@ -1,4 +1,5 @@
--- `refused_in_plan`: by what the reader answered and how the verdict is told, `told-lines`, `told-settled-alone`, `told-verdict`. Nothing comes after the plan.
+-- `refused_in_plan`: one case for each answer of the reader and each way to state a verdict,
+-- `told-lines`, `told-settled-alone`, `told-verdict`. Nothing comes after the plan.
 use Prim.Native.Nat.{ℕ}
 use mathlib.Core.List.{List}
 use mathlib.Core.Path.{refl, sym, ap, _∙_}
