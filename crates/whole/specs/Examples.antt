@@ -113,7 +113,7 @@ narrows x f p = omega wholes
 narrowed : (x : ℤ) → SFits w64 x → SFits w32 (toZ w64 (ofZ w64 x)) → toZ w32 (ofZ w32 (toZ w64 (ofZ w64 x))) ≡ x
 narrowed x f g = omega wholes
 
--- An element that was read: its size is told.
+-- An element that was read: only its size is known.
 read-is : (v w : ℤ) → mag v < 2147483648 → SFits w32 w → ltZ (toZ w32 (ofZ w32 w)) (toZ w32 (ofZ w32 v)) ≡ false → v ≤ℤ w
 read-is v w p f t = omega (wholes, told-fits w32 v p)
 

@@ -14,7 +14,7 @@
 -- A rule is applied to a hypothesis, a `let`, a field and a listed fact, as each stands, and to nothing that a rule has made. So:
 --     a fact for all indices is listed at an index, `omega (wholes, h k)`, and a need that was proved as it is, `omega (wholes, add-result c)`
 --     `a ≢ b` is listed as `ne-split-iff a b .0 d`, and `a == b` of code, which compares bits, as `bits-eq`, both of `SplitLaws`
---     `SFits w z` tells of z's bits and not of z's bounds, which are `fits-least f` and `fits-below f` of `Order`
+--     `SFits w z` speaks of z's bits and not of z's bounds, which are `fits-least f` and `fits-below f` of `Order`
 --     a call's result and an element that was read have no `SFits` yet: it is `told-fits w32 z (c .v .given)` of `SplitLaws`, or `c .f .ok`
 --     a product is an unknown: its bounds are `mul-within` of `Order`, its value `mul-back` of `SplitLaws`
 

@@ -1,4 +1,4 @@
--- The statements of the rules: a fact about two whole numbers, each a sum or a difference of a written shape, and the fact about naturals that it comes to.
+-- The statements of the rules: a fact about two whole numbers, each a sum or a difference of a written shape, and the fact about naturals that is the same.
 
 use mathlib.Core.Path.{_≡_}
 use mathlib.Core.Bool.{Bool, true, false, cond}
@@ -40,7 +40,7 @@ Says eq-false a b = eqZ a b ≡ false
 Says (lt-is t) a b = ltZ a b ≡ t
 Says (le-is t) a b = leZ a b ≡ t
 
--- The same of two naturals. A rule cannot end in x ≢ y, which is a function: min x y < max x y says it. A test comes to an order whatever its answer, so
+-- The same of two naturals. A rule cannot end in x ≢ y, which is a function: min x y < max x y says it. A test is an order whatever its answer, so
 -- that one rule finds the answer in what it is applied to.
 abbrev pub Counts : Fact → ℕ → ℕ → Type 0
 Counts le x y = x ≤ y

@@ -1,11 +1,11 @@
 -- The laws of `up` and `dn`, which turn a fact about whole numbers into one about naturals, the only numbers that `omega` reads.
--- The operations: one of the two parts is 0; a literal's parts are written on it; a negation swaps them; a sum and a difference are told by an
--- equation with no subtraction in it; a multiple multiplies both; of a product the sum of its parts is told.
+-- The operations: one of the two parts is 0; a negation swaps them; a sum and a difference have an equation with no subtraction in it; a multiple
+-- multiplies both; a product has an equation for the sum of its parts.
 -- The orders, `≡`, `≢`, and each test at true and at false (`-split-iff`): a is up a - dn a and b is up b - dn b, so a against b is up a + dn b
 -- against up b + dn a. Apart is min < max, since a rule of `omega` cannot end in `≢`.
 -- The machine, at any width: what fits, what is read back from the bits, what a cast to a wider number asks, and what a test of two numbers by `==` or
--- `!=` tells.
--- Not here: the rules that `omega` is handed (`Rules`), and the laws of the order in its own words (`Order`).
+-- `!=` says of them.
+-- Not here: the rules that `omega` is handed (`Rules`), and what these do not reach by themselves (`Order`).
 
 use mathlib.Core.Path.{_≡_, refl, sym, _∙_, ap}
 use mathlib.Core.Logic.{_≢_, _↔_, _⊎_, inl, inr}
@@ -27,12 +27,6 @@ use Rattle.whole.specs.Split.{up, dn, eqZ}
 pub split-one : (z : ℤ) → (up z ≡ 0) ⊎ (dn z ≡ 0)
 split-one (pos n) = inr refl
 split-one (negsuc n) = inl refl
-
-pub split-pos : (n : ℕ) → (up (pos n) ≡ n) × (dn (pos n) ≡ 0)
-split-pos n = (refl, refl)
-
-pub split-negsuc : (n : ℕ) → (up (negsuc n) ≡ 0) × (dn (negsuc n) ≡ suc n)
-split-negsuc n = (refl, refl)
 
 pub split-neg : (z : ℤ) → (up (negℤ z) ≡ dn z) × (dn (negℤ z) ≡ up z)
 split-neg (pos zero) = (refl, refl)
@@ -81,7 +75,7 @@ lt-split-iff (pos a) (negsuc b) = (λ h. absurd (h .lt), λ h. absurd (omega ari
 lt-split-iff (negsuc a) (pos b) = (λ h. omega arith, λ h. ltZ-yes tt)
 lt-split-iff (negsuc a) (negsuc b) = (λ h. omega (arith, ltb→lt), λ h. ltZ-yes (omega (arith, lt→ltb)))
 
-pub split-unique : (a b : ℤ) → up a + dn b ≡ up b + dn a → a ≡ b
+split-unique : (a b : ℤ) → up a + dn b ≡ up b + dn a → a ≡ b
 split-unique (pos a) (pos b) e = ap pos (omega arith)
 split-unique (pos a) (negsuc b) e = absurd (omega arith)
 split-unique (negsuc a) (pos b) e = absurd (omega arith)
@@ -144,7 +138,7 @@ fits-split-iff w (negsuc n) = (λ f. omega (arith, f .sfits), λ h. record { sfi
 pub split-back : {w : Width} (z : ℤ) → SFits w z → up (toZ w (ofZ w z)) + dn z ≡ up z + dn (toZ w (ofZ w z))
 split-back {w} z f = eq-split-iff (toZ w (ofZ w z)) z .0 (toZ-ofZ f)
 
--- Of a call's result (`.ok`) and of an element that was read (`.given`) only its size is told: list this law with the number and that fact.
+-- Of a call's result (`.ok`) and of an element that was read (`.given`) only the size is known: list this law with the number and that fact.
 pub told-fits : (w : Width) (z : ℤ) → mag z < 2 ^ hbits w → SFits w z
 told-fits w z p = record { sfits = p }
 
