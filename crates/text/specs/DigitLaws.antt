@@ -214,7 +214,7 @@ digits-next n b p low high =
     let r : zeroDigit + m % 10 ≡ b = omega arith in
     digits-more m (omega arith) ∙ ap (λ (k : ℕ). digits k ++ ((zeroDigit + m % 10) ∷ [])) q ∙ ap (λ (d : ℕ). digits n ++ (d ∷ [])) r
 
--- the digits of a number with further digits read behind it
+-- the digits of a number with further digits read after it
 digits-read : (n : ℕ) (s : List ℕ) → 0 < n → allDigits s ≡ true → digits (digitsValue n s) ≡ digits n ++ s
 unfolding digitsValue
 digits-read n [] p h = sym (append-nil (digits n))

@@ -1,6 +1,6 @@
 -- The laws of digits as the code reads them.
 -- From `tooLarge` on the value does not matter (`digitsRead-large`, `numberWithin-capped`, `numberWithin-capped-neg`).
--- One turn of the reader: it begins behind the test for a leading zero (`positiveRead-empty`, `positiveRead-zero`, `positiveRead-first`); it stops at a byte
+-- One turn of the reader: it begins after the test for a leading zero (`positiveRead-empty`, `positiveRead-zero`, `positiveRead-first`); it stops at a byte
 -- that is no digit (`digitsRead-below`, `digitsRead-above`), goes on past a digit (`digitsRead-past`, `digitsRead-cut`), and ends (`digitsRead-end`).
 -- What a number is whose digits were read so: `numberIn-empty`, `numberIn-zero`, `numberIn-zero-led`, `numberIn-positive`, `numberIn-negative`, and the last
 -- two where the digits are bad (`numberIn-positive-bad`, `numberIn-negative-bad`).

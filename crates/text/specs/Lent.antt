@@ -1,7 +1,7 @@
 -- A slice that the caller lends (document 01, 'Offers and runs': 'Bytes past that length keep their values, and with -12 all bytes do').
 use Prim.Native.Nat.{ℕ, suc, _+_}
 use mathlib.Core.Path.{_≡_}
-use mathlib.Core.Bool.{Bool, true, false, cond}
+use mathlib.Core.Bool.{Bool, cond}
 use mathlib.Core.List.{List, [], _∷_, _++_}
 use lib.Dec.{leb}
 use lib.ListN.{length, drop, set}
@@ -19,7 +19,7 @@ unfoldable pub put : List ℕ → ℕ → List ℕ → List ℕ
 put out at [] = out
 put out at (b ∷ s) = put (set out at b) (suc at) s
 
--- what a writer of s does to a slice and a place in it: the place moves behind s, whether or not s had room
+-- what a writer of s does to a slice and a place in it: the place moves after s, whether or not s had room
 pub record Stored (out : List ℕ) (at : ℕ) (s : List ℕ) (out′ : List ℕ) (at′ : ℕ) : Type 0 where
   pub place : at′ ≡ at + length s
   pub slice : out′ ≡ put out at s

@@ -115,7 +115,7 @@ stored-number f p = rw (toZ-ofZ f) at p
 pub stored-near : {out out′ : List ℕ} {at at′ : ℕ} {z : ℤ} → SFits w64 z → Stored out at (decimal (toZ w64 (ofZ w64 z))) out′ at′ → at′ ≤ at + 20
 stored-near {z = z} f p = omega (arith, stored-number f p .place, decimal-short z f)
 
--- ---- a number and the byte behind it move the place by at most 21
+-- ---- a number and the byte after it move the place by at most 21
 
 pub count-near : (n b : ℕ) {out out′ : List ℕ} {at at′ : ℕ} → n < 2 ^ 64 → Stored out at (digits n ++ (b ∷ [])) out′ at′ → at′ ≤ at + 21
 count-near n b h p = omega (arith, p .place, digits-short n h, length-append (digits n) (b ∷ []))

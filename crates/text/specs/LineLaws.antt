@@ -4,9 +4,9 @@
 -- a b is what stands before it, the b, and what follows (`has-split`); a text without b is all before it (`has-false`, `has-free`, `before-free`).
 -- Keys: a key that was written is given back (`afterKey-back`), and only a text that begins with the key has something after it (`afterKey-split`); one turn
 -- of the comparison (`afterKey-same`, `afterKey-other`, `afterKey-short`, `afterKey-end`); and what the test `hasKey` tells (`hasKey-true`, `hasKey-false`).
--- The place behind a line: it is in the text, or behind it (`behindLine-in`, `behindLine-past`); from a place of the text on it is the line's length and one
+-- The place after a line: it is in the text, or past its end (`behindLine-in`, `behindLine-past`); from a place of the text on it is the line's length and one
 -- (`nextLine-at`).
--- A part of a slice that goes to its end is what is left behind its start (`drop-rest`).
+-- A part of a slice that goes to its end is what is left after its start (`drop-rest`).
 -- That b does not stand in s is said as `lenTo b s ≡ length s`.
 
 use Prim.Native.Nat.{ℕ, suc, _+_, _-_, _≤_, _<_}
@@ -103,7 +103,7 @@ has-free b s e = le-ltb (lenTo b s) (length s) (omega arith)
 before-free : (b : ℕ) (s : List ℕ) → lenTo b s ≡ length s → before b s ≡ s
 before-free b s e = ap (λ (n : ℕ). take n s) e ∙ take-length s
 
--- ---- the place behind a line
+-- ---- the place after a line
 
 pub behindLine-in : (n at i : ℕ) → at + i ≤ n → behindLine n at i ≡ at + i + 1
 behindLine-in n at i h = rw (le-ltb n (at + i) h)

@@ -1,5 +1,5 @@
 -- Lines and their parts (document 01, 'Plan text': 'Key=value lines in this order, each ended by one LF').
-use Prim.Native.Nat.{ℕ, zero, suc, _+_}
+use Prim.Native.Nat.{ℕ, suc, _+_}
 use mathlib.Core.Bool.{Bool, true, false, cond}
 use mathlib.Core.List.{List, [], _∷_}
 use mathlib.Core.Option.{Option, none, some}
@@ -28,12 +28,12 @@ has b s = ltb (lenTo b s) (length s)
 abbrev pub after : ℕ → List ℕ → List ℕ
 after b s = drop (lenTo b s + 1) s
 
--- 'each ended by one LF': the place behind the LF of a line of i bytes, which begins at a place of a text of n bytes; behind the text, where the LF
+-- 'each ended by one LF': the place after the LF of a line of i bytes, which begins at a place of a text of n bytes; past the text's end, where the LF
 -- would stand there
 abbrev pub behindLine : ℕ → ℕ → ℕ → ℕ
 behindLine n at i = cond (ltb n (at + i)) (n + 1) (at + i + 1)
 
--- where the line ends that begins at a place, its LF included; behind the text, where it is not ended
+-- where the line ends that begins at a place, its LF included; past the text's end, where it is not ended
 abbrev pub nextLine : List ℕ → ℕ → ℕ
 nextLine s at = behindLine (length s) at (lenTo LF (drop at s))
 

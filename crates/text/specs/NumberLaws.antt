@@ -4,7 +4,7 @@
 -- `decimal-below`). Read: a text of the form is the text of its value (`number-back`).
 -- The range: a number is answered exactly where it lies between the ends (`numberWithin-below`, `numberWithin-above`, `numberWithin-inside`), so a number that
 -- was written is read back (`numberIn-decimal`, `numberIn-back`), and what is answered as a value was its text (`numberIn-value`).
--- A line of a key and a number is the number behind the key (`numberAfter-key`, `numberAfter-other`), written (`numberAfter-back`, `keyed-free`)
+-- A line of a key and a number is the number after the key (`numberAfter-key`, `numberAfter-other`), written (`numberAfter-back`, `keyed-free`)
 -- and read (`numberAfter-value`).
 
 use Prim.Native.Nat.{ℕ, zero, suc, _+_, _-_, _≤_, _<_}
@@ -198,7 +198,7 @@ pub numberAfter-back : (key : List ℕ) (lo hi : ℤ) (s : List ℕ) → numberA
 unfolding numberOf
 numberAfter-back key lo hi s = rw (afterKey-back key s)
 
--- a key without LF, with a number behind it, is a line
+-- a key without LF, with a number after it, is a line
 pub keyed-free : (key : List ℕ) (z : ℤ) → lenTo LF key ≡ length key → lenTo LF (key ++ decimal z) ≡ length (key ++ decimal z)
 keyed-free key z e = free-append LF key (decimal z) e (decimal-free LF refl (omega arith) z)
 

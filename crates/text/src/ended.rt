@@ -1,4 +1,4 @@
-// Writers of a number and the byte behind it, into a lent slice.
+// Writers of a number and the byte after it, into a lent slice.
 use crate::write::put_byte;
 use crate::write::put_count;
 use crate::write::put_number;
@@ -8,7 +8,7 @@ ghost use Prim.Native.Nat.{_+_, _^_, _≤_};
 ghost use Rattle.text.specs.Numbers.{digits, decimal};
 ghost use Rattle.text.specs.Lent.{Stored};
 
-// The digits of n, and the byte behind them.
+// The digits of n, and the byte after them.
 pub fn put_ended_count(out: &mut [u8], at: usize, n: u64, end: u8) -> usize
     requires { ⌜ at ≤ 2 ^ 61 ⌝ }
     ensures { λ r. ⌜ Stored (now (out .entry)) at (digits n ++ (end ∷ [])) (now (out .exit)) r ⌝ }
@@ -18,7 +18,7 @@ pub fn put_ended_count(out: &mut [u8], at: usize, n: u64, end: u8) -> usize
     put_byte(out, behind, end)
 }
 
-// The number z, and the byte behind it.
+// The number z, and the byte after it.
 pub fn put_ended_number(out: &mut [u8], at: usize, z: i64, end: u8) -> usize
     requires { ⌜ at ≤ 2 ^ 61 ⌝ }
     ensures { λ r. ⌜ Stored (now (out .entry)) at (decimal z ++ (end ∷ [])) (now (out .exit)) r ⌝ }

@@ -27,7 +27,7 @@ pub fn len_from(s: &[u8], at: usize) -> usize
     len_to(&s[at..], b'\n')
 }
 
-// The place behind the LF of a line of len bytes that begins at a place; behind the text, where the LF would stand there.
+// The place after the LF of a line of len bytes that begins at a place; past the text's end, where the LF would stand there.
 pub fn behind_line(s: &[u8], at: usize, len: usize) -> usize
     ensures { λ r. ⌜ r ≡ behindLine (length (now (s .entry))) at len ⌝ }
 {

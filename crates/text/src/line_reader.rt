@@ -20,7 +20,7 @@ fn line_len<'a>(r: LineReader<'a>) -> usize
     len_from(r.text, r.at)
 }
 
-// The reader behind its line and the LF.
+// The reader after its line and the LF.
 fn past_line<'a>(r: LineReader<'a>) -> LineReader<'a>
     ensures { λ q. ⌜ (q .text ≡ r .entry .text) × (q .at ≡ nextLine (now (r .entry .text)) (r .entry .at)) ⌝ }
 {
@@ -29,7 +29,7 @@ fn past_line<'a>(r: LineReader<'a>) -> LineReader<'a>
     LineReader { text: r.text, at }
 }
 
-// Where the line ends that begins at a place, its LF included; behind the text, where it is not ended.
+// Where the line ends that begins at a place, its LF included; past the text's end, where it is not ended.
 pub fn next_line(text: &[u8], at: usize) -> usize
     ensures { λ r. ⌜ r ≡ nextLine (now (text .entry)) at ⌝ }
 {

@@ -1,4 +1,4 @@
-// Writers into a lent slice: each stores its text from a place on, as far as there is room, and answers the place behind it. A place in a text that is being
+// Writers into a lent slice: each stores its text from a place on, as far as there is room, and answers the place after it. A place in a text that is being
 // written is far below 2^62, so that none wraps.
 ghost use mathlib.Core.Path.{_≡_};
 ghost use mathlib.Core.List.{[], _∷_};

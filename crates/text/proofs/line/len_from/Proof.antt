@@ -1,4 +1,4 @@
--- `len_from`: past the end nothing is left (`lenTo-end`), else `len_to` of what is left behind the place (`drop-rest`).
+-- `len_from`: past the end nothing is left (`lenTo-end`), else `len_to` of what is left after the place (`drop-rest`).
 use mathlib.Core.Path.{sym, ap, _∙_}
 use native.Mathlib.Omega.{arith}
 use denote.Ref.{now}

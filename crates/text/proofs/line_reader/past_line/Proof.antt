@@ -133,7 +133,7 @@ module _ {M : Type 1} (𝓤 : URA M) (H : Heap 𝓤) (A : Atoms 𝓤) (W : Given
   abbrev v : Val
   v = sliceVal (d .text .ptr) (length (d .text .now))
 
-  -- the line's length, and the place behind a line of n bytes
+  -- the line's length, and the place after a line of n bytes
   abbrev len : ℕ
   len = lenTo LF (behind (d .at) (now (d .text)))
 

@@ -1,4 +1,4 @@
--- `number_after`: what follows the key is the rest of s behind the key's length, by the laws of `hasKey`.
+-- `number_after`: what follows the key is the rest of s after the key's length, by the laws of `hasKey`.
 use mathlib.Core.Path.{sym, ap, _∙_}
 use native.Mathlib.Omega.{arith}
 use lib.ListN.{length}

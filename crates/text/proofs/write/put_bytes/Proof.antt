@@ -1,4 +1,4 @@
--- `put_bytes`: what is stored and the bytes left, put behind it, are the whole text. One law a turn: `put-past`, `put-end`.
+-- `put_bytes`: what is stored and the bytes left, put after it, are the whole text. One law a turn: `put-past`, `put-end`.
 use Prim.Native.Nat.{ℕ, _+_, _-_, _≤_}
 use mathlib.Core.Path.{_≡_, refl, sym, ap, _∙_}
 use mathlib.Core.List.{List}
