@@ -7,7 +7,7 @@ use Rattle.text.specs.Unique.{only}
 use Rattle.text.specs.Lent.{written}
 use Rattle.plan.specs.declared.Plan.{Plan}
 use Rattle.lines.specs.declared.Written.{Written}
-use Rattle.lines.specs.Written.{writtenAs}
+use Rattle.lines.specs.Written.{writtenAs, writtenWhole}
 use Rattle.lines.specs.Reading.{refusedNumber, refusedValue, faultyPart}
 use Rattle.rounds.specs.declared.Verdict.{Verdict}
 use Rattle.rounds.specs.Rounds.{outcome, verdict}
@@ -16,7 +16,6 @@ use Rattle.calendars.specs.declared.Calendar.{Calendar}
 use Rattle.calendars.specs.declared.Decision.{Decision}
 use Rattle.calendars.specs.Calendars.{noCalendar, madeCalendar}
 use Rattle.calendars.specs.CalendarText.{decisionText, calendarOutput}
-use Rattle.lines.specs.Whole.{writtenWhole}
 use Rattle.lines.specs.Unique.{whole-unique}
 
 -- ---- the calendar

@@ -7,7 +7,7 @@ ghost use mathlib.Core.Path.{_≡_};
 ghost use Prim.Native.Nat.{_≤_};
 ghost use lib.ListN.{length, take};
 ghost use Rattle.calendars.specs.CalendarText.{calendarOutput};
-ghost use Rattle.lines.specs.Whole.{writtenWhole};
+ghost use Rattle.lines.specs.Written.{writtenWhole};
 
 // The answer to a plan's text, and its length. No text is refused by 12: the last arm is never reached.
 fn answer_whole(text: &[u8], out: &mut [u8; MOST_BYTES]) -> usize

@@ -1,4 +1,4 @@
--- What is told of the answer to a text: the refusal's two numbers, and its faulty line as a part of the text.
+-- What is reported from the answer to a text: the refusal's two numbers, and its faulty line as a part of the text.
 use Prim.Native.Nat.{ℕ}
 use mathlib.Core.Path.{_≡_}
 use mathlib.Core.List.{List, []}
@@ -9,7 +9,7 @@ use Rattle.lines.specs.declared.TextAnswer.the-variants.{Accepted, Refus
 use Rattle.lines.specs.Refusals.{number, value}
 use Rattle.lines.specs.Reading.{Reading, refusedNumber, refusedValue, faultyPart}
 
--- the number and the value that tell an answer: those of its refusal, or 0 and 0
+-- the number and the value that are reported from an answer: those of its refusal, or 0 and 0
 abbrev pub answerNumber : TextAnswer → ℕ
 answerNumber Accepted = 0
 answerNumber (Refused r) = number r

@@ -21,12 +21,12 @@ fault-form n fault.Pair = omega arith
 
 lined-form : {A : Type 0} (v : Lined A) (s : List ℕ) (n : ℕ) → ByForm (lined v s n)
 unfolding lined
-lined-form (reading.value a) s n = tt
-lined-form (reading.bad f) s n = fault-form n f
+lined-form (reading.holds a) s n = tt
+lined-form (reading.lacks f) s n = fault-form n f
 
 pub line-form : {A : Type 0} (f : List ℕ → Lined A) (s : List ℕ) (n : ℕ) → ByForm (line f s n)
 unfolding line
-line-form f s n = lined-form (cond (has LF s) (f (before LF s)) (reading.bad fault.Form)) s n
+line-form f s n = lined-form (cond (has LF s) (f (before LF s)) (reading.lacks fault.Form)) s n
 
 pub next-form : {A B : Type 0} (m : Reading A) (f : A → Reader B) → ByForm m → ((a : A) (s : List ℕ) (n : ℕ) → ByForm (f a s n)) → ByForm (next m f)
 unfolding next

@@ -5,10 +5,6 @@ use lib.IntN.{ℤ}
 use Rattle.text.specs.Lines.{LF}
 use Rattle.text.specs.Numbers.{decimal}
 
--- the longest key, `deadline=`
-abbrev pub longestKey : ℕ
-longestKey = 9
-
 -- with the text that follows it
 abbrev pub keyed : List ℕ → ℤ → List ℕ → List ℕ
 keyed key z s = key ++ (decimal z ++ (LF ∷ s))

@@ -1,6 +1,6 @@
 -- The laws of a line that is a key and a number. It stands before what follows it (`keyed-append`), and no number makes it long (`keyed-short`, `count-short`).
--- What writers did: a number as it is handed over (`stored-told`, `stored-ended`, `stored-narrow`), a count (`stored-count`), a text and the byte behind it
--- (`stored-behind`), a line, and the lines behind it (`stored-keyed`, `stored-keyed-narrow`).
+-- What writers did: a number as it is handed over (`stored-told`, `stored-ended`, `stored-narrow`), a count (`stored-count`), a text and the byte after it
+-- (`stored-behind`), a line, and the lines after it (`stored-keyed`, `stored-keyed-narrow`).
 
 use Prim.Native.Nat.{ℕ, _+_, _^_, _≤_, _<_}
 use mathlib.Core.Path.{_≡_, sym, ap, _∙_, subst}
@@ -43,7 +43,7 @@ pub stored-narrow : {out out′ : List ℕ} {at at′ : ℕ} (text : ℤ → Lis
     → Stored out at (text (toZ w64 (ofZ w64 (toZ w32 (ofZ w32 z))))) out′ at′ → Stored out at (text z) out′ at′
 stored-narrow text f d = rw (toZ-ofZ f) at (stored-told text (cast-wide tt f) d)
 
--- a number and the byte behind it, which is LF
+-- a number and the byte after it, which is LF
 pub stored-ended : {out out′ : List ℕ} {at at′ : ℕ} (b : ℕ) {z : ℤ} → SFits w64 z
     → Stored out at (decimal (toZ w64 (ofZ w64 z)) ++ (b ∷ [])) out′ at′ → b ≡ LF → Stored out at (decimal z ++ (LF ∷ [])) out′ at′
 stored-ended b f d e = rw e at (stored-told (λ (x : ℤ). decimal x ++ (b ∷ [])) f d)
@@ -53,12 +53,12 @@ pub stored-count : {out out′ : List ℕ} {at at′ : ℕ} (n : ℕ) (s : List 
     → Stored out at (decimal (pos n) ++ s) out′ at′
 stored-count n s d = rw (decimal-above (pos n) (omega wholes)) d
 
--- a text and the byte behind it, before another
+-- a text and the byte after it, before another
 pub stored-behind : {out t o o′ : List ℕ} {at j j′ : ℕ} (s : List ℕ) (b : ℕ) → Stored out at (s ++ (b ∷ [])) o j → Stored o j t o′ j′
     → Stored out at (s ++ (b ∷ t)) o′ j′
 stored-behind {out} {t} {o′ = o′} {at = at} {j′ = j′} s b p q = subst (λ (x : List ℕ). Stored out at x o′ j′) (append-assoc s (b ∷ []) t) (stored-append p q)
 
--- a line, and the lines behind it
+-- a line, and the lines after it
 pub stored-keyed : {out s o o′ : List ℕ} {at j j′ : ℕ} (key : List ℕ) (z : ℤ)
     → Stored out at (keyed key z []) o j → Stored o j s o′ j′ → Stored out at (keyed key z s) o′ j′
 stored-keyed {s = s} key z p q = rw (keyed-append key z s) (stored-append p q)

@@ -20,8 +20,8 @@ longestText = 65536
 
 -- One line taken for itself: its value, or what it lacks.
 pub data Lined (A : Type 0) : Type 0 where
-  value : A → Lined A
-  bad : Fault → Lined A
+  holds : A → Lined A
+  lacks : Fault → Lined A
 
 -- A text read from some line on: the value, what is left of the text and the number of its first line; or the refusal and the text from the
 -- faulty line on.
@@ -46,17 +46,17 @@ answer a s n = read a s n
 
 -- A line taken for itself becomes a reading: its value and the text after it, or its refusal.
 unfoldable pub lined : {A : Type 0} → Lined A → List ℕ → ℕ → Reading A
-lined (value a) s n = read a (after LF s) (suc n)
-lined (bad f) s n = refused (faultAt n f) s
+lined (holds a) s n = read a (after LF s) (suc n)
+lined (lacks f) s n = refused (faultAt n f) s
 
 -- 'each ended by one LF': without it the line lacks its form, whatever stands in it. 'A line that is missing is faulty by 1 under the
 -- number it would have'
 unfoldable pub line : {A : Type 0} → (List ℕ → Lined A) → Reader A
-line f s n = lined (cond (has LF s) (f (before LF s)) (bad fault.Form)) s n
+line f s n = lined (cond (has LF s) (f (before LF s)) (lacks fault.Form)) s n
 
 unfoldable pub linedNumber : Number → Lined ℤ
-linedNumber (number.Value z) = value z
-linedNumber (number.Bad f) = bad (lineLacks f)
+linedNumber (number.Value z) = holds z
+linedNumber (number.Bad f) = lacks (lineLacks f)
 
 -- a line that is a key and a number from lo to hi
 abbrev pub numberLine : List ℕ → ℤ → ℤ → Reader ℤ

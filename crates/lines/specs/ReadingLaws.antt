@@ -1,5 +1,5 @@
--- What a reading that ended well tells: the reading before it ended well (`next-then`), a line had its LF and its value
--- (`line-read`), a number is in its range (`numberLine-then`), and so is a count (`countLine-then`). Each `-then` tells of the first reading and leaves the
+-- What follows from a reading that ended well: the reading before it ended well (`next-then`), a line had its LF and its value
+-- (`line-read`), a number is in its range (`numberLine-then`), and so is a count (`countLine-then`). Each `-then` speaks of the first reading and leaves the
 -- rest (`Then`).
 use mathlib.Core.Path.{_≡_, refl, sym, _∙_, ap}
 use mathlib.Core.Bool.{Bool, true, false, cond}
@@ -16,12 +16,12 @@ use Rattle.text.specs.Numbers.{decimal, numberAfter}
 use Rattle.lines.specs.declared.Fault.the-variants as fault
 use Rattle.text.specs.declared.Number.{Number}
 use Rattle.text.specs.declared.Number.the-variants as number
-use Rattle.lines.specs.Reading.{Lined, value, bad, Reading, read, refused, Reader, next, lined, line, linedNumber, numberLine, countLine}
+use Rattle.lines.specs.Reading.{Lined, holds, lacks, Reading, read, refused, Reader, next, lined, line, linedNumber, numberLine, countLine}
 use Rattle.lines.specs.Keyed.{keyed}
 
 -- ---- one reading after another
 
--- what was read first, what is told of it, and that all was read from there on
+-- what was read first, what is known of it, and that all was read from there on
 pub record Then {A B : Type 0} (P : A → List ℕ → ℕ → Type 0) (f : A → Reader B) (b : B) (t : List ℕ) (k : ℕ) : Type 0 where
   pub got : A
   pub left : List ℕ
@@ -29,9 +29,9 @@ pub record Then {A B : Type 0} (P : A → List ℕ → ℕ → Type 0) (f : A �
   pub told : P got left line
   pub more : f got left line ≡ read b t k
 
--- in a proof that reads as the reader does, each line names what is told there
-abbrev pub _>>=_ : {A B : Type 0} → A → (A → B) → B
-_>>=_ a f = f a
+-- in a proof that goes through the lines as their reader does, each line names what was read there: such a proof imports this as `_>>=_`
+abbrev pub inTurn : {A B : Type 0} → A → (A → B) → B
+inTurn a f = f a
 
 pub next-then : {A B : Type 0} (m : Reading A) (f : A → Reader B) {b : B} {t : List ℕ} {k : ℕ} → next m f ≡ read b t k → Then (λ a r i. m ≡ read a r i) f b t k
 unfolding next
@@ -46,7 +46,7 @@ next-of f e d = rw e d
 
 pub record LineRead {A : Type 0} (f : List ℕ → Lined A) (s : List ℕ) (n : ℕ) (a : A) (t : List ℕ) (k : ℕ) : Type 0 where
   pub ended : has LF s ≡ true
-  pub held : f (before LF s) ≡ value a
+  pub held : f (before LF s) ≡ holds a
   pub rest : t ≡ after LF s
   pub number : k ≡ suc n
 
@@ -55,16 +55,16 @@ unfolding line lined
 line-read {A} f s n {a} {t} {k} e = by-end (has LF s) refl e
   where
     by-value : (v : Lined A) → f (before LF s) ≡ v → has LF s ≡ true → lined v s n ≡ read a t k → LineRead f s n a t k
-    by-value (value b) h g d = record { ended = g; held = h ∙ ap value (cc); rest = cc; number = cc }
-    by-value (bad b) h g d = clash (cc)
+    by-value (holds b) h g d = record { ended = g; held = h ∙ ap holds (cc); rest = cc; number = cc }
+    by-value (lacks b) h g d = clash (cc)
 
-    by-end : (b : Bool) → has LF s ≡ b → lined (cond b (f (before LF s)) (bad fault.Form)) s n ≡ read a t k → LineRead f s n a t k
+    by-end : (b : Bool) → has LF s ≡ b → lined (cond b (f (before LF s)) (lacks fault.Form)) s n ≡ read a t k → LineRead f s n a t k
     by-end true g d = by-value (f (before LF s)) refl g d
     by-end false g d = clash (cc)
 
 -- ---- a line that is a key and a number
 
--- what a number's line tells: its range, and that the text is the number written before the rest
+-- what is known from a number's line: its range, and that the text is the number written before the rest
 pub record NumberRead (key : List ℕ) (lo hi : ℤ) (s : List ℕ) (z : ℤ) (t : List ℕ) : Type 0 where
   pub least : lo ≤ℤ z
   pub most : z ≤ℤ hi
@@ -82,7 +82,7 @@ numberLine-read key lo hi s n {z} {t} {k} e = (by-number (numberAfter key lo hi 
     l : LineRead (λ l. linedNumber (numberAfter key lo hi l)) s n z t k
     l = line-read (λ l. linedNumber (numberAfter key lo hi l)) s n e
 
-    by-number : (m : Number) → numberAfter key lo hi (before LF s) ≡ m → linedNumber m ≡ value z → NumberRead key lo hi s z t
+    by-number : (m : Number) → numberAfter key lo hi (before LF s) ≡ m → linedNumber m ≡ holds z → NumberRead key lo hi s z t
     by-number (number.Value y) p d =
         let q = numberAfter-value key lo hi z (before LF s) (cc) in
         record {
@@ -105,21 +105,20 @@ pub record CountRead (key : List ℕ) (lo hi : ℕ) (s : List ℕ) (z : ℕ) (t 
   pub most : z ≤ hi
   pub written : s ≡ keyed key (pos z) t
 
-counted : (key : List ℕ) (lo hi : ℕ) (s : List ℕ) (z : ℤ) (t : List ℕ) → NumberRead key (pos lo) (pos hi) s z t → CountRead key lo hi s (natAbs z) t
+pub counted : (key : List ℕ) (lo hi : ℕ) (s : List ℕ) (z : ℤ) (t : List ℕ) → NumberRead key (pos lo) (pos hi) s z t → CountRead key lo hi s (natAbs z) t
 counted key lo hi s (pos m) t q = record { least = omega (whole, q .least); most = omega (whole, q .most); written = q .written }
 counted key lo hi s (negsuc m) t q = absurd (omega (whole, q .least))
 
 pub countLine-then : {B : Type 0} (key : List ℕ) (lo hi : ℕ) (s : List ℕ) (n : ℕ) (f : ℕ → Reader B) {b : B} {t : List ℕ} {k : ℕ}
     → next (countLine key lo hi s n) f ≡ read b t k → Then (λ z r i. CountRead key lo hi s z r) f b t k
 unfolding next
-countLine-then key lo hi s n f e = do
-  all ← next-then (countLine key lo hi s n) f e
-  z ← numberLine-then key (pos lo) (pos hi) s n _ (all .told)
-  record {
-    got = natAbs (z .got);
-    left = z .left;
-    line = z .line;
-    told = counted key lo hi s (z .got) (z .left) (z .told);
-    more = next-of f (z .more)
-        (all .more);
-  }
+countLine-then key lo hi s n f e =
+    let all = next-then (countLine key lo hi s n) f e in
+    let z = numberLine-then key (pos lo) (pos hi) s n _ (all .told) in
+    record {
+      got = natAbs (z .got);
+      left = z .left;
+      line = z .line;
+      told = counted key lo hi s (z .got) (z .left) (z .told);
+      more = next-of f (z .more) (all .more);
+    }

@@ -1,4 +1,4 @@
--- What `refused=N,D` tells back: a line has one number and one value, whatever follows it (`refusedLine-same`, `refusedLine-one`).
+-- What is known from a line `refused=N,D`: it has one number and one value, whatever follows it (`refusedLine-same`, `refusedLine-one`).
 use Prim.Native.Nat.{ℕ}
 use mathlib.Core.Path.{_≡_, refl, sym, ap, _∙_}
 use mathlib.Core.Bool.{false}

@@ -16,8 +16,7 @@ use Rattle.lines.specs.declared.Written.{Written}
 use Rattle.lines.specs.Refusals.{number, value, ends, lineLacks, faultAt, refusedLine}
 use Rattle.lines.specs.Keyed.{keyed}
 use Rattle.lines.specs.Answers.{answerNumber, answerValue, partAt}
-use Rattle.lines.specs.Written.{writtenAs}
-use Rattle.lines.specs.Whole.{writtenWhole}
+use Rattle.lines.specs.Written.{writtenAs, writtenWhole}
 
 pub number-unique : (r : Refusal) {n m : ℕ} → n ≡ number r → m ≡ number r → n ≡ m
 number-unique r = only

@@ -1,5 +1,5 @@
-// What all texts share: their lines, keys with numbers, the refusals of the whole product and the line that tells one, and what writing into a lent slice
-// comes to. This crate knows nothing of plans.
+// What all texts share: their lines, keys with numbers, the refusals of the whole product and the line that reports one, and the result of writing into a
+// lent slice. This crate knows nothing of plans.
 
 // The most bytes that a text can have.
 pub const LONGEST_TEXT: usize = 65_536;
@@ -51,7 +51,7 @@ pub struct FaultyLine {
     pub at: usize,
 }
 
-// What writing into a lent slice comes to: the length written; or the refusal, which is 12, or the value's own where a value is judged before it is written.
+// The result of writing into a lent slice: the length written; or the refusal, which is 12, or the value's own where a value is judged before it is written.
 pub enum Written {
     Length(usize),
     Refused(Refusal),

@@ -1,4 +1,4 @@
-// A refusal told: its number, its value, and the faulty line as a part of the text.
+// A refusal reported: its number, its value, and the faulty line as a part of the text.
 use crate::TextAnswer;
 use crate::refusals::number;
 use crate::refusals::value;
@@ -7,7 +7,7 @@ ghost use lib.ListN.{drop};
 ghost use Rattle.text.specs.Lines.{LF, before};
 ghost use Rattle.lines.specs.Answers.{partAt, answerNumber, answerValue};
 
-// The line that begins at a place of a text, without its LF; nothing behind the text.
+// The line that begins at a place of a text, without its LF; nothing past the text's end.
 fn line_at(s: &[u8], at: usize) -> &[u8]
     ensures { λ r. ⌜ now r ≡ before LF (drop at (now (s .entry))) ⌝ }
 {
@@ -18,7 +18,7 @@ fn line_at(s: &[u8], at: usize) -> &[u8]
     &s[at..end]
 }
 
-// What is told of an answer to a text and of the place where its faulty line begins: n and d become the number and the value of the refusal, and the faulty
+// Reports an answer to a text, by the place where its faulty line begins: n and d become the number and the value of the refusal, and the faulty
 // line is handed back without its LF. Where nothing is refused both are 0, and the line is empty.
 pub fn tell_refusal<'a>(
     s: &'a [u8],

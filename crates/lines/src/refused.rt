@@ -10,7 +10,7 @@ ghost use Rattle.text.specs.Lent.{Stored, written};
 ghost use Rattle.lines.specs.Refusals.{refusedLine};
 ghost use Rattle.lines.specs.Written.{writtenAs};
 
-// The line of a refusal, from a place on, as far as there is room; answers the place behind it.
+// The line of a refusal, from a place on, as far as there is room; answers the place after it.
 pub fn put_refused(out: &mut [u8], at: usize, x: Refusal) -> usize
     requires { ⌜ at ≤ 2 ^ 59 ⌝ }
     ensures { λ r. ⌜ Stored (now (out .entry)) at (refusedLine x) (now (out .exit)) r ⌝ }

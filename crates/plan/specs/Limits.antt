@@ -34,6 +34,10 @@ mostBounds = 64
 abbrev pub mostLines : ℕ
 mostLines = 4 + 4 * mostJobs + 1 + mostBounds
 
+-- the longest key of a line that is a key and a number, `deadline=`
+abbrev pub longestKey : ℕ
+longestKey = 9
+
 -- 'c from -1,000,000,000 to 1,000,000,000'
 abbrev pub greatestC : ℤ
 greatestC = pos 1000000000

@@ -1,7 +1,7 @@
--- What an accepted text tells of the plan and of itself: the plan is accepted (`planHead-accepted`, `planAlone-accepted`), the text is the plan written out
+-- What is known of an accepted text and its plan: the plan is accepted (`planHead-accepted`, `planAlone-accepted`), the text is the plan written out
 -- (`planHead-written`, `planAlone-written`), the places beyond the plan's jobs and bounds hold zeros (`-trimmed`), and the text is short enough (`-fits`). So a
 -- plan that was read and is written out is read again as the same plan (`planAlone-again`), and no two texts are the same plan (`planAlone-unique`).
--- `jobLines-then`, `jobsAfter-then`, `boundParts-read`, `boundOfLine-read`, `boundsAfter-then` and `planLines-read` tell it of the lines and their groups.
+-- `jobLines-then`, `jobsAfter-then`, `boundParts-read`, `boundOfLine-read`, `boundsAfter-then` and `planLines-read` say it of the lines and their groups.
 use mathlib.Core.Path.{_≡_, refl, sym, _∙_, ap, subst}
 use mathlib.Core.Bool.{Bool, true, false, not, cond, _&&_}
 use mathlib.Core.List.{List, [], _∷_, _++_, append-assoc, append-nil}
@@ -26,7 +26,7 @@ use Rattle.plan.specs.declared.EventName.{EventName}
 use Rattle.plan.specs.declared.Bound.{Bound}
 use Rattle.plan.specs.declared.BoundLine.the-variants as boundLine
 use Rattle.plan.specs.declared.Plan.{Plan}
-use Rattle.lines.specs.Reading.{longestText, value, Reading, read, refused, Reader, next}
+use Rattle.lines.specs.Reading.{longestText, holds, Reading, read, refused, Reader, next}
 use Rattle.plan.specs.Limits.{mostJobs, mostBounds, leastC, greatestC}
 use Rattle.lines.specs.Refusals.{tooLong}
 use Rattle.plan.specs.PlanLines.{
@@ -56,7 +56,7 @@ use Rattle.lines.specs.Keyed.{keyed}
 use Rattle.plan.specs.PlanWritten.{boundBytes, jobsText, boundsText, trimmed, planText}
 use Rattle.plan.specs.ListLaws.{All, All-at, filled-length, filled-at, filled-take, filled-all}
 use Rattle.plan.specs.Accepted.{JobAccepted, BoundAccepted, Accepted}
-use Rattle.lines.specs.ReadingLaws.{Then, _>>=_, next-then, next-of, line-read, line-written, numberLine-then, countLine-then}
+use Rattle.lines.specs.ReadingLaws.{Then, inTurn as _>>=_, next-then, next-of, line-read, line-written, numberLine-then, countLine-then}
 
 -- ---- jobs
 
@@ -176,7 +176,7 @@ isJob-range jobs i e = by-tests (leb 1 i) (leb i jobs) refl refl e
     by-tests true false p q e = clash (cc)
     by-tests false b p q e = clash (cc)
 
-pub boundOfLine-read : (jobs : ℕ) (given : List Bound) (l : List ℕ) {d : Bound} → linedBound (boundOfLine jobs given l) ≡ value d → BoundRead jobs given l d
+pub boundOfLine-read : (jobs : ℕ) (given : List Bound) (l : List ℕ) {d : Bound} → linedBound (boundOfLine jobs given l) ≡ holds d → BoundRead jobs given l d
 unfolding linedBound boundOf boundParts
 boundOfLine-read jobs given l {d} e = by-parts (boundParts (afterKey (bytes "bound=") l)) refl e
   where
@@ -193,7 +193,7 @@ boundOfLine-read jobs given l {d} e = by-parts (boundParts (afterKey (bytes "bou
     by-pair : (q : BoundParts) → boundParts (afterKey (bytes "bound=") l) ≡ some q → isJob jobs (q .a .job) ≡ true → isJob jobs (q .b .job) ≡ true
         → leZ leastC (numberValue (q .c)) ≡ true → leZ (numberValue (q .c)) greatestC ≡ true
         → (t : Bool) → isWrongPair (q .a) (q .b) given ≡ t
-        → linedBound (cond t (boundLine.Bad fault.Pair) (boundLine.Value (record { a = q .a; b = q .b; c = numberValue (q .c) }))) ≡ value d
+        → linedBound (cond t (boundLine.Bad fault.Pair) (boundLine.Value (record { a = q .a; b = q .b; c = numberValue (q .c) }))) ≡ holds d
         → BoundRead jobs given l d
     by-pair q p ja jb cl cm true w e = clash (cc)
     by-pair q p ja jb cl cm false w e =
@@ -211,14 +211,14 @@ boundOfLine-read jobs given l {d} e = by-parts (boundParts (afterKey (bytes "bou
         → isJob jobs (q .b .job) ≡ jb → leZ leastC (numberValue (q .c)) ≡ cl → leZ (numberValue (q .c)) greatestC ≡ cm
         → linedBound (cond (not (ja && jb && (cl && cm))) (boundLine.Bad fault.Range)
         (cond (isWrongPair (q .a) (q .b) given) (boundLine.Bad fault.Pair) (boundLine.Value (record { a = q .a; b = q .b; c = numberValue (q .c) }))))
-        ≡ value d → BoundRead jobs given l d
+        ≡ holds d → BoundRead jobs given l d
     by-range q p true true true true p1 p2 p3 p4 e = by-pair q p p1 p2 p3 p4 (isWrongPair (q .a) (q .b) given) refl e
     by-range q p true true true false p1 p2 p3 p4 e = clash (cc)
     by-range q p true true false cm p1 p2 p3 p4 e = clash (cc)
     by-range q p true false cl cm p1 p2 p3 p4 e = clash (cc)
     by-range q p false jb cl cm p1 p2 p3 p4 e = clash (cc)
 
-    by-parts : (o : Option BoundParts) → boundParts (afterKey (bytes "bound=") l) ≡ o → linedBound (boundOf jobs (λ a b. isWrongPair a b given) o) ≡ value d
+    by-parts : (o : Option BoundParts) → boundParts (afterKey (bytes "bound=") l) ≡ o → linedBound (boundOf jobs (λ a b. isWrongPair a b given) o) ≡ holds d
         → BoundRead jobs given l d
     by-parts none p e = clash (cc)
     by-parts (some q) p e = by-range q p (isJob jobs (q .a .job)) (isJob jobs (q .b .job)) (leZ leastC (numberValue (q .c)))
@@ -275,7 +275,7 @@ boundsAfter-then jobs given (suc left) s n f e = do
 
 -- ---- the plan
 
--- what a plan's lines tell: the plan is accepted, its text is what was read, and the places beyond its jobs and bounds hold zeros
+-- what is known once a plan's lines were read: the plan is accepted, its text is what was read, and the places beyond its jobs and bounds hold zeros
 pub record PlanRead (s : List ℕ) (p : Plan) (t : List ℕ) : Type 0 where
   pub accepted : Accepted p
   pub written : planText p ++ t ≡ s
@@ -380,7 +380,7 @@ nothingAfter-read (read q [] n) e = (e, cc)
 nothingAfter-read (read q (a ∷ s) n) e = clash (cc)
 nothingAfter-read (refused r s) e = clash (cc)
 
--- ---- what an accepted text tells
+-- ---- what is known of an accepted text
 
 module _ (s : List ℕ) {p : Plan} {t : List ℕ} {k : ℕ} (e : planHead s ≡ read p t k) where
   pub planHead-accepted : Accepted p

@@ -19,7 +19,7 @@ use Rattle.plan.specs.declared.BoundLine.{BoundLine}
 use Rattle.plan.specs.declared.BoundLine.the-variants as boundLine
 use Rattle.plan.specs.declared.Plan.{Plan}
 use Rattle.lines.specs.declared.Refusal.the-variants.{Form}
-use Rattle.lines.specs.Reading.{longestText, Lined, value, bad, Reading, read, refused, Reader, _>>=_, answer, line, numberLine, countLine}
+use Rattle.lines.specs.Reading.{longestText, Lined, holds, lacks, Reading, read, refused, Reader, _>>=_, answer, line, numberLine, countLine}
 use Rattle.plan.specs.Limits.{longestWindow, mostRounds, mostWindows, mostJobs, longestRunning, latestDeadline, mostBounds, leastC, greatestC}
 use Rattle.lines.specs.Refusals.{tooLong}
 use Rattle.plan.specs.EventNames.{eventName, sameEvent, isNext}
@@ -88,8 +88,8 @@ boundOf jobs isWrong none = boundLine.Bad fault.Form
 boundOf jobs isWrong (some q) = judgedBound jobs isWrong (record { a = q .a; b = q .b; c = numberValue (q .c) })
 
 unfoldable pub linedBound : BoundLine → Lined Bound
-linedBound (boundLine.Value b) = value b
-linedBound (boundLine.Bad f) = bad f
+linedBound (boundLine.Value b) = holds b
+linedBound (boundLine.Bad f) = lacks f
 
 abbrev pub boundOfLine : ℕ → List Bound → List ℕ → BoundLine
 boundOfLine jobs given l = boundOf jobs (λ a b. isWrongPair a b given) (boundParts (afterKey (bytes "bound=") l))

@@ -13,7 +13,7 @@ use Rattle.text.specs.declared.Number.{Number}
 use Rattle.text.specs.declared.Number.the-variants as number
 use Rattle.clock.specs.declared.RunTime.{RunTime}
 use Rattle.lines.specs.Refusals.{lineLacks}
-use Rattle.lines.specs.Reading.{Lined, value, bad, Reader, line}
+use Rattle.lines.specs.Reading.{Lined, holds, lacks, Reader, line}
 use Rattle.runs.specs.declared.Step.{Step}
 use Rattle.runs.specs.declared.Step.the-variants.{Ask, Start, Finish}
 use Rattle.runs.specs.declared.Choice.the-variants.{At, Auto}
@@ -57,8 +57,8 @@ unfoldable pub stepIn : List ℕ → StepLine
 stepIn l = cond (isText (bytes "ask=offer") l) (Value Ask) (startStep l (afterKey (bytes "start=") l))
 
 unfoldable pub linedStep : StepLine → Lined Step
-linedStep (Value st) = value st
-linedStep (Bad f) = bad f
+linedStep (Value st) = holds st
+linedStep (Bad f) = lacks f
 
 unfoldable pub stepLine : Reader Step
 stepLine = line (λ l. linedStep (stepIn l))

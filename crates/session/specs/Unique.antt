@@ -6,7 +6,7 @@ use lib.ListN.{length, take}
 use Rattle.text.specs.Unique.{only}
 use Rattle.text.specs.Lent.{written}
 use Rattle.lines.specs.declared.Written.{Written}
-use Rattle.lines.specs.Whole.{writtenWhole}
+use Rattle.lines.specs.Written.{writtenWhole}
 use Rattle.lines.specs.Unique.{whole-unique}
 use Rattle.lines.specs.Reading.{refusedNumber, refusedValue, faultyPart}
 use Rattle.session.specs.SessionRead.{sessionRead}

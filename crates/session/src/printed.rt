@@ -6,7 +6,7 @@ use lines::Written;
 ghost use mathlib.Core.Path.{_≡_};
 ghost use Prim.Native.Nat.{_≤_};
 ghost use lib.ListN.{length, take};
-ghost use Rattle.lines.specs.Whole.{writtenWhole};
+ghost use Rattle.lines.specs.Written.{writtenWhole};
 ghost use Rattle.session.specs.Sessions.{dispatchOutput};
 
 // The answer to a session text, and its length. No text is refused by 12: the last arm is never reached.

@@ -1,4 +1,4 @@
--- The text of a plan's value is never too long: `PlanFits` is what the types of a plan tell of its numbers, and `planText-short` the bound.
+-- The text of a plan's value is never too long: `PlanFits` is what the types of a plan say of its numbers, and `planText-short` the bound.
 use Prim.Native.Nat.{ℕ, _+_, _*_, _^_, _≤_, _<_}
 use mathlib.Core.List.{List, [], _∷_, _++_}
 use native.Mathlib.Omega.{arith}
@@ -16,13 +16,14 @@ use Rattle.plan.specs.declared.Bound.{Bound}
 use Rattle.plan.specs.declared.Plan.{Plan}
 use Rattle.lines.specs.Reading.{longestText}
 use Rattle.plan.specs.EventNames.{nameBytes}
-use Rattle.lines.specs.Keyed.{longestKey, keyed}
+use Rattle.lines.specs.Keyed.{keyed}
+use Rattle.plan.specs.Limits.{longestKey}
 use Rattle.plan.specs.PlanWritten.{jobsText, boundsText, jobsOf, boundsOf, planText}
 use Rattle.lines.specs.KeyedLaws.{keyed-short, count-short}
 use Rattle.plan.specs.ListLaws.{All}
 use Rattle.values.specs.JudgedLines.{Key, keys, HasPlaces}
 
--- what the types of a plan tell of its numbers: none is longer than 20 bytes
+-- what the types of a plan say of its numbers: none is longer than 20 bytes
 pub record JobFits (j : Job) : Type 0 where
   pub min : SFits w64 (j .min)
   pub max : SFits w64 (j .max)

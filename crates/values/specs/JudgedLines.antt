@@ -1,7 +1,7 @@
 -- A plan judged as a value is judged as its text would be (`judgedPlan-is`). One line: `numberLine-judged`, `countLine-judged`, `boundLine-judged`; the
 -- groups: `jobLines-judged`, `jobsAfter-judged`, `boundsAfter-judged`. A law is stated of what is made of a reading that ends with its refusal (`Ending`), so
 -- that it serves at any place of the plan. What is made of it may be the answer (`judgedPlan-is`) or the plan that was read (`accepted-again` in
--- `AgainLaws`): `planLines-judged` tells both.
+-- `AgainLaws`): `planLines-judged` says both.
 use mathlib.Core.Path.{_≡_, refl, sym, _∙_, ap}
 use mathlib.Core.Bool.{Bool, true, false, not, cond, _&&_}
 use mathlib.Core.List.{List, [], _∷_, _++_, append-assoc, append-nil}
@@ -38,7 +38,7 @@ use Rattle.lines.specs.declared.TextAnswer.the-variants.{Accepted, Refused}
 use Rattle.lines.specs.declared.Refusal.{Refusal}
 use Rattle.lines.specs.declared.Refusal.the-variants.{Form, Range, Pair}
 use Rattle.lines.specs.Reading.{longestText, Lined, Reading, read, refused, Reader, next, _>>=_, answer, lined, line, linedNumber, numberLine, countLine}
-use Rattle.plan.specs.Limits.{longestWindow, mostRounds, mostWindows, mostJobs, longestRunning, latestDeadline, mostBounds, leastC, greatestC}
+use Rattle.plan.specs.Limits.{longestWindow, mostRounds, mostWindows, mostJobs, longestRunning, latestDeadline, mostBounds, leastC, greatestC, longestKey}
 use Rattle.plan.specs.EventNames.{letterByte, kindByte, nameBytes, eventName}
 use Rattle.plan.specs.EventNameLaws.{eventName-back, eventName-long}
 use Rattle.plan.specs.PlanLines.{
@@ -58,7 +58,7 @@ use Rattle.plan.specs.PlanLines.{
   planLines,
   nothingAfter,
 }
-use Rattle.lines.specs.Keyed.{longestKey, keyed}
+use Rattle.lines.specs.Keyed.{keyed}
 use Rattle.plan.specs.PlanWritten.{jobsText, boundBytes, boundsText, jobsOf, boundsOf, trimmed, planText, refusalOf, judgedPlan}
 use Rattle.plan.specs.HeadLaws.{planHead-short}
 use Rattle.plan.specs.PlanLaws.{boundBytes-append}

@@ -15,7 +15,7 @@ use Rattle.lines.specs.declared.Written.{Written}
 use Rattle.lines.specs.declared.Written.the-variants.{Length, Refused}
 use Rattle.lines.specs.Written.{writtenAs}
 use Rattle.calendars.specs.CalendarText.{calendarOutput}
-use Rattle.lines.specs.WholeLaws.{answered-whole, answered-never}
+use Rattle.lines.specs.WrittenLaws.{answered-whole, answered-never}
 use borrow.Author.Needs.{needs}
 use Rattle.calendars.proofs.printed.answer_whole.Statement.{statement}
 use Rattle.calendars.proofs.printed.answer_whole.Tie as tie

@@ -1,4 +1,4 @@
--- `line_at`: behind the text there is nothing; else the line begins before its end (`nextLine-at`), and goes up to its LF (`lineTo-len`).
+-- `line_at`: past the text's end there is nothing; else the line begins before its end (`nextLine-at`), and goes up to its LF (`lineTo-len`).
 use mathlib.Core.Path.{_≡_, sym, _∙_, ap}
 use mathlib.Core.List.{List}
 use Prim.Native.Nat.{ℕ, _+_, _≤_}
@@ -40,13 +40,13 @@ sub-end : tie.Need-sub-end
 sub-end c = omega (arith, ends c)
 
 sub-result : tie.Need-sub-result
-sub-result c = omega (arith, ends c)
+sub-result c = omega (arith, within c, ends c)
 
 part-result-start : tie.Need-part-result-start
-part-result-start c = omega (arith, ends c)
+part-result-start c = omega (arith, within c, ends c)
 
 part-result-end : tie.Need-part-result-end
-part-result-end c = omega (arith, ends c, lenTo-fits LF (drop (place c) (text c)), length-drop (place c) (text c))
+part-result-end c = omega (arith, within c, ends c, lenTo-fits LF (drop (place c) (text c)), length-drop (place c) (text c))
 
 returns-2 : tie.Need-returns-2
 returns-2 c =

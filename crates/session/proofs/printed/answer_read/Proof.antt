@@ -3,7 +3,7 @@ use native.Mathlib.Omega.{arith}
 use denote.Ref.{now}
 use lib.ListN.{length-take}
 use Rattle.session.specs.Sessions.{dispatchOutput}
-use Rattle.lines.specs.WholeLaws.{whole-cut}
+use Rattle.lines.specs.WrittenLaws.{whole-cut}
 use borrow.Author.Needs.{needs}
 use Rattle.session.proofs.printed.answer_read.Statement.{statement}
 use Rattle.session.proofs.printed.answer_read.Tie as tie
