@@ -1,5 +1,5 @@
 -- The laws of event names. Three bytes are a name by their letter, kind and digit (`eventName-three`), and nothing else is one (`eventName-other`). An event's
--- number is small (`eventNumber-fits`) and tells it from every other (`sameEvent-number`).
+-- number is small (`eventNumber-fits`) and no other event has it (`sameEvent-number`).
 use mathlib.Core.Path.{_≡_, refl, sym, _∙_, ap, subst}
 use mathlib.Core.Bool.{Bool, true, false, cond, _&&_}
 use mathlib.Core.List.{List, [], _∷_}

@@ -89,6 +89,6 @@ abbrev pub kindNumber : Kind → ℕ
 kindNumber Start = 0
 kindNumber Finish = 1
 
--- a number that tells an event from every other
+-- a number that no other event has
 abbrev pub eventNumber : EventName → ℕ
 eventNumber e = e .job * 4 + letterNumber (e .letter) * 2 + kindNumber (e .kind)

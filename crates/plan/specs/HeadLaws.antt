@@ -1,29 +1,23 @@
--- The laws by which the reader of a plan is right: the length comes first (`planHead-long`, `planHead-short`), each group of lines ends with its refusal
--- (`planRest-jobs`, `-count`, `-bounds`) or all are read (`planRest-all`), and an answer with a place is the answer that the definition tells
--- (`planRead-refused`, `planRead-accepted`). Back from an answer: the text was read as its plan (`planRead-took`), or refused at its place
--- (`planRead-fault`).
+-- The laws by which the reader of a plan is right: the length comes first (`planHead-long`, `planHead-short`), and an answer with a place is the answer that
+-- the definition has (`planRead-refused`, `planRead-accepted`). Back from an answer: the text was read as its plan (`planRead-took`), or refused at its
+-- place (`planRead-fault`).
 use mathlib.Core.Path.{_≡_, refl, sym, _∙_, ap, subst}
 use mathlib.Core.List.{List, [], _∷_}
 use Prim.Native.Nat.{ℕ, _-_, _≤_, _<_}
 use native.Mathlib.Omega.{arith}
 use borrow.Author.Tests.{le-leb, lt-leb}
-use lib.IntN.{ℤ, pos, natAbs}
 use lib.ListN.{length, drop, length-drop, length-append}
 use lib.Seq.{drop-length}
 use Rattle.whole.specs.Clash.{clash}
-use Rattle.plan.specs.Limits.{mostBounds}
-use Rattle.text.specs.Bytes.{bytes}
 use Rattle.lines.specs.declared.Refusal.{Refusal}
 use Rattle.lines.specs.declared.Refusal.the-variants.{Form}
 use Rattle.lines.specs.declared.FaultyLine.{FaultyLine}
-use Rattle.plan.specs.declared.Job.{Job}
-use Rattle.plan.specs.declared.Bound.{Bound}
 use Rattle.plan.specs.declared.Plan.{Plan}
 use Rattle.plan.specs.declared.PlanRead.{PlanRead}
 use Rattle.lines.specs.PartLaws.{Tail, tail-place, leaves}
 use Rattle.lines.specs.declared.TextAnswer.the-variants.{Accepted, Refused}
-use Rattle.lines.specs.Reading.{longestText, Reading, read, refused, next, numberLine}
-use Rattle.plan.specs.PlanLines.{jobsAfter, boundsAfter, planOf, planRest, planLines, planHead, nothingAfter}
+use Rattle.lines.specs.Reading.{longestText, Reading, read, refused}
+use Rattle.plan.specs.PlanLines.{planLines, planHead, nothingAfter}
 use Rattle.plan.specs.PlanWritten.{planText}
 use Rattle.plan.specs.PlanLaws.{planHead-written}
 use Rattle.plan.specs.PlanAnswers.{planRead, refusedRead}
@@ -39,43 +33,20 @@ pub planHead-short : (s : List ℕ) → length s ≤ longestText → planHead s 
 unfolding planHead
 planHead-short s h = rw (le-leb (length s) longestText h)
 
--- ---- the lines after the first four
-
-module _ (window : ℤ) (rounds last jobs : ℕ) (s : List ℕ) where
-  pub planRest-jobs : {x : Refusal} {t : List ℕ} → jobsAfter [] jobs s 5 ≡ refused x t → planRest window rounds last jobs s 5 ≡ refused x t
-  unfolding next
-  planRest-jobs e = rw e
-
-  module _ {js : List Job} {s₁ : List ℕ} {n₁ : ℕ} (e₁ : jobsAfter [] jobs s 5 ≡ read js s₁ n₁) where
-    pub planRest-count : {x : Refusal} {t : List ℕ} → numberLine (bytes "bounds=") (pos 0) (pos mostBounds) s₁ n₁ ≡ refused x t
-        → planRest window rounds last jobs s 5 ≡ refused x t
-    unfolding next
-    planRest-count e = rw (e₁, e)
-
-    module _ {z : ℤ} {s₂ : List ℕ} {n₂ : ℕ} (e₂ : numberLine (bytes "bounds=") (pos 0) (pos mostBounds) s₁ n₁ ≡ read z s₂ n₂) where
-      pub planRest-bounds : {x : Refusal} {t : List ℕ} → boundsAfter jobs [] (natAbs z) s₂ n₂ ≡ refused x t → planRest window rounds last jobs s 5 ≡ refused x t
-      unfolding next
-      planRest-bounds e = rw (e₁, e₂, e)
-
-      pub planRest-all : {ds : List Bound} {t : List ℕ} {n : ℕ} → boundsAfter jobs [] (natAbs z) s₂ n₂ ≡ read ds t n
-          → planRest window rounds last jobs s 5 ≡ read (planOf window rounds last jobs js (natAbs z) ds) t n
-      unfolding next
-      planRest-all e = rw (e₁, e₂, e)
-
 -- ---- the answer
 
-place-back : (s : List ℕ) (at : ℕ) → at ≤ length s → length s - length (drop at s) ≡ at
-place-back s at h = omega (arith, length-drop at s)
+dropped-place : (s : List ℕ) (at : ℕ) → at ≤ length s → length s - length (drop at s) ≡ at
+dropped-place s at h = omega (arith, length-drop at s)
 
 module _ (s : List ℕ) {m : Reading Plan} where
   pub planRead-refused : (f : FaultyLine) → f .at ≤ length s → m ≡ faultyIn s f → refusedRead f ≡ planRead s m
   unfolding planRead
-  planRead-refused f h e = sym (ap (planRead s) e ∙ ap (λ (k : ℕ). refusedRead (record { refusal = f .refusal; at = k })) (place-back s (f .at) h))
+  planRead-refused f h e = sym (ap (planRead s) e ∙ ap (λ (k : ℕ). refusedRead (record { refusal = f .refusal; at = k })) (dropped-place s (f .at) h))
 
   pub planRead-accepted : (p : Plan) (at n : ℕ) → at ≤ length s → m ≡ read p (drop at s) n
       → planRead s m ≡ record { answer = Accepted; plan = p; at = at; line = n }
   unfolding planRead
-  planRead-accepted p at n h e = ap (planRead s) e ∙ rw (place-back s at h)
+  planRead-accepted p at n h e = ap (planRead s) e ∙ rw (dropped-place s at h)
 
 -- ---- and back: what was read where the text was accepted, where it was refused, and that the place is one of the text
 

@@ -1,4 +1,4 @@
--- The laws of lists that the plan's arrays need: what is told of each element (`All`) is told at each place (`All-at`), and back (`All-of`), and of one more
+-- The laws of lists that the plan's arrays need: what holds of each element (`All`) holds at each place (`All-at`), and back (`All-of`), and of one more
 -- (`All-more`); an array that a list fills has its size, the list's elements at the first places (`filled-at`), and its beginnings (`filled-take`,
 -- `filled-all`). `Filling` is such an array while it is being filled.
 use mathlib.Core.Path.{_≡_, sym, _∙_, ap}
@@ -10,7 +10,7 @@ use lib.ListN.{length, take, drop, set, getD, replicate, length-append, length-r
 use lib.Seq.{take-append-le, take-all, drop-set-lt, drop-drop}
 use Rattle.plan.specs.PlanLines.{filled}
 
--- what is told of each element
+-- what holds of each element
 abbrev pub All : {A : Type 0} → (A → Type 0) → List A → Type 0
 All P [] = Unit
 All P (x ∷ xs) = P x × All P xs
@@ -33,7 +33,7 @@ All-take P zero xs h = tt
 All-take P (suc n) [] h = tt
 All-take P (suc n) (x ∷ xs) h = (h .0, All-take P n xs (h .1))
 
--- what is told at each of the first places is told of each element there
+-- what holds at each of the first places holds of each element there
 pub All-of : {A : Type 0} (P : A → Type 0) (xs : List A) (d : A) (n : ℕ) → n ≤ length xs → ((i : ℕ) → i < n → P (getD xs i d)) → All P (take n xs)
 All-of P xs d zero l f = tt
 All-of P [] d (suc n) l f = absurd (omega arith)

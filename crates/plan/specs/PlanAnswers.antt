@@ -1,4 +1,4 @@
--- What the readers of a plan answer, of the reading that the definitions give. On a refusal the plan is the empty one.
+-- What the readers of a plan answer, from the reading that the definitions give. On a refusal the plan is the empty one.
 use Prim.Native.Nat.{ℕ, _-_}
 use mathlib.Core.List.{List, []}
 use lib.IntN.{pos}
@@ -17,7 +17,7 @@ emptyPlan = planOf (pos 0) 0 0 0 [] 0 []
 abbrev pub refusedRead : FaultyLine → PlanRead
 refusedRead f = record { answer = Refused (f .refusal); plan = emptyPlan; at = f .at; line = 0 }
 
--- the answer to a text s: a place in it is told by how much of the text is left there
+-- the answer to a text s: a place in it follows from how much of the text is left there
 unfoldable pub planRead : List ℕ → Reading Plan → PlanRead
 planRead s (read p t n) = record { answer = Accepted; plan = p; at = length s - length t; line = n }
 planRead s (refused r t) = refusedRead (record { refusal = r; at = length s - length t })

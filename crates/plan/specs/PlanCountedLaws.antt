@@ -1,4 +1,4 @@
--- Each line of a plan takes a byte at least, so the number of the line behind it is at most the count of its bytes (`planHead-line`).
+-- Each line of a plan takes a byte at least, so the number of the line after it is at most the count of its bytes (`planHead-line`).
 use Prim.Native.Nat.{ℕ, zero, suc, _+_, _≤_}
 use mathlib.Core.Path.{_≡_}
 use mathlib.Core.Bool.{Bool, true, false, cond}

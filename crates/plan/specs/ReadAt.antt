@@ -1,7 +1,7 @@
 -- The answers of the code's line readers, as readings of the text that they stand in: a place in the text stands for the text from there on.
 use Prim.Native.Nat.{ℕ, _+_, _*_, _≤_}
 use mathlib.Core.Path.{_≡_}
-use mathlib.Core.List.{List}
+use mathlib.Core.List.{List, []}
 use mathlib.Core.Bool.{Bool}
 use Rattle.text.specs.Bytes.{bytes}
 use Rattle.text.specs.Lines.{afterKey}
@@ -9,7 +9,7 @@ use lib.IntN.{ℤ, pos}
 use lib.ListN.{length, take, drop}
 use Rattle.lines.specs.declared.FaultyLine.{FaultyLine}
 use Rattle.plan.specs.declared.NumberLine.{NumberLine}
-use Rattle.plan.specs.declared.NumberLine.the-variants as numberLine
+use Rattle.plan.specs.declared.NumberLine.the-variants as lineAnswer
 use Rattle.plan.specs.declared.Job.{Job}
 use Rattle.plan.specs.declared.JobLines.{JobLines}
 use Rattle.plan.specs.declared.JobLines.the-variants as jobLines
@@ -23,16 +23,21 @@ use Rattle.plan.specs.declared.First.{First}
 use Rattle.plan.specs.declared.Went.{Went}
 use Rattle.plan.specs.declared.Went.the-variants as went
 use Rattle.plan.specs.declared.Jobs.{Jobs}
-use Rattle.plan.specs.Limits.{mostJobs, mostBounds}
+use Rattle.plan.specs.Limits.{mostJobs, mostBounds, mostRounds, mostWindows, longestRunning, latestDeadline}
 use Rattle.plan.specs.Pairs.{isWrongNumbered}
-use Rattle.plan.specs.PlanLines.{boundParts, boundOf, linedBound, noJob, noBound, filled, planRest}
-use Rattle.lines.specs.Reading.{Lined, Reading, Reader, line}
+use Rattle.plan.specs.PlanLines.{boundParts, boundOf, linedBound, boundsAfter, noJob, noBound, filled, planOf, planRest}
+use Rattle.lines.specs.Reading.{Lined, Reading, Reader, _>>=_, answer, line, numberLine, countLine}
 use Rattle.lines.specs.ReadAt.{faultyIn, At, goes, stops, atTold, atPlace}
 
 -- the answers of the code
 abbrev pub numberLineAt : NumberLine → At ℤ
-numberLineAt (numberLine.Value z at) = goes z at
-numberLineAt (numberLine.Bad f) = stops f
+numberLineAt (lineAnswer.Value z at) = goes z at
+numberLineAt (lineAnswer.Bad f) = stops f
+
+-- x is the answer to line n of the text s, a key and a number, which begins at a place
+pub record LineAt (s key : List ℕ) (lo hi : ℤ) (at n : ℕ) (x : NumberLine) : Type 0 where
+  pub told : numberLine key lo hi (drop at s) n ≡ atTold s (n + 1) (numberLineAt x)
+  pub place : atPlace (numberLineAt x) ≤ length s
 
 abbrev pub jobLinesAt : JobLines → At Job
 jobLinesAt (jobLines.Value j at) = goes j at
@@ -51,7 +56,7 @@ wentAt a (went.Bad f) = stops f
 abbrev pub endAt : Went → At (Unit {0})
 endAt w = wentAt tt w
 
--- what is told of a group that was read
+-- what holds of a group that was read
 abbrev pub IfOn : Went → Type 0 → Type 0
 IfOn (went.On at) P = P
 IfOn (went.Bad f) P = Unit
@@ -76,6 +81,50 @@ boundsTold s n bounds r = atTold s (n + bounds) (wentAt (take bounds (r .bound))
 
 abbrev pub boundsFilled : ℕ → Bounds → Type 0
 boundsFilled bounds r = IfOn (r .went) (r .bound ≡ filled mostBounds noBound (take bounds (r .bound)))
+
+-- ---- what is left of a job's lines, and of a plan's, once the lines before were read
+
+abbrev pub jobFromDeadline : ℤ → ℤ → ℤ → Reader Job
+jobFromDeadline min max release = do
+  deadline ← numberLine (bytes "deadline=") (pos 0) latestDeadline
+  answer (record { min = min; max = max; release = release; deadline = deadline })
+
+abbrev pub jobFromRelease : ℤ → ℤ → Reader Job
+jobFromRelease min max = do
+  release ← numberLine (bytes "release=") (pos 0) latestDeadline
+  jobFromDeadline min max release
+
+abbrev pub jobFromMax : ℤ → Reader Job
+jobFromMax min = do
+  max ← numberLine (bytes "max=") min longestRunning
+  jobFromRelease min max
+
+abbrev pub planFromJobs : ℤ → ℕ → ℕ → Reader Plan
+planFromJobs window rounds last = do
+  jobs ← countLine (bytes "jobs=") 1 mostJobs
+  planRest window rounds last jobs
+
+abbrev pub planFromLast : ℤ → ℕ → Reader Plan
+planFromLast window rounds = do
+  last ← countLine (bytes "last=") 1 mostWindows
+  planFromJobs window rounds last
+
+abbrev pub planFromRounds : ℤ → Reader Plan
+planFromRounds window = do
+  rounds ← countLine (bytes "rounds=") 1 mostRounds
+  planFromLast window rounds
+
+abbrev pub planFromBounds : ℤ → ℕ → ℕ → ℕ → List Job → ℕ → Reader Plan
+planFromBounds window rounds last jobs job bounds = do
+  bound ← boundsAfter jobs [] bounds
+  answer (planOf window rounds last jobs job bounds bound)
+
+abbrev pub planFromCount : ℤ → ℕ → ℕ → ℕ → List Job → Reader Plan
+planFromCount window rounds last jobs job = do
+  bounds ← countLine (bytes "bounds=") 0 mostBounds
+  planFromBounds window rounds last jobs job bounds
+
+-- ---- the first four lines
 
 -- what is left of the plan's lines after the first four, or their fault
 abbrev pub firstRest : List ℕ → First → Went → Reading Plan

@@ -1,76 +1,66 @@
--- The laws by which the code's readers of groups of lines are right: the fault of a group is the same whatever was read there (`endAt-fault`), and a group
--- ends with the first refusal (`jobLines-first` to `jobLines-fourth`, `planLines-first` to `planLines-fourth`) or is read (`jobLines-all`, `planLines-rest`).
-use mathlib.Core.Path.{_≡_, refl}
+-- The laws by which the code's readers of lines are right: a group ends where it ends whatever was read there (`endAt-fault`, `endAt-place`). A reading
+-- begins with the first line of a plan (`planLines-rest`) or of a job (`jobLines-rest`); one line more is read, and what follows it is left (`line-goes`), with
+-- its number in its range (`line-range`, `count-range`), or it is refused, and with it all (`line-stops`, of a plan's first lines `first-stops`).
+use mathlib.Core.Path.{_≡_, refl, ap, subst, sym}
 use mathlib.Core.List.{List}
-use Prim.Native.Nat.{ℕ, _-_}
+use Prim.Native.Nat.{ℕ, _+_, _≤_}
+use native.Mathlib.Omega.{arith}
 use lib.IntN.{ℤ, pos, natAbs}
+use lib.ListN.{length, drop}
 use Rattle.text.specs.Bytes.{bytes}
-use Rattle.lines.specs.declared.Refusal.{Refusal}
+use Rattle.lines.specs.declared.FaultyLine.{FaultyLine}
+use Rattle.plan.specs.declared.NumberLine.{NumberLine}
+use Rattle.plan.specs.declared.NumberLine.the-variants as lineAnswer
+use Rattle.plan.specs.declared.Plan.{Plan}
+use Rattle.plan.specs.declared.First.{First}
 use Rattle.plan.specs.declared.Went.{Went}
 use Rattle.plan.specs.declared.Went.the-variants as went
-use Rattle.lines.specs.ReadAt.{atFault}
-use Rattle.plan.specs.ReadAt.{wentAt, endAt}
-use Rattle.plan.specs.Limits.{longestWindow, mostJobs, longestRunning, latestDeadline, mostRounds, mostWindows}
-use Rattle.lines.specs.Reading.{read, refused, next, numberLine}
-use Rattle.plan.specs.PlanLines.{jobLines, planRest, planLines}
+use Rattle.lines.specs.Reading.{Reading, Reader, _>>=_, numberLine}
+use Rattle.lines.specs.ReadingLaws.{NumberRead, CountRead, counted, numberLine-read}
+use Rattle.lines.specs.ReadAt.{atPlace, atFault, faultyIn, RestAt}
+use Rattle.lines.specs.ReadAtLaws.{atTold-goes, restAt-goes, restAt-stops}
+use Rattle.plan.specs.Limits.{longestWindow, longestRunning}
+use Rattle.plan.specs.PlanLines.{jobLines, planLines}
+use Rattle.plan.specs.ReadAt.{numberLineAt, LineAt, wentAt, endAt, jobFromMax, planFromRounds, firstFault, FirstTold}
 
--- the fault of a group of lines is the same whatever was read there
+-- the fault of a group of lines, and the place where it ends, are the same whatever was read there
 pub endAt-fault : {A : Type 0} (a : A) (w : Went) → atFault (endAt w) ≡ atFault (wentAt a w)
 endAt-fault a (went.On at) = refl
 endAt-fault a (went.Bad f) = refl
 
--- ---- the lines of a job
+pub endAt-place : {A : Type 0} (a : A) (w : Went) {k : ℕ} → atPlace (endAt w) ≤ k → atPlace (wentAt a w) ≤ k
+endAt-place a (went.On at) h = h
+endAt-place a (went.Bad f) h = h
 
-module _ (s : List ℕ) (n : ℕ) where
-  pub jobLines-first : {x : Refusal} {t : List ℕ} → numberLine (bytes "min=") (pos 0) longestRunning s n ≡ refused x t → jobLines s n ≡ refused x t
-  unfolding jobLines next
-  jobLines-first e = rw e
+-- ---- the first line
 
-  module _ {min : ℤ} {s₁ : List ℕ} {n₁ : ℕ} (e₁ : numberLine (bytes "min=") (pos 0) longestRunning s n ≡ read min s₁ n₁) where
-    pub jobLines-second : {x : Refusal} {t : List ℕ} → numberLine (bytes "max=") min longestRunning s₁ n₁ ≡ refused x t → jobLines s n ≡ refused x t
-    unfolding jobLines next
-    jobLines-second e = rw (e₁, e)
+pub planLines-rest : (s : List ℕ) → RestAt s (planLines s 1) (_>>=_ (numberLine (bytes "window=") (pos 1) longestWindow) planFromRounds) 0 1
+unfolding planLines
+planLines-rest s = record { reads = refl; place = omega arith }
 
-    module _ {max : ℤ} {s₂ : List ℕ} {n₂ : ℕ} (e₂ : numberLine (bytes "max=") min longestRunning s₁ n₁ ≡ read max s₂ n₂) where
-      pub jobLines-third : {x : Refusal} {t : List ℕ} → numberLine (bytes "release=") (pos 0) latestDeadline s₂ n₂ ≡ refused x t → jobLines s n ≡ refused x t
-      unfolding jobLines next
-      jobLines-third e = rw (e₁, e₂, e)
+pub jobLines-rest : (s : List ℕ) (at n : ℕ) → at ≤ length s
+    → RestAt s (jobLines (drop at s) n) (_>>=_ (numberLine (bytes "min=") (pos 0) longestRunning) jobFromMax) at n
+unfolding jobLines
+jobLines-rest s at n h = record { reads = refl; place = h }
 
-      module _ {release : ℤ} {s₃ : List ℕ} {n₃ : ℕ} (e₃ : numberLine (bytes "release=") (pos 0) latestDeadline s₂ n₂ ≡ read release s₃ n₃) where
-        pub jobLines-fourth : {x : Refusal} {t : List ℕ} → numberLine (bytes "deadline=") (pos 0) latestDeadline s₃ n₃ ≡ refused x t
-            → jobLines s n ≡ refused x t
-        unfolding jobLines next
-        jobLines-fourth e = rw (e₁, e₂, e₃, e)
+-- ---- one line more: x is the answer of the code to the line, and the line and what follows it are what is left to be read
 
-        pub jobLines-all : {deadline : ℤ} {t : List ℕ} {k : ℕ} → numberLine (bytes "deadline=") (pos 0) latestDeadline s₃ n₃ ≡ read deadline t k
-            → jobLines s n ≡ read (record { min = min; max = max; release = release; deadline = deadline }) t k
-        unfolding jobLines next
-        jobLines-all e = rw (e₁, e₂, e₃, e)
+module _ {B : Type 0} {s : List ℕ} {w : Reading B} (key : List ℕ) (lo hi : ℤ) (f : ℤ → Reader B) {at n : ℕ}
+    (rest : RestAt s w (_>>=_ (numberLine key lo hi) f) at n) (x : NumberLine) (l : LineAt s key lo hi at n x) where
+  pub line-goes : {z : ℤ} {to : ℕ} → x ≡ lineAnswer.Value z to → RestAt s w (f z) to (n + 1)
+  line-goes e = restAt-goes (numberLine key lo hi) f rest (n + 1) (numberLineAt x) (l .told) (l .place) (ap numberLineAt e)
 
--- ---- the first four lines of a plan
+  pub line-stops : {g h : FaultyLine} → x ≡ lineAnswer.Bad g → h ≡ atFault (numberLineAt x) → (w ≡ faultyIn s h) × (h .at ≤ length s)
+  line-stops e d = restAt-stops (numberLine key lo hi) f rest (n + 1) (numberLineAt x) (l .told) (l .place) (ap numberLineAt e) d
 
-module _ (s : List ℕ) where
-  pub planLines-first : {x : Refusal} {t : List ℕ} → numberLine (bytes "window=") (pos 1) longestWindow s 1 ≡ refused x t → planLines s 1 ≡ refused x t
-  unfolding planLines next
-  planLines-first e = rw e
+module _ {s key : List ℕ} {at n : ℕ} {x : NumberLine} where
+  pub line-range : {lo hi : ℤ} → LineAt s key lo hi at n x → {z : ℤ} {to : ℕ} → x ≡ lineAnswer.Value z to → NumberRead key lo hi (drop at s) z (drop to s)
+  line-range {lo} {hi} l e = numberLine-read key lo hi (drop at s) n (atTold-goes s (n + 1) (numberLineAt x) (l .told) (ap numberLineAt e)) .0
 
-  module _ {window : ℤ} {s₁ : List ℕ} (e₁ : numberLine (bytes "window=") (pos 1) longestWindow s 1 ≡ read window s₁ 2) where
-    pub planLines-second : {x : Refusal} {t : List ℕ} → numberLine (bytes "rounds=") (pos 1) (pos mostRounds) s₁ 2 ≡ refused x t → planLines s 1 ≡ refused x t
-    unfolding planLines next
-    planLines-second e = rw (e₁, e)
+  pub count-range : {lo hi : ℕ} → LineAt s key (pos lo) (pos hi) at n x → {z : ℤ} {to : ℕ} → x ≡ lineAnswer.Value z to
+      → CountRead key lo hi (drop at s) (natAbs z) (drop to s)
+  count-range {lo} {hi} l {z} {to} e = counted key lo hi (drop at s) z (drop to s) (line-range l e)
 
-    module _ {rounds : ℤ} {s₂ : List ℕ} (e₂ : numberLine (bytes "rounds=") (pos 1) (pos mostRounds) s₁ 2 ≡ read rounds s₂ 3) where
-      pub planLines-third : {x : Refusal} {t : List ℕ} → numberLine (bytes "last=") (pos 1) (pos mostWindows) s₂ 3 ≡ refused x t → planLines s 1 ≡ refused x t
-      unfolding planLines next
-      planLines-third e = rw (e₁, e₂, e)
-
-      module _ {last : ℤ} {s₃ : List ℕ} (e₃ : numberLine (bytes "last=") (pos 1) (pos mostWindows) s₂ 3 ≡ read last s₃ 4) where
-        pub planLines-fourth : (most : ℕ) {x : Refusal} {t : List ℕ} → numberLine (bytes "jobs=") (pos 1) (pos most) s₃ 4 ≡ refused x t → most ≡ mostJobs
-            → planLines s 1 ≡ refused x t
-        unfolding planLines next
-        planLines-fourth most {x} {t} e l = let d : numberLine (bytes "jobs=") (pos 1) (pos mostJobs) s₃ 4 ≡ refused x t = rw l at e in rw (e₁, e₂, e₃, d)
-
-        pub planLines-rest : {jobs : ℤ} {t : List ℕ} → numberLine (bytes "jobs=") (pos 1) (pos mostJobs) s₃ 4 ≡ read jobs t 5
-            → planLines s 1 ≡ planRest window (natAbs rounds) (natAbs last) (natAbs jobs) t 5
-        unfolding planLines next
-        planLines-rest e = rw (e₁, e₂, e₃, e)
+-- the first lines of a plan, where one of them is refused
+pub first-stops : (s : List ℕ) {w : Reading Plan} {f : FaultyLine} {r : First} → (w ≡ faultyIn s f) × (f .at ≤ length s) → r ≡ firstFault f → FirstTold s w r
+first-stops s {w} p e = subst (FirstTold s w) (sym e) (record { told = p .0; place = p .1; few = omega arith })

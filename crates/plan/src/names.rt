@@ -97,7 +97,7 @@ fn kind_number(k: Kind) -> u32
     }
 }
 
-// A number below 1,024 that tells an event from every other.
+// A number below 1,024 that no other event has.
 pub fn event_number(e: EventName) -> u32
     ensures { λ r. ⌜ r ≡ eventNumber e ⌝ }
     ensures { λ r. ⌜ r < 1024 ⌝ }

@@ -7,11 +7,10 @@ use lines::fault_at;
 use lines::line_lacks;
 use text::Number;
 ghost use mathlib.Core.Path.{_≡_};
-ghost use Prim.Native.Nat.{_+_, _≤_};
-ghost use lib.ListN.{length, drop};
-ghost use Rattle.lines.specs.Reading.{numberLine};
-ghost use Rattle.plan.specs.ReadAt.{numberLineAt};
-ghost use Rattle.lines.specs.ReadAt.{atTold, atPlace, atFault};
+ghost use Prim.Native.Nat.{_≤_};
+ghost use lib.ListN.{length};
+ghost use Rattle.plan.specs.ReadAt.{numberLineAt, LineAt};
+ghost use Rattle.lines.specs.ReadAt.{atFault};
 
 // The number of the line that begins at a place, and where the next line begins.
 pub fn read_number_line(
@@ -23,8 +22,7 @@ pub fn read_number_line(
     hi: i32,
 ) -> NumberLine
     requires { ⌜ at ≤ length (now s) ⌝ }
-    ensures { λ r. ⌜ numberLine (now (key .entry)) lo hi (drop at (now (s .entry))) line ≡ atTold (now (s .entry)) (line + 1) (numberLineAt r) ⌝ }
-    ensures { λ r. ⌜ atPlace (numberLineAt r) ≤ length (now (s .entry)) ⌝ }
+    ensures { λ r. ⌜ LineAt (now (s .entry)) (now (key .entry)) lo hi at line r ⌝ }
 {
     let next = text::next_line(s, at);
     if s.len() < next {

@@ -9,7 +9,7 @@ ghost use lib.ListN.{length, take};
 ghost use Rattle.plan.specs.Limits.{mostBounds};
 ghost use Rattle.plan.specs.Pairs.{pairNumber, isIn, isWrongNumbered};
 
-// A number that tells an ordered pair from every other.
+// A number that no other ordered pair has.
 pub fn pair_number(a: EventName, b: EventName) -> u32
     ensures { λ r. ⌜ r ≡ pairNumber a b ⌝ }
 {

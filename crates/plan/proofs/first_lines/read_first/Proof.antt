@@ -1,24 +1,28 @@
--- `read_first`: one law a way, `planLines-first` to `planLines-fourth` and `planLines-rest`. After each line stands what was read of it.
-use mathlib.Core.Path.{refl, _≡_, sym, _∙_, ap, subst}
-use Prim.Native.Nat.{_≤_}
-use native.Mathlib.Omega.{arith}
+-- `read_first`: after each line `rest₁` to `rest₄` say what is left to be read (`line-goes`); a line that is refused is the answer (`line-stops`).
+use mathlib.Core.Path.{refl, _≡_, _∙_, ap}
+use mathlib.Core.List.{List}
+use Prim.Native.Nat.{ℕ}
 use denote.Ref.{now}
-use lib.IntN.{ℤ, pos, negsuc, natAbs}
-use lib.ListN.{length}
-use lib.Signed.{_≤ℤ_}
+use lib.IntN.{ℤ, natAbs}
 use mir.Facts.{toZ-ofZ}
 use mir.Syntax.{w32}
-use Rattle.plan.specs.Limits.{mostRounds, mostWindows, mostJobs}
+use mir.Val.{toZ, ofZ}
 use Rattle.whole.specs.Rules.{whole}
 use Rattle.text.specs.Bytes.{bytes}
-use Rattle.plan.specs.PlanLines.{planLines}
-use Rattle.lines.specs.ReadingLaws.{numberLine-read}
-use Rattle.plan.specs.ReadAt.{numberLineAt, FirstTold}
-use Rattle.lines.specs.ReadAtLaws.{atTold-goes, atTold-stops, atPlace-goes, atPlace-stops}
-use Rattle.plan.specs.ReadAtLaws.{planLines-first, planLines-second, planLines-third, planLines-fourth, planLines-rest}
+use Rattle.lines.specs.ReadAt.{RestAt}
+use Rattle.lines.specs.ReadAtLaws.{restAt-count}
+use Rattle.plan.specs.Limits.{mostJobs}
+use Rattle.plan.specs.PlanLines.{planLines, planRest}
+use Rattle.plan.specs.ReadAt.{planFromRounds, planFromLast, planFromJobs}
+use Rattle.plan.specs.ReadAtLaws.{planLines-rest, line-goes, line-stops, line-range, count-range, first-stops}
 use borrow.Author.Needs.{needs}
 use Rattle.plan.proofs.first_lines.read_first.Statement.{statement}
 use Rattle.plan.proofs.first_lines.read_first.Tie as tie
+
+abbrev s₀ : tie.Start → List ℕ
+s₀ c = now (c .args .s)
+
+-- ---- the window
 
 slice-aggregate-read-number-line : tie.Need-slice-aggregate-read-number-line
 slice-aggregate-read-number-line c = refl
@@ -41,27 +45,32 @@ no-first-requires c κs = tt
 returns : tie.Need-returns
 unfolding bytes
 returns c =
-    let at-read-number-line = c .before .before .before .before in
-    let start = at-read-number-line .before .before .before in
-    let s = now (start .args .s) in
-    subst (FirstTold s (planLines s 1)) (sym (c .no-first .ensures))
-    (record {
-      told = planLines-first s (atTold-stops s 2 (numberLineAt (at-read-number-line .read-number-line .result))
-          (at-read-number-line .read-number-line .ensures .0) (ap numberLineAt (c .before .before .enum-told .given .1)) (c .before .number-fault .ensures));
-      place = atPlace-stops (numberLineAt (at-read-number-line .read-number-line .result)) (length s) (at-read-number-line .read-number-line .ensures .1)
-          (ap numberLineAt (c .before .before .enum-told .given .1)) (c .before .number-fault .ensures);
-      few = omega arith;
-    })
+    let r = c .before .before .before .before in
+    first-stops (s₀ (r .before .before .before))
+    (line-stops _ _ _ _ (planLines-rest (s₀ (r .before .before .before))) _ (r .read-number-line .ensures)
+    (c .before .before .enum-told .given .1) (c .before .number-fault .ensures))
+    (c .no-first .ensures)
+
+abbrev c₁ : tie.After-known-told → tie.Start
+c₁ c = c .before .before .before .before .before .before
+
+abbrev z₁ : tie.After-known-told → ℤ
+z₁ c = c .before .first .given .0 .0
+
+back₁ : (c : tie.After-known-told) → toZ w32 (ofZ w32 (z₁ c)) ≡ z₁ c
+back₁ c = toZ-ofZ {w = w32} {z = z₁ c} (record { sfits = c .known-told .given .0 .1 })
+
+rest₁ : (c : tie.After-known-told) → RestAt (s₀ (c₁ c)) (planLines (s₀ (c₁ c)) 1) (planFromRounds (z₁ c)) (c .before .first .given .0 .1 .0) 2
+unfolding bytes
+rest₁ c = line-goes _ _ _ _ (planLines-rest (s₀ (c₁ c))) _ (c .before .before .before .read-number-line .ensures) (c .before .first .given .1)
+
+-- ---- the rounds
 
 slice-aggregate-read-number-line-2 : tie.Need-slice-aggregate-read-number-line-2
 slice-aggregate-read-number-line-2 c = refl
 
 read-number-line-requires-2 : tie.Need-read-number-line-requires-2
-read-number-line-requires-2 c κs =
-    let at-read-number-line = c .before .before .before .before in
-    let start = at-read-number-line .before .before .before in
-    atPlace-goes (numberLineAt (at-read-number-line .read-number-line .result)) (length (now (start .args .s)))
-    (at-read-number-line .read-number-line .ensures .1) (ap numberLineAt (c .before .before .first .given .1))
+read-number-line-requires-2 c κs = rest₁ (c .before) .place
 
 enum-known-second : tie.Need-enum-known-second
 enum-known-second c = search needs
@@ -78,32 +87,36 @@ no-first-requires-2 c κs = tt
 returns-2 : tie.Need-returns-2
 unfolding bytes
 returns-2 c =
-    let at-read-number-line2 = c .before .before .before .before in
-    let at-first = at-read-number-line2 .before .before .before in
-    let at-read-number-line = at-first .before .before in
-    let start = at-read-number-line .before .before .before in
-    let s = now (start .args .s) in
-    let e1 = atTold-goes s 2 (numberLineAt (at-read-number-line .read-number-line .result)) (at-read-number-line .read-number-line .ensures .0)
-    (ap numberLineAt (at-first .first .given .1)) in
-    subst (FirstTold s (planLines s 1)) (sym (c .no-first2 .ensures))
-    (record {
-      told = planLines-second s e1 (atTold-stops s 3 (numberLineAt (at-read-number-line2 .read-number-line2 .result))
-          (at-read-number-line2 .read-number-line2 .ensures .0) (ap numberLineAt (c .before .before .enum-told2 .given .1))
-          (c .before .number-fault2 .ensures));
-      place = atPlace-stops (numberLineAt (at-read-number-line2 .read-number-line2 .result)) (length s)
-          (at-read-number-line2 .read-number-line2 .ensures .1) (ap numberLineAt (c .before .before .enum-told2 .given .1)) (c .before .number-fault2 .ensures);
-      few = omega arith;
-    })
+    let r = c .before .before .before .before in
+    first-stops (s₀ (c₁ (r .before .before)))
+    (line-stops _ _ _ _ (restAt-count _ _ _ _ (rest₁ (r .before .before))) _ (r .read-number-line2 .ensures)
+    (c .before .before .enum-told2 .given .1) (c .before .number-fault2 .ensures))
+    (c .no-first2 .ensures)
+
+abbrev d₂ : tie.After-known-told2 → tie.After-known-told
+d₂ c = c .before .before .before .before .before
+
+abbrev c₂ : tie.After-known-told2 → tie.Start
+c₂ c = c₁ (d₂ c)
+
+abbrev z₂ : tie.After-known-told2 → ℤ
+z₂ c = c .before .second .given .0 .0
+
+back₂ : (c : tie.After-known-told2) → toZ w32 (ofZ w32 (z₂ c)) ≡ z₂ c
+back₂ c = toZ-ofZ {w = w32} {z = z₂ c} (record { sfits = c .known-told2 .given .0 .1 })
+
+rest₂ : (c : tie.After-known-told2) → RestAt (s₀ (c₂ c)) (planLines (s₀ (c₂ c)) 1) (planFromLast (z₁ (d₂ c)) (natAbs (z₂ c)))
+    (c .before .second .given .0 .1 .0) 3
+unfolding bytes
+rest₂ c = line-goes _ _ _ _ (restAt-count _ _ _ _ (rest₁ (d₂ c))) _ (c .before .before .before .read-number-line2 .ensures) (c .before .second .given .1)
+
+-- ---- the windows of a run
 
 slice-aggregate-read-number-line-3 : tie.Need-slice-aggregate-read-number-line-3
 slice-aggregate-read-number-line-3 c = refl
 
 read-number-line-requires-3 : tie.Need-read-number-line-requires-3
-read-number-line-requires-3 c κs =
-    let at-read-number-line2 = c .before .before .before .before in
-    let start = at-read-number-line2 .before .before .before .before .before .before .before .before in
-    atPlace-goes (numberLineAt (at-read-number-line2 .read-number-line2 .result)) (length (now (start .args .s)))
-    (at-read-number-line2 .read-number-line2 .ensures .1) (ap numberLineAt (c .before .before .second .given .1))
+read-number-line-requires-3 c κs = rest₂ (c .before) .place
 
 enum-known-third : tie.Need-enum-known-third
 enum-known-third c = search needs
@@ -120,36 +133,36 @@ no-first-requires-3 c κs = tt
 returns-3 : tie.Need-returns-3
 unfolding bytes
 returns-3 c =
-    let at-read-number-line3 = c .before .before .before .before in
-    let at-second = at-read-number-line3 .before .before .before in
-    let at-read-number-line2 = at-second .before .before in
-    let at-first = at-read-number-line2 .before .before .before in
-    let at-read-number-line = at-first .before .before in
-    let start = at-read-number-line .before .before .before in
-    let s = now (start .args .s) in
-    let e1 = atTold-goes s 2 (numberLineAt (at-read-number-line .read-number-line .result)) (at-read-number-line .read-number-line .ensures .0)
-    (ap numberLineAt (at-first .first .given .1)) in
-    let e2 = atTold-goes s 3 (numberLineAt (at-read-number-line2 .read-number-line2 .result)) (at-read-number-line2 .read-number-line2 .ensures .0)
-    (ap numberLineAt (at-second .second .given .1)) in
-    subst (FirstTold s (planLines s 1)) (sym (c .no-first3 .ensures))
-    (record {
-      told = planLines-third s e1 e2 (atTold-stops s 4 (numberLineAt (at-read-number-line3 .read-number-line3 .result))
-          (at-read-number-line3 .read-number-line3 .ensures .0) (ap numberLineAt (c .before .before .enum-told3 .given .1))
-          (c .before .number-fault3 .ensures));
-      place = atPlace-stops (numberLineAt (at-read-number-line3 .read-number-line3 .result)) (length s)
-          (at-read-number-line3 .read-number-line3 .ensures .1) (ap numberLineAt (c .before .before .enum-told3 .given .1)) (c .before .number-fault3 .ensures);
-      few = omega arith;
-    })
+    let r = c .before .before .before .before in
+    first-stops (s₀ (c₂ (r .before .before)))
+    (line-stops _ _ _ _ (restAt-count _ _ _ _ (rest₂ (r .before .before))) _ (r .read-number-line3 .ensures)
+    (c .before .before .enum-told3 .given .1) (c .before .number-fault3 .ensures))
+    (c .no-first3 .ensures)
+
+abbrev d₃ : tie.After-known-told3 → tie.After-known-told2
+d₃ c = c .before .before .before .before .before
+
+abbrev c₃ : tie.After-known-told3 → tie.Start
+c₃ c = c₂ (d₃ c)
+
+abbrev z₃ : tie.After-known-told3 → ℤ
+z₃ c = c .before .third .given .0 .0
+
+back₃ : (c : tie.After-known-told3) → toZ w32 (ofZ w32 (z₃ c)) ≡ z₃ c
+back₃ c = toZ-ofZ {w = w32} {z = z₃ c} (record { sfits = c .known-told3 .given .0 .1 })
+
+rest₃ : (c : tie.After-known-told3) → RestAt (s₀ (c₃ c)) (planLines (s₀ (c₃ c)) 1)
+    (planFromJobs (z₁ (d₂ (d₃ c))) (natAbs (z₂ (d₃ c))) (natAbs (z₃ c))) (c .before .third .given .0 .1 .0) 4
+unfolding bytes
+rest₃ c = line-goes _ _ _ _ (restAt-count _ _ _ _ (rest₂ (d₃ c))) _ (c .before .before .before .read-number-line3 .ensures) (c .before .third .given .1)
+
+-- ---- the count of the jobs
 
 slice-aggregate-read-number-line-4 : tie.Need-slice-aggregate-read-number-line-4
 slice-aggregate-read-number-line-4 c = refl
 
 read-number-line-requires-4 : tie.Need-read-number-line-requires-4
-read-number-line-requires-4 c κs =
-    let at-read-number-line3 = c .before .before .before .before in
-    let start = at-read-number-line3 .before .before .before .before .before .before .before .before .before .before .before .before .before in
-    atPlace-goes (numberLineAt (at-read-number-line3 .read-number-line3 .result)) (length (now (start .args .s)))
-    (at-read-number-line3 .read-number-line3 .ensures .1) (ap numberLineAt (c .before .before .third .given .1))
+read-number-line-requires-4 c κs = rest₃ (c .before) .place
 
 enum-known-fourth : tie.Need-enum-known-fourth
 enum-known-fourth c = search needs
@@ -166,119 +179,63 @@ no-first-requires-4 c κs = tt
 returns-4 : tie.Need-returns-4
 unfolding bytes
 returns-4 c =
-    let at-read-number-line4 = c .before .before .before .before in
-    let at-third = at-read-number-line4 .before .before .before in
-    let at-read-number-line3 = at-third .before .before in
-    let at-second = at-read-number-line3 .before .before .before in
-    let at-read-number-line2 = at-second .before .before in
-    let at-first = at-read-number-line2 .before .before .before in
-    let at-read-number-line = at-first .before .before in
-    let start = at-read-number-line .before .before .before in
-    let s = now (start .args .s) in
-    let e1 = atTold-goes s 2 (numberLineAt (at-read-number-line .read-number-line .result)) (at-read-number-line .read-number-line .ensures .0)
-    (ap numberLineAt (at-first .first .given .1)) in
-    let e2 = atTold-goes s 3 (numberLineAt (at-read-number-line2 .read-number-line2 .result)) (at-read-number-line2 .read-number-line2 .ensures .0)
-    (ap numberLineAt (at-second .second .given .1)) in
-    let e3 = atTold-goes s 4 (numberLineAt (at-read-number-line3 .read-number-line3 .result)) (at-read-number-line3 .read-number-line3 .ensures .0)
-    (ap numberLineAt (at-third .third .given .1)) in
-    subst (FirstTold s (planLines s 1)) (sym (c .no-first4 .ensures))
-    (record {
-      told = planLines-fourth s e1 e2 e3 _ (atTold-stops s 5 (numberLineAt (at-read-number-line4 .read-number-line4 .result))
-          (at-read-number-line4 .read-number-line4 .ensures .0) (ap numberLineAt (c .before .before .enum-told4 .given .1))
-          (c .before .number-fault4 .ensures)) (omega arith);
-      place = atPlace-stops (numberLineAt (at-read-number-line4 .read-number-line4 .result)) (length s)
-          (at-read-number-line4 .read-number-line4 .ensures .1) (ap numberLineAt (c .before .before .enum-told4 .given .1)) (c .before .number-fault4 .ensures);
-      few = omega arith;
-    })
+    let r = c .before .before .before .before in
+    first-stops (s₀ (c₃ (r .before .before)))
+    (line-stops _ _ _ _ (restAt-count _ _ _ _ (rest₃ (r .before .before))) _ (r .read-number-line4 .ensures)
+    (c .before .before .enum-told4 .given .1) (c .before .number-fault4 .ensures))
+    (c .no-first4 .ensures)
+
+abbrev d₄ : tie.After-known-told4 → tie.After-known-told3
+d₄ c = c .before .before .before .before .before
+
+abbrev c₄ : tie.After-known-told4 → tie.Start
+c₄ c = c₃ (d₄ c)
+
+abbrev z₄ : tie.After-known-told4 → ℤ
+z₄ c = c .before .fourth .given .0 .0
+
+back₄ : (c : tie.After-known-told4) → toZ w32 (ofZ w32 (z₄ c)) ≡ z₄ c
+back₄ c = toZ-ofZ {w = w32} {z = z₄ c} (record { sfits = c .known-told4 .given .0 .1 })
+
+rest₄ : (c : tie.After-known-told4) → RestAt (s₀ (c₄ c)) (planLines (s₀ (c₄ c)) 1)
+    (planRest (z₁ (d₂ (d₃ (d₄ c)))) (natAbs (z₂ (d₃ (d₄ c)))) (natAbs (z₃ (d₄ c))) (natAbs (z₄ c))) (c .before .fourth .given .0 .1 .0) 5
+unfolding bytes
+rest₄ c = line-goes _ _ _ _ (restAt-count _ _ _ _ (rest₃ (d₄ c))) _ (c .before .before .before .read-number-line4 .ensures) (c .before .fourth .given .1)
+
+-- ---- the counts
 
 count-requires : tie.Need-count-requires
 unfolding bytes
 count-requires c κs =
-    let at-known-told2 = c .before .before .before .before .before .before .before .before .before .before in
-    let at-second = at-known-told2 .before in
-    let at-read-number-line2 = at-second .before .before in
-    let start = at-read-number-line2 .before .before .before .before .before .before .before .before in
-    let s = now (start .args .s) in
-    rw (toZ-ofZ {w = w32} {z = at-second .second .given .0 .0} (record { sfits = at-known-told2 .known-told2 .given .0 .1 }))
-    (omega (
-      whole,
-      numberLine-read (bytes "rounds=") (pos 1) (pos mostRounds) _ 2
-          (atTold-goes s 3 (numberLineAt (at-read-number-line2 .read-number-line2 .result)) (at-read-number-line2 .read-number-line2 .ensures .0)
-          (ap numberLineAt (at-second .second .given .1))) .0 .least,
-    ))
+    let d = d₃ (d₄ c) in
+    let least = line-range (d .before .before .before .read-number-line2 .ensures) (d .before .second .given .1) .least in
+    rw (back₂ d) (omega (whole, least))
 
 count-requires-2 : tie.Need-count-requires-2
 unfolding bytes
 count-requires-2 c κs =
-    let at-known-told3 = c .before .before .before .before .before .before in
-    let at-third = at-known-told3 .before in
-    let at-read-number-line3 = at-third .before .before in
-    let start = at-read-number-line3 .before .before .before .before .before .before .before .before .before .before .before .before .before in
-    let s = now (start .args .s) in
-    rw (toZ-ofZ {w = w32} {z = at-third .third .given .0 .0} (record { sfits = at-known-told3 .known-told3 .given .0 .1 }))
-    (omega (
-      whole,
-      numberLine-read (bytes "last=") (pos 1) (pos mostWindows) _ 3
-          (atTold-goes s 4 (numberLineAt (at-read-number-line3 .read-number-line3 .result)) (at-read-number-line3 .read-number-line3 .ensures .0)
-          (ap numberLineAt (at-third .third .given .1))) .0 .least,
-    ))
+    let d = d₄ (c .before) in
+    let least = line-range (d .before .before .before .read-number-line3 .ensures) (d .before .third .given .1) .least in
+    rw (back₃ d) (omega (whole, least))
 
 count-requires-3 : tie.Need-count-requires-3
 unfolding bytes
 count-requires-3 c κs =
-    let at-read-number-line4 = c .before .before .before .before .before in
-    let midway = at-read-number-line4 .before .before .before .before .before .before .before .before .before in
-    let start = midway .before .before .before .before .before .before .before .before .before in
-    let s = now (start .args .s) in
-    rw (toZ-ofZ {w = w32} {z = c .before .before .before .fourth .given .0 .0} (record { sfits = c .before .before .known-told4 .given .0 .1 }))
-    (omega (
-      whole,
-      numberLine-read (bytes "jobs=") (pos 1) (pos mostJobs) _ 4
-          (atTold-goes s 5 (numberLineAt (at-read-number-line4 .read-number-line4 .result)) (at-read-number-line4 .read-number-line4 .ensures .0)
-          (ap numberLineAt (c .before .before .before .fourth .given .1))) .0 .least,
-    ))
-
-at-most : (z : ℤ) → pos 1 ≤ℤ z → z ≤ℤ pos mostJobs → natAbs z ≤ mostJobs
-at-most (pos n) p q = omega whole
-at-most (negsuc n) p q = absurd (omega whole)
+    let d = c .before .before in
+    let least = line-range (d .before .before .before .read-number-line4 .ensures) (d .before .fourth .given .1) .least in
+    rw (back₄ d) (omega (whole, least))
 
 returns-5 : tie.Need-returns-5
 unfolding bytes
 returns-5 c =
-    let at-fourth = c .before .before .before .before in
-    let at-read-number-line4 = at-fourth .before .before in
-    let at-known-told3 = at-read-number-line4 .before .before in
-    let at-third = at-known-told3 .before in
-    let at-read-number-line3 = at-third .before .before in
-    let at-known-told2 = at-read-number-line3 .before .before in
-    let at-second = at-known-told2 .before in
-    let at-read-number-line2 = at-second .before .before in
-    let at-known-told = at-read-number-line2 .before .before in
-    let at-first = at-known-told .before in
-    let at-read-number-line = at-first .before .before in
-    let start = at-read-number-line .before .before .before in
-    let s = now (start .args .s) in
-    let e1 = atTold-goes s 2 (numberLineAt (at-read-number-line .read-number-line .result)) (at-read-number-line .read-number-line .ensures .0)
-    (ap numberLineAt (at-first .first .given .1)) in
-    let e2 = atTold-goes s 3 (numberLineAt (at-read-number-line2 .read-number-line2 .result)) (at-read-number-line2 .read-number-line2 .ensures .0)
-    (ap numberLineAt (at-second .second .given .1)) in
-    let e3 = atTold-goes s 4 (numberLineAt (at-read-number-line3 .read-number-line3 .result)) (at-read-number-line3 .read-number-line3 .ensures .0)
-    (ap numberLineAt (at-third .third .given .1)) in
-    let e4 = atTold-goes s 5 (numberLineAt (at-read-number-line4 .read-number-line4 .result)) (at-read-number-line4 .read-number-line4 .ensures .0)
-    (ap numberLineAt (at-fourth .fourth .given .1)) in
-    let n2 : c .before .before .count .result ≡ natAbs (at-second .second .given .0 .0) = c .before .before .count .ensures ∙ ap natAbs
-    (toZ-ofZ {w = w32} {z = at-second .second .given .0 .0} (record { sfits = at-known-told2 .known-told2 .given .0 .1 })) in
-    let n3 : c .before .count2 .result ≡ natAbs (at-third .third .given .0 .0) = c .before .count2 .ensures ∙ ap natAbs
-    (toZ-ofZ {w = w32} {z = at-third .third .given .0 .0} (record { sfits = at-known-told3 .known-told3 .given .0 .1 })) in
-    let n4 : c .count3 .result ≡ natAbs (at-fourth .fourth .given .0 .0) = c .count3 .ensures ∙ ap natAbs
-    (toZ-ofZ {w = w32} {z = at-fourth .fourth .given .0 .0} (record { sfits = c .before .before .before .known-told4 .given .0 .1 })) in
-    let q = numberLine-read (bytes "jobs=") (pos 1) (pos mostJobs) _ 4 e4 .0 in
-    let r = at-read-number-line4 .read-number-line4 in
+    let d = c .before .before .before in
+    let rounds : c .before .before .count .result ≡ natAbs (z₂ (d₃ (d₄ d))) = c .before .before .count .ensures ∙ ap natAbs (back₂ (d₃ (d₄ d))) in
+    let last : c .before .count2 .result ≡ natAbs (z₃ (d₄ d)) = c .before .count2 .ensures ∙ ap natAbs (back₃ (d₄ d)) in
+    let jobs : c .count3 .result ≡ natAbs (z₄ d) = c .count3 .ensures ∙ ap natAbs (back₄ d) in
     record {
-      told = rw (toZ-ofZ {w = w32} {z = at-first .first .given .0 .0} (record { sfits = at-known-told .known-told .given .0 .1 }), n2, n3, n4)
-          (planLines-rest s e1 e2 e3 e4);
-      place = atPlace-goes (numberLineAt (r .result)) (length s) (r .ensures .1) (ap numberLineAt (at-fourth .fourth .given .1));
-      few = rw n4 (at-most (at-fourth .fourth .given .0 .0) (q .least) (q .most));
+      told = rw (back₁ (d₂ (d₃ (d₄ d))), rounds, last, jobs) (rest₄ d .reads);
+      place = rest₄ d .place;
+      few = rw jobs (count-range {hi = mostJobs} (d .before .before .before .read-number-line4 .ensures) (d .before .fourth .given .1) .most);
     }
 
 pub read-first-spec : {M : Type 1} → statement M

@@ -1,17 +1,35 @@
--- `read_job`: one law a way, `jobLines-first` to `jobLines-fourth` and `jobLines-all`. After each line stands what was read of it.
-use mathlib.Core.Path.{refl, ap}
-use Prim.Native.Nat.{_+_}
+-- `read_job`: after each line `rest₁` to `rest₄` say what is left to be read (`line-goes`); a line that is refused is the answer (`line-stops`).
+use mathlib.Core.Path.{_≡_, refl}
+use mathlib.Core.List.{List}
+use Prim.Native.Nat.{ℕ, _+_}
 use denote.Ref.{now}
-use lib.ListN.{length, drop}
+use lib.IntN.{ℤ, pos}
+use lib.ListN.{drop}
 use mir.Facts.{toZ-ofZ}
 use mir.Syntax.{w32}
+use mir.Val.{toZ, ofZ}
 use Rattle.text.specs.Bytes.{bytes}
-use Rattle.plan.specs.ReadAt.{numberLineAt}
-use Rattle.lines.specs.ReadAtLaws.{atTold-goes, atTold-stops, atPlace-goes, atPlace-stops}
-use Rattle.plan.specs.ReadAtLaws.{jobLines-first, jobLines-second, jobLines-third, jobLines-fourth, jobLines-all}
+use Rattle.plan.specs.declared.Job.{Job}
+use Rattle.lines.specs.Reading.{Reading, _>>=_, answer, numberLine}
+use Rattle.lines.specs.ReadAt.{RestAt}
+use Rattle.plan.specs.Limits.{longestRunning}
+use Rattle.plan.specs.PlanLines.{jobLines}
+use Rattle.plan.specs.ReadAt.{jobFromMax, jobFromRelease, jobFromDeadline}
+use Rattle.plan.specs.ReadAtLaws.{jobLines-rest, line-goes, line-stops}
 use borrow.Author.Needs.{needs}
 use Rattle.plan.proofs.job_lines.read_job.Statement.{statement}
 use Rattle.plan.proofs.job_lines.read_job.Tie as tie
+
+abbrev s₀ : tie.Start → List ℕ
+s₀ c = now (c .args .s)
+
+abbrev job₀ : tie.Start → Reading Job
+job₀ c = jobLines (drop (c .args .at) (s₀ c)) (c .args .line)
+
+rest₀ : (c : tie.Start) → RestAt (s₀ c) (job₀ c) (_>>=_ (numberLine (bytes "min=") (pos 0) longestRunning) jobFromMax) (c .args .at) (c .args .line)
+rest₀ c = jobLines-rest (s₀ c) (c .args .at) (c .args .line) (c .pre .0)
+
+-- ---- min
 
 slice-aggregate-read-number-line : tie.Need-slice-aggregate-read-number-line
 slice-aggregate-read-number-line c = refl
@@ -31,14 +49,23 @@ number-fault-requires c κs = tt
 returns : tie.Need-returns
 unfolding bytes
 returns c =
-    let start = c .before .before .before .before .before .before in
-    let a = start .args in
-    let s = now (a .s) in (
-      jobLines-first (drop (a .at) s) (a .line) (atTold-stops s (a .line + 1) (numberLineAt (c .before .before .before .read-number-line .result))
-          (c .before .before .before .read-number-line .ensures .0) (ap numberLineAt (c .before .enum-told .given .1)) (c .number-fault .ensures)),
-      atPlace-stops (numberLineAt (c .before .before .before .read-number-line .result)) (length s)
-          (c .before .before .before .read-number-line .ensures .1) (ap numberLineAt (c .before .enum-told .given .1)) (c .number-fault .ensures),
-    )
+    let r = c .before .before .before in
+    line-stops _ _ _ _ (rest₀ (r .before .before .before)) _ (r .read-number-line .ensures) (c .before .enum-told .given .1) (c .number-fault .ensures)
+
+-- ---- max
+
+abbrev c₁ : tie.After-known-told → tie.Start
+c₁ c = c .before .before .before .before .before .before
+
+abbrev z₁ : tie.After-known-told → ℤ
+z₁ c = c .before .first .given .0 .0
+
+back₁ : (c : tie.After-known-told) → toZ w32 (ofZ w32 (z₁ c)) ≡ z₁ c
+back₁ c = toZ-ofZ {w = w32} {z = z₁ c} (record { sfits = c .known-told .given .0 .1 })
+
+rest₁ : (c : tie.After-known-told) → RestAt (s₀ (c₁ c)) (job₀ (c₁ c)) (jobFromMax (z₁ c)) (c .before .first .given .0 .1 .0) (c₁ c .args .line + 1)
+unfolding bytes
+rest₁ c = line-goes _ _ _ _ (rest₀ (c₁ c)) _ (c .before .before .before .read-number-line .ensures) (c .before .first .given .1)
 
 add-line2 : tie.Need-add-line2
 add-line2 c = search needs
@@ -47,11 +74,7 @@ slice-aggregate-read-number-line-2 : tie.Need-slice-aggregate-read-number-line-2
 slice-aggregate-read-number-line-2 c = refl
 
 read-number-line-requires-2 : tie.Need-read-number-line-requires-2
-read-number-line-requires-2 c κs =
-    let at-read-number-line = c .before .before .before .before in
-    let start = at-read-number-line .before .before .before in
-    atPlace-goes (numberLineAt (at-read-number-line .read-number-line .result)) (length (now (start .args .s)))
-    (at-read-number-line .read-number-line .ensures .1) (ap numberLineAt (c .before .before .first .given .1))
+read-number-line-requires-2 c κs = rest₁ (c .before) .place
 
 enum-known-second : tie.Need-enum-known-second
 enum-known-second c = search needs
@@ -65,21 +88,28 @@ number-fault-requires-2 c κs = tt
 returns-2 : tie.Need-returns-2
 unfolding bytes
 returns-2 c =
-    let at-known-told = c .before .before .before .before .before in
-    let at-first = at-known-told .before in
-    let at-read-number-line = at-first .before .before in
-    let start = at-read-number-line .before .before .before in
-    let a = start .args in
-    let s = now (a .s) in
-    let e1 = atTold-goes s (a .line + 1) (numberLineAt (at-read-number-line .read-number-line .result)) (at-read-number-line .read-number-line .ensures .0)
-    (ap numberLineAt (at-first .first .given .1)) in (
-      jobLines-second (drop (a .at) s) (a .line) e1 (rw (toZ-ofZ {w = w32} {z = at-first .first .given .0 .0}
-          (record { sfits = at-known-told .known-told .given .0 .1 })) at
-          (atTold-stops s (a .line + 1 + 1) (numberLineAt (c .before .before .before .read-number-line2 .result))
-          (c .before .before .before .read-number-line2 .ensures .0) (ap numberLineAt (c .before .enum-told2 .given .1)) (c .number-fault2 .ensures))),
-      atPlace-stops (numberLineAt (c .before .before .before .read-number-line2 .result)) (length s)
-          (c .before .before .before .read-number-line2 .ensures .1) (ap numberLineAt (c .before .enum-told2 .given .1)) (c .number-fault2 .ensures),
-    )
+    let r = c .before .before .before in
+    let d = r .before .before in
+    line-stops _ _ _ _ (rest₁ d) _ (rw (back₁ d) at (r .read-number-line2 .ensures)) (c .before .enum-told2 .given .1) (c .number-fault2 .ensures)
+
+-- ---- release
+
+abbrev d₂ : tie.After-known-told2 → tie.After-known-told
+d₂ c = c .before .before .before .before .before
+
+abbrev c₂ : tie.After-known-told2 → tie.Start
+c₂ c = c₁ (d₂ c)
+
+abbrev z₂ : tie.After-known-told2 → ℤ
+z₂ c = c .before .second .given .0 .0
+
+back₂ : (c : tie.After-known-told2) → toZ w32 (ofZ w32 (z₂ c)) ≡ z₂ c
+back₂ c = toZ-ofZ {w = w32} {z = z₂ c} (record { sfits = c .known-told2 .given .0 .1 })
+
+rest₂ : (c : tie.After-known-told2) → RestAt (s₀ (c₂ c)) (job₀ (c₂ c)) (jobFromRelease (z₁ (d₂ c)) (z₂ c)) (c .before .second .given .0 .1 .0)
+    (c₂ c .args .line + 1 + 1)
+unfolding bytes
+rest₂ c = line-goes _ _ _ _ (rest₁ (d₂ c)) _ (rw (back₁ (d₂ c)) at (c .before .before .before .read-number-line2 .ensures)) (c .before .second .given .1)
 
 add-line3 : tie.Need-add-line3
 add-line3 c = search needs
@@ -88,11 +118,7 @@ slice-aggregate-read-number-line-3 : tie.Need-slice-aggregate-read-number-line-3
 slice-aggregate-read-number-line-3 c = refl
 
 read-number-line-requires-3 : tie.Need-read-number-line-requires-3
-read-number-line-requires-3 c κs =
-    let at-read-number-line2 = c .before .before .before .before in
-    let start = at-read-number-line2 .before .before .before .before .before .before .before .before in
-    atPlace-goes (numberLineAt (at-read-number-line2 .read-number-line2 .result)) (length (now (start .args .s)))
-    (at-read-number-line2 .read-number-line2 .ensures .1) (ap numberLineAt (c .before .before .second .given .1))
+read-number-line-requires-3 c κs = rest₂ (c .before) .place
 
 enum-known-third : tie.Need-enum-known-third
 enum-known-third c = search needs
@@ -106,25 +132,27 @@ number-fault-requires-3 c κs = tt
 returns-3 : tie.Need-returns-3
 unfolding bytes
 returns-3 c =
-    let at-second = c .before .before .before .before .before .before in
-    let at-read-number-line2 = at-second .before .before in
-    let at-known-told = at-read-number-line2 .before .before in
-    let at-first = at-known-told .before in
-    let at-read-number-line = at-first .before .before in
-    let start = at-read-number-line .before .before .before in
-    let a = start .args in
-    let s = now (a .s) in
-    let e1 = atTold-goes s (a .line + 1) (numberLineAt (at-read-number-line .read-number-line .result)) (at-read-number-line .read-number-line .ensures .0)
-    (ap numberLineAt (at-first .first .given .1)) in
-    let e2 = rw (toZ-ofZ {w = w32} {z = at-first .first .given .0 .0} (record { sfits = at-known-told .known-told .given .0 .1 })) at
-    (atTold-goes s (a .line + 1 + 1) (numberLineAt (at-read-number-line2 .read-number-line2 .result))
-    (at-read-number-line2 .read-number-line2 .ensures .0) (ap numberLineAt (at-second .second .given .1))) in (
-      jobLines-third (drop (a .at) s) (a .line) e1 e2 (atTold-stops s (a .line + 1 + 1 + 1)
-          (numberLineAt (c .before .before .before .read-number-line3 .result)) (c .before .before .before .read-number-line3 .ensures .0)
-          (ap numberLineAt (c .before .enum-told3 .given .1)) (c .number-fault3 .ensures)),
-      atPlace-stops (numberLineAt (c .before .before .before .read-number-line3 .result)) (length s)
-          (c .before .before .before .read-number-line3 .ensures .1) (ap numberLineAt (c .before .enum-told3 .given .1)) (c .number-fault3 .ensures),
-    )
+    let r = c .before .before .before in
+    line-stops _ _ _ _ (rest₂ (r .before .before)) _ (r .read-number-line3 .ensures) (c .before .enum-told3 .given .1) (c .number-fault3 .ensures)
+
+-- ---- deadline
+
+abbrev d₃ : tie.After-known-told3 → tie.After-known-told2
+d₃ c = c .before .before .before .before .before
+
+abbrev c₃ : tie.After-known-told3 → tie.Start
+c₃ c = c₂ (d₃ c)
+
+abbrev z₃ : tie.After-known-told3 → ℤ
+z₃ c = c .before .third .given .0 .0
+
+back₃ : (c : tie.After-known-told3) → toZ w32 (ofZ w32 (z₃ c)) ≡ z₃ c
+back₃ c = toZ-ofZ {w = w32} {z = z₃ c} (record { sfits = c .known-told3 .given .0 .1 })
+
+rest₃ : (c : tie.After-known-told3) → RestAt (s₀ (c₃ c)) (job₀ (c₃ c)) (jobFromDeadline (z₁ (d₂ (d₃ c))) (z₂ (d₃ c)) (z₃ c)) (c .before .third .given .0 .1 .0)
+    (c₃ c .args .line + 1 + 1 + 1)
+unfolding bytes
+rest₃ c = line-goes _ _ _ _ (rest₂ (d₃ c)) _ (c .before .before .before .read-number-line3 .ensures) (c .before .third .given .1)
 
 add-line4 : tie.Need-add-line4
 add-line4 c = search needs
@@ -133,11 +161,7 @@ slice-aggregate-read-number-line-4 : tie.Need-slice-aggregate-read-number-line-4
 slice-aggregate-read-number-line-4 c = refl
 
 read-number-line-requires-4 : tie.Need-read-number-line-requires-4
-read-number-line-requires-4 c κs =
-    let at-read-number-line3 = c .before .before .before .before in
-    let start = at-read-number-line3 .before .before .before .before .before .before .before .before .before .before .before .before .before in
-    atPlace-goes (numberLineAt (at-read-number-line3 .read-number-line3 .result)) (length (now (start .args .s)))
-    (at-read-number-line3 .read-number-line3 .ensures .1) (ap numberLineAt (c .before .before .third .given .1))
+read-number-line-requires-4 c κs = rest₃ (c .before) .place
 
 enum-known-fourth : tie.Need-enum-known-fourth
 enum-known-fourth c = search needs
@@ -151,64 +175,28 @@ number-fault-requires-4 c κs = tt
 returns-4 : tie.Need-returns-4
 unfolding bytes
 returns-4 c =
-    let at-third = c .before .before .before .before .before .before in
-    let at-read-number-line3 = at-third .before .before in
-    let at-second = at-read-number-line3 .before .before .before in
-    let at-read-number-line2 = at-second .before .before in
-    let at-known-told = at-read-number-line2 .before .before in
-    let at-first = at-known-told .before in
-    let at-read-number-line = at-first .before .before in
-    let start = at-read-number-line .before .before .before in
-    let a = start .args in
-    let s = now (a .s) in
-    let e1 = atTold-goes s (a .line + 1) (numberLineAt (at-read-number-line .read-number-line .result)) (at-read-number-line .read-number-line .ensures .0)
-    (ap numberLineAt (at-first .first .given .1)) in
-    let e2 = rw (toZ-ofZ {w = w32} {z = at-first .first .given .0 .0} (record { sfits = at-known-told .known-told .given .0 .1 })) at
-    (atTold-goes s (a .line + 1 + 1) (numberLineAt (at-read-number-line2 .read-number-line2 .result))
-    (at-read-number-line2 .read-number-line2 .ensures .0) (ap numberLineAt (at-second .second .given .1))) in
-    let e3 = atTold-goes s (a .line + 1 + 1 + 1) (numberLineAt (at-read-number-line3 .read-number-line3 .result))
-    (at-read-number-line3 .read-number-line3 .ensures .0) (ap numberLineAt (at-third .third .given .1)) in (
-      jobLines-fourth (drop (a .at) s) (a .line) e1 e2 e3
-          (atTold-stops s (a .line + 1 + 1 + 1 + 1) (numberLineAt (c .before .before .before .read-number-line4 .result))
-          (c .before .before .before .read-number-line4 .ensures .0) (ap numberLineAt (c .before .enum-told4 .given .1)) (c .number-fault4 .ensures)),
-      atPlace-stops (numberLineAt (c .before .before .before .read-number-line4 .result)) (length s)
-          (c .before .before .before .read-number-line4 .ensures .1) (ap numberLineAt (c .before .enum-told4 .given .1)) (c .number-fault4 .ensures),
-    )
+    let r = c .before .before .before in
+    line-stops _ _ _ _ (rest₃ (r .before .before)) _ (r .read-number-line4 .ensures) (c .before .enum-told4 .given .1) (c .number-fault4 .ensures)
+
+-- ---- the job
+
+abbrev d₄ : tie.After-known-told4 → tie.After-known-told3
+d₄ c = c .before .before .before .before .before
+
+abbrev z₄ : tie.After-known-told4 → ℤ
+z₄ c = c .before .fourth .given .0 .0
+
+back₄ : (c : tie.After-known-told4) → toZ w32 (ofZ w32 (z₄ c)) ≡ z₄ c
+back₄ c = toZ-ofZ {w = w32} {z = z₄ c} (record { sfits = c .known-told4 .given .0 .1 })
+
+rest₄ : (c : tie.After-known-told4) → RestAt (s₀ (c₃ (d₄ c))) (job₀ (c₃ (d₄ c)))
+    (answer (record { min = z₁ (d₂ (d₃ (d₄ c))); max = z₂ (d₃ (d₄ c)); release = z₃ (d₄ c); deadline = z₄ c }))
+    (c .before .fourth .given .0 .1 .0) (c₃ (d₄ c) .args .line + 1 + 1 + 1 + 1)
+unfolding bytes
+rest₄ c = line-goes _ _ _ _ (rest₃ (d₄ c)) _ (c .before .before .before .read-number-line4 .ensures) (c .before .fourth .given .1)
 
 returns-5 : tie.Need-returns-5
-unfolding bytes
-returns-5 c =
-    let at-known-told3 = c .before .before .before .before .before in
-    let at-third = at-known-told3 .before in
-    let at-read-number-line3 = at-third .before .before in
-    let at-known-told2 = at-read-number-line3 .before .before in
-    let at-second = at-known-told2 .before in
-    let at-read-number-line2 = at-second .before .before in
-    let at-known-told = at-read-number-line2 .before .before in
-    let at-first = at-known-told .before in
-    let at-read-number-line = at-first .before .before in
-    let start = at-read-number-line .before .before .before in
-    let a = start .args in
-    let s = now (a .s) in
-    let e1 = atTold-goes s (a .line + 1) (numberLineAt (at-read-number-line .read-number-line .result)) (at-read-number-line .read-number-line .ensures .0)
-    (ap numberLineAt (at-first .first .given .1)) in
-    let e2 = rw (toZ-ofZ {w = w32} {z = at-first .first .given .0 .0} (record { sfits = at-known-told .known-told .given .0 .1 })) at
-    (atTold-goes s (a .line + 1 + 1) (numberLineAt (at-read-number-line2 .read-number-line2 .result))
-    (at-read-number-line2 .read-number-line2 .ensures .0) (ap numberLineAt (at-second .second .given .1))) in
-    let e3 = atTold-goes s (a .line + 1 + 1 + 1) (numberLineAt (at-read-number-line3 .read-number-line3 .result))
-    (at-read-number-line3 .read-number-line3 .ensures .0) (ap numberLineAt (at-third .third .given .1)) in
-    let e4 = atTold-goes s (a .line + 1 + 1 + 1 + 1) (numberLineAt (c .before .before .before .read-number-line4 .result))
-    (c .before .before .before .read-number-line4 .ensures .0) (ap numberLineAt (c .before .fourth .given .1)) in (
-      rw (
-        toZ-ofZ {w = w32} {z = at-first .first .given .0 .0} (record { sfits = at-known-told .known-told .given .0 .1 }),
-        toZ-ofZ {w = w32} {z = at-second .second .given .0 .0} (record { sfits = at-known-told2 .known-told2 .given .0 .1 }),
-        toZ-ofZ {w = w32} {z = at-third .third .given .0 .0} (record { sfits = at-known-told3 .known-told3 .given .0 .1 }),
-        toZ-ofZ {w = w32} {z = c .before .fourth .given .0 .0} (record { sfits = c .known-told4 .given .0 .1 }),
-      )
-          (jobLines-all (drop (a .at) s) (a .line) e1 e2 e3 e4),
-      atPlace-goes (numberLineAt (c .before .before .before .read-number-line4 .result)) (length s)
-          (c .before .before .before .read-number-line4 .ensures .1) (ap numberLineAt (c .before .fourth .given .1)),
-    )
+returns-5 c = (rw (back₁ (d₂ (d₃ (d₄ c))), back₂ (d₃ (d₄ c)), back₃ (d₄ c), back₄ c) (rest₄ c .reads), rest₄ c .place)
 
 pub read-job-spec : {M : Type 1} → statement M
 read-job-spec =

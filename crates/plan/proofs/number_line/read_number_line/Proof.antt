@@ -28,11 +28,12 @@ next-line-requires c κs = search needs
 returns : tie.Need-returns
 returns c =
     let b = c .before .before .before .before in
-    let a = b .args in (
-      lineTo-bare (λ l. linedNumber (numberAfter (now (a .key)) (a .lo) (a .hi) l)) (now (a .s)) (a .at) (a .line) (c .before .next-line .result) (b .pre)
-          (c .before .next-line .ensures) (omega arith),
-      b .pre,
-    )
+    let a = b .args in
+    record {
+      told = lineTo-bare (λ l. linedNumber (numberAfter (now (a .key)) (a .lo) (a .hi) l)) (now (a .s)) (a .at) (a .line) (c .before .next-line .result)
+          (b .pre) (c .before .next-line .ensures) (omega arith);
+      place = b .pre;
+    }
 
 sub-end : tie.Need-sub-end
 sub-end c =
@@ -107,11 +108,12 @@ returns-2 c =
     let e = c .before in
     let a = b e .args in
     let same : toZ w32 (ofZ w32 (c .narrow .result)) ≡ z e = toZ-ofZ {w = w32} {z = c .narrow .result} (record { sfits = c .narrow .ok })
-    ∙ c .narrow .ensures ∙ z-back e in (
-      lineTo-value (λ l. linedNumber (numberAfter (now (a .key)) (a .lo) (a .hi) l)) (s e) (a .at) (a .line) (n e .next-line .result) (b e .pre)
-          (n e .next-line .ensures) (omega arith) (ap linedNumber (told e ∙ ap number.Value (sym same))),
-      omega arith,
-    )
+    ∙ c .narrow .ensures ∙ z-back e in
+    record {
+      told = lineTo-value (λ l. linedNumber (numberAfter (now (a .key)) (a .lo) (a .hi) l)) (s e) (a .at) (a .line) (n e .next-line .result) (b e .pre)
+          (n e .next-line .ensures) (omega arith) (ap linedNumber (told e ∙ ap number.Value (sym same)));
+      place = omega arith;
+    }
 
 returns-3 : tie.Need-returns-3
 unfolding linedNumber
@@ -124,12 +126,13 @@ returns-3 c =
     let x = now (a .s) in
     let back : numberAfter (now (a .key)) (a .lo) (a .hi) (take (l .next-line .result - 1 - a .at) (drop (a .at) x)) ≡ number.Bad
     (q .before .before .number2 .given .0 .0) =
-    sym (rw (i32-widened (f .fits .lo), i32-widened (f .fits .hi)) at (m .number-after .ensures)) ∙ q .before .before .number2 .given .1 in (
-      lineTo-fault (λ l. linedNumber (numberAfter (now (a .key)) (a .lo) (a .hi) l)) x (a .at) (a .line) (l .next-line .result) (f .pre)
+    sym (rw (i32-widened (f .fits .lo), i32-widened (f .fits .hi)) at (m .number-after .ensures)) ∙ q .before .before .number2 .given .1 in
+    record {
+      told = lineTo-fault (λ l. linedNumber (numberAfter (now (a .key)) (a .lo) (a .hi) l)) x (a .at) (a .line) (l .next-line .result) (f .pre)
           (l .next-line .ensures) (omega arith) (ap linedNumber back)
-          ∙ ap (λ r. refused r (drop (a .at) x)) (sym (c .fault-at .ensures ∙ ap (faultAt (a .line)) (q .line-lacks .ensures))),
-      f .pre,
-    )
+          ∙ ap (λ r. refused r (drop (a .at) x)) (sym (c .fault-at .ensures ∙ ap (faultAt (a .line)) (q .line-lacks .ensures)));
+      place = f .pre;
+    }
 
 pub read-number-line-spec : {M : Type 1} → statement M
 read-number-line-spec =

@@ -1,16 +1,14 @@
--- `read_head`: the length, the first four lines, the jobs, the count of the bounds, the bounds; after each group stands what was read of it. It rests on
--- `HeadLaws`.
+-- `read_head`: the length, the first four lines, the jobs, the count of the bounds, the bounds. After each group `rest₁` to `rest₄` say what is left to be
+-- read (`restAt-goes`, `line-goes`); a group that is refused is the answer (`restAt-stops`, `line-stops`).
 use mathlib.Core.Path.{refl, _≡_, sym, _∙_, ap, subst}
-use mathlib.Core.List.{List, []}
+use mathlib.Core.List.{List}
 use Prim.Native.Nat.{ℕ, _+_, _*_, _≤_}
 use native.Mathlib.Omega.{arith}
 use denote.Ref.{now}
-use lib.IntN.{ℤ, pos, negsuc, natAbs}
-use lib.ListN.{length, take, drop}
-use lib.Signed.{_≤ℤ_}
+use lib.IntN.{ℤ, pos, natAbs}
+use lib.ListN.{length, take}
 use mir.Facts.{toZ-ofZ}
 use mir.Syntax.{w32}
-use Rattle.whole.specs.Rules.{whole}
 use Rattle.text.specs.Bytes.{bytes}
 use Rattle.plan.specs.declared.Job.{Job}
 use Rattle.plan.specs.declared.Bound.{Bound}
@@ -19,23 +17,12 @@ use Rattle.lines.specs.declared.TextAnswer.the-variants.{Accepted}
 use Rattle.plan.specs.declared.First.{First}
 use Rattle.plan.specs.declared.Jobs.{Jobs}
 use Rattle.plan.specs.Limits.{mostJobs, mostBounds}
-use Rattle.lines.specs.Reading.{read, numberLine}
-use Rattle.lines.specs.ReadingLaws.{numberLine-read}
-use Rattle.plan.specs.PlanLines.{jobsAfter, boundsAfter, noJob, noBound, filled, planRest, planHead}
-use Rattle.plan.specs.ReadAt.{numberLineAt, wentAt, endAt, firstRest, IfOn}
-use Rattle.lines.specs.ReadAt.{atFault, faultyIn}
-use Rattle.lines.specs.ReadAtLaws.{atTold-goes, atTold-stops, atPlace-goes, atPlace-stops}
-use Rattle.plan.specs.ReadAtLaws.{endAt-fault}
-use Rattle.plan.specs.HeadLaws.{
-  planHead-long,
-  planHead-short,
-  planRest-jobs,
-  planRest-count,
-  planRest-bounds,
-  planRest-all,
-  planRead-refused,
-  planRead-accepted,
-}
+use Rattle.plan.specs.PlanLines.{noJob, noBound, filled, planRest, planHead}
+use Rattle.plan.specs.ReadAt.{LineAt, wentAt, endAt, firstRest, IfOn, planFromCount, planFromBounds}
+use Rattle.lines.specs.ReadAt.{atFault, faultyIn, RestAt}
+use Rattle.lines.specs.ReadAtLaws.{atPlace-goes, atPlace-stops, restAt-goes, restAt-stops, restAt-count}
+use Rattle.plan.specs.ReadAtLaws.{endAt-fault, endAt-place, line-goes, line-stops, line-range, count-range}
+use Rattle.plan.specs.HeadLaws.{planHead-long, planHead-short, planRead-refused, planRead-accepted}
 use borrow.Author.Needs.{needs}
 use Rattle.plan.proofs.reader.read_head.Statement.{statement}
 use Rattle.plan.proofs.reader.read_head.Tie as tie
@@ -89,16 +76,17 @@ at₁ c = c .before .went .given .0 .0
 abbrev first₁ : tie.After-known-told → First
 first₁ c = c .before .before .before .read-first .result
 
-head₁ : (c : tie.After-known-told) → planHead (s₁ c) ≡ planRest (first₁ c .window) (first₁ c .rounds) (first₁ c .last) (first₁ c .jobs) (drop (at₁ c) (s₁ c)) 5
-head₁ c =
+rest₁ : (c : tie.After-known-told) → RestAt (s₁ c) (planHead (s₁ c))
+    (planRest (first₁ c .window) (first₁ c .rounds) (first₁ c .last) (first₁ c .jobs)) (at₁ c) 5
+rest₁ c =
     let f = c .before .before .before in
-    planHead-short (s₁ c) (f .before .if1 .left) ∙ f .read-first .ensures .told ∙ ap (firstRest (s₁ c) (first₁ c)) (c .before .went .given .1)
-
-place₁ : (c : tie.After-known-told) → at₁ c ≤ length (s₁ c)
-place₁ c = atPlace-goes (endAt (first₁ c .went)) (length (s₁ c)) (c .before .before .before .read-first .ensures .place) (ap endAt (c .before .went .given .1))
+    record {
+      reads = planHead-short (s₁ c) (f .before .if1 .left) ∙ f .read-first .ensures .told ∙ ap (firstRest (s₁ c) (first₁ c)) (c .before .went .given .1);
+      place = atPlace-goes (endAt (first₁ c .went)) (length (s₁ c)) (f .read-first .ensures .place) (ap endAt (c .before .went .given .1));
+    }
 
 read-jobs-requires : tie.Need-read-jobs-requires
-read-jobs-requires c κs = (place₁ c, c .before .before .before .read-first .ensures .few)
+read-jobs-requires c κs = (rest₁ c .place, c .before .before .before .read-first .ensures .few)
 
 enum-known-jobs-went : tie.Need-enum-known-jobs-went
 enum-known-jobs-went c = search needs
@@ -117,13 +105,10 @@ returns-3 c =
     let at-read-jobs = c .before .before .before .before in
     let p = at-read-jobs .before in
     let r = at-read-jobs .read-jobs in
-    c .refused-plan3 .ensures
-    ∙ planRead-refused (s₁ p) (c .before .went-fault2 .result)
-    (atPlace-stops (endAt (r .result .went)) (length (s₁ p)) (r .ensures .1 .0) (ap endAt (c .before .before .enum-told2 .given .1))
-    (c .before .went-fault2 .ensures))
-    (head₁ p ∙ planRest-jobs (first₁ p .window) (first₁ p .rounds) (first₁ p .last) (first₁ p .jobs) (drop (at₁ p) (s₁ p))
-    (atTold-stops (s₁ p) _ (wentAt _ (r .result .went)) (r .ensures .0) (ap (wentAt _) (c .before .before .enum-told2 .given .1))
-    (c .before .went-fault2 .ensures ∙ endAt-fault _ (r .result .went))))
+    let stopped = restAt-stops _ _ (rest₁ p) _ (wentAt _ (r .result .went)) (r .ensures .0)
+    (endAt-place _ (r .result .went) (r .ensures .1 .0)) (ap (wentAt _) (c .before .before .enum-told2 .given .1))
+    (c .before .went-fault2 .ensures ∙ endAt-fault _ (r .result .went)) in
+    c .refused-plan3 .ensures ∙ planRead-refused (s₁ p) (c .before .went-fault2 .result) (stopped .1) (stopped .0)
 
 mul-number : tie.Need-mul-number
 mul-number c = search needs
@@ -145,15 +130,12 @@ at₂ c = c .before .jobs-went .given .0 .0
 abbrev jobs₂ : tie.After-known-told2 → Jobs
 jobs₂ c = c .before .before .before .read-jobs .result
 
-told₂ : (c : tie.After-known-told2)
-    → jobsAfter [] (first₁ (p₂ c) .jobs) (drop (at₁ (p₂ c)) (s₁ (p₂ c))) 5 ≡ read (take (first₁ (p₂ c) .jobs) (jobs₂ c .job)) (drop (at₂ c) (s₁ (p₂ c)))
-    (5 + 4 * first₁ (p₂ c) .jobs)
-told₂ c = atTold-goes (s₁ (p₂ c)) _ (wentAt _ (jobs₂ c .went)) (c .before .before .before .read-jobs .ensures .0)
+rest₂ : (c : tie.After-known-told2) → let f = first₁ (p₂ c) in RestAt (s₁ (p₂ c)) (planHead (s₁ (p₂ c)))
+    (planFromCount (f .window) (f .rounds) (f .last) (f .jobs) (take (f .jobs) (jobs₂ c .job))) (at₂ c) (5 + 4 * f .jobs)
+rest₂ c =
+    let r = c .before .before .before .read-jobs in
+    restAt-goes _ _ (rest₁ (p₂ c)) _ (wentAt _ (jobs₂ c .went)) (r .ensures .0) (endAt-place _ (jobs₂ c .went) (r .ensures .1 .0))
     (ap (wentAt _) (c .before .jobs-went .given .1))
-
-place₂ : (c : tie.After-known-told2) → at₂ c ≤ length (s₁ (p₂ c))
-place₂ c = atPlace-goes (endAt (jobs₂ c .went)) (length (s₁ (p₂ c))) (c .before .before .before .read-jobs .ensures .1 .0)
-    (ap endAt (c .before .jobs-went .given .1))
 
 filled₂ : (c : tie.After-known-told2) → jobs₂ c .job ≡ filled mostJobs noJob (take (first₁ (p₂ c) .jobs) (jobs₂ c .job))
 filled₂ c =
@@ -161,7 +143,7 @@ filled₂ c =
     (c .before .before .before .read-jobs .ensures .1 .1)
 
 read-number-line-requires : tie.Need-read-number-line-requires
-read-number-line-requires c κs = place₂ (c .before)
+read-number-line-requires c κs = rest₂ (c .before) .place
 
 enum-known-line : tie.Need-enum-known-line
 enum-known-line c = search needs
@@ -180,15 +162,9 @@ unfolding bytes
 returns-4 c =
     let at-read-number-line = c .before .before .before .before in
     let q = at-read-number-line .before .before in
-    let p = p₂ q in
-    let r = at-read-number-line .read-number-line in
-    c .refused-plan4 .ensures
-    ∙ planRead-refused (s₁ p) (c .before .number-fault .result)
-    (atPlace-stops (numberLineAt (r .result)) (length (s₁ p)) (r .ensures .1) (ap numberLineAt (c .before .before .enum-told3 .given .1))
-    (c .before .number-fault .ensures))
-    (head₁ p ∙ planRest-count (first₁ p .window) (first₁ p .rounds) (first₁ p .last) (first₁ p .jobs) (drop (at₁ p) (s₁ p)) (told₂ q)
-    (atTold-stops (s₁ p) _ (numberLineAt (r .result)) (r .ensures .0) (ap numberLineAt (c .before .before .enum-told3 .given .1))
-    (c .before .number-fault .ensures)))
+    let stopped = line-stops _ _ _ _ (restAt-count _ _ _ _ (rest₂ q)) _ (at-read-number-line .read-number-line .ensures)
+    (c .before .before .enum-told3 .given .1) (c .before .number-fault .ensures) in
+    c .refused-plan4 .ensures ∙ planRead-refused (s₁ (p₂ q)) (c .before .number-fault .result) (stopped .1) (stopped .0)
 
 -- ---- after the count of the bounds
 
@@ -201,29 +177,25 @@ z₃ c = c .before .line .given .0 .0
 abbrev at₃ : tie.After-known-told3 → ℕ
 at₃ c = c .before .line .given .0 .1 .0
 
-told₃ : (c : tie.After-known-told3)
-    → numberLine (bytes "bounds=") (pos 0) (pos mostBounds) (drop (at₂ (q₃ c)) (s₁ (p₂ (q₃ c)))) (5 + 4 * first₁ (p₂ (q₃ c)) .jobs) ≡ read (z₃ c)
-    (drop (at₃ c) (s₁ (p₂ (q₃ c)))) (5 + 4 * first₁ (p₂ (q₃ c)) .jobs + 1)
+rest₃ : (c : tie.After-known-told3) → let f = first₁ (p₂ (q₃ c)) in RestAt (s₁ (p₂ (q₃ c))) (planHead (s₁ (p₂ (q₃ c))))
+    (planFromBounds (f .window) (f .rounds) (f .last) (f .jobs) (take (f .jobs) (jobs₂ (q₃ c) .job)) (natAbs (z₃ c))) (at₃ c) (5 + 4 * f .jobs + 1)
 unfolding bytes
-told₃ c = let r = c .before .before .before .read-number-line in atTold-goes (s₁ (p₂ (q₃ c))) _ (numberLineAt (r .result)) (r .ensures .0)
-    (ap numberLineAt (c .before .line .given .1))
+rest₃ c = line-goes _ _ _ _ (restAt-count _ _ _ _ (rest₂ (q₃ c))) _ (c .before .before .before .read-number-line .ensures) (c .before .line .given .1)
+
+line₃ : (c : tie.After-known-told3)
+    → LineAt (s₁ (p₂ (q₃ c))) (bytes "bounds=") (pos 0) (pos mostBounds) (at₂ (q₃ c)) (5 + 4 * first₁ (p₂ (q₃ c)) .jobs)
+    (c .before .before .before .read-number-line .result)
+unfolding bytes
+line₃ c = c .before .before .before .read-number-line .ensures
 
 z-back : (c : tie.After-known-told3) → mir.Val.toZ w32 (mir.Val.ofZ w32 (z₃ c)) ≡ z₃ c
 z-back c = toZ-ofZ {w = w32} {z = z₃ c} (record { sfits = c .known-told3 .given .0 .1 })
 
-place₃ : (c : tie.After-known-told3) → at₃ c ≤ length (s₁ (p₂ (q₃ c)))
-place₃ c = let r = c .before .before .before .read-number-line in atPlace-goes (numberLineAt (r .result)) (length (s₁ (p₂ (q₃ c)))) (r .ensures .1)
-    (ap numberLineAt (c .before .line .given .1))
-
 few₃ : (c : tie.After-known-told3) → natAbs (z₃ c) ≤ mostBounds
-few₃ c = let q = numberLine-read (bytes "bounds=") (pos 0) (pos mostBounds) _ _ (told₃ c) .0 in at-most (z₃ c) (q .least) (q .most)
-  where
-    at-most : (z : ℤ) → pos 0 ≤ℤ z → z ≤ℤ pos mostBounds → natAbs z ≤ mostBounds
-    at-most (pos n) l m = omega whole
-    at-most (negsuc n) l m = absurd (omega whole)
+few₃ c = count-range (line₃ c) (c .before .line .given .1) .most
 
 count-requires : tie.Need-count-requires
-count-requires c κs = rw (z-back c) (numberLine-read (bytes "bounds=") (pos 0) (pos mostBounds) _ _ (told₃ c) .0 .least)
+count-requires c κs = rw (z-back c) (line-range (line₃ c) (c .before .line .given .1) .least)
 
 add-next : tie.Need-add-next
 add-next c = search needs
@@ -232,7 +204,7 @@ read-bounds-requires : tie.Need-read-bounds-requires
 read-bounds-requires c κs =
     let d = c .before in
     let e = p₂ (q₃ d) .before .before .before .read-first .ensures .few in
-    (place₃ d, (omega (arith, e), (e, subst (λ n. n ≤ mostBounds) (sym (c .count .ensures ∙ ap natAbs (z-back d))) (few₃ d))))
+    (rest₃ d .place, (omega (arith, e), (e, subst (λ n. n ≤ mostBounds) (sym (c .count .ensures ∙ ap natAbs (z-back d))) (few₃ d))))
 
 enum-known-bounds-went : tie.Need-enum-known-bounds-went
 enum-known-bounds-went c = search needs
@@ -246,22 +218,19 @@ went-fault-requires-3 c κs = tt
 refused-plan-requires-5 : tie.Need-refused-plan-requires-5
 refused-plan-requires-5 c κs = tt
 
+-- the reading of the bounds, by the count that was read
+rest₄ : (c : tie.After-count) → let d = c .before in let f = first₁ (p₂ (q₃ d)) in RestAt (s₁ (p₂ (q₃ d))) (planHead (s₁ (p₂ (q₃ d))))
+    (planFromBounds (f .window) (f .rounds) (f .last) (f .jobs) (take (f .jobs) (jobs₂ (q₃ d) .job)) (c .count .result)) (at₃ d) (5 + 4 * f .jobs + 1)
+rest₄ c = rw (c .count .ensures, z-back (c .before)) (rest₃ (c .before))
+
 returns-5 : tie.Need-returns-5
 returns-5 c =
     let b = c .before .before .before .before in
-    let d = b .before .before in
-    let q = q₃ d in
-    let p = p₂ q in
     let r = b .read-bounds in
-    let n = b .before .count .ensures ∙ ap natAbs (z-back d) in
-    c .refused-plan5 .ensures
-    ∙ planRead-refused (s₁ p) (c .before .went-fault3 .result)
-    (atPlace-stops (endAt (r .result .went)) (length (s₁ p)) (r .ensures .1 .0) (ap endAt (c .before .before .enum-told4 .given .1))
-    (c .before .went-fault3 .ensures))
-    (head₁ p ∙ planRest-bounds (first₁ p .window) (first₁ p .rounds) (first₁ p .last) (first₁ p .jobs) (drop (at₁ p) (s₁ p)) (told₂ q) (told₃ d)
-    (ap (λ (k : ℕ). boundsAfter (first₁ p .jobs) [] k (drop (at₃ d) (s₁ p)) (5 + 4 * first₁ p .jobs + 1)) (sym n)
-    ∙ atTold-stops (s₁ p) _ (wentAt _ (r .result .went)) (r .ensures .0) (ap (wentAt _) (c .before .before .enum-told4 .given .1))
-    (c .before .went-fault3 .ensures ∙ endAt-fault _ (r .result .went))))
+    let stopped = restAt-stops _ _ (rest₄ (b .before)) _ (wentAt _ (r .result .went)) (r .ensures .0)
+    (endAt-place _ (r .result .went) (r .ensures .1 .0))
+    (ap (wentAt _) (c .before .before .enum-told4 .given .1)) (c .before .went-fault3 .ensures ∙ endAt-fault _ (r .result .went)) in
+    c .refused-plan5 .ensures ∙ planRead-refused (s₁ (p₂ (q₃ (b .before .before)))) (c .before .went-fault3 .result) (stopped .1) (stopped .0)
 
 add-after : tie.Need-add-after
 add-after c =
@@ -274,16 +243,16 @@ add-after c =
     )
 
 -- answers with equal parts
-same-plan : {w w′ : ℤ} {js js′ : List Job} {b b′ : ℕ} {ds ds′ : List Bound} (rounds last jobs at n : ℕ) → w ≡ w′ → js ≡ js′ → b ≡ b′ → ds ≡ ds′
+same-plan : {w w′ : ℤ} {js js′ : List Job} {ds ds′ : List Bound} (rounds last jobs b at n : ℕ) → w ≡ w′ → js ≡ js′ → ds ≡ ds′
     → _≡_ {A = PlanRead}
     (record { answer = Accepted; plan = record { window = w; rounds = rounds; last = last; jobs = jobs; job = js; bounds = b; bound = ds }; at = at; line = n })
     (record {
       answer = Accepted;
-      plan = record { window = w′; rounds = rounds; last = last; jobs = jobs; job = js′; bounds = b′; bound = ds′ };
+      plan = record { window = w′; rounds = rounds; last = last; jobs = jobs; job = js′; bounds = b; bound = ds′ };
       at = at;
       line = n;
     })
-same-plan rounds last jobs at n p q r t = cc
+same-plan rounds last jobs b at n p q t = cc
 
 returns-6 : tie.Need-returns-6
 returns-6 c =
@@ -296,17 +265,15 @@ returns-6 c =
     let r = b .read-bounds in
     let k = b .before .count .result in
     let end = e .before .bounds-went .given .0 .0 in
-    let n : k ≡ natAbs (z₃ d) = b .before .count .ensures ∙ ap natAbs (z-back d) in
     let back : mir.Val.toZ w32 (mir.Val.ofZ w32 (f .window)) ≡ f .window = toZ-ofZ {w = w32} {z = f .window} (record { sfits = c .struct-told .given .0 .1 }) in
     let full : r .result .bound ≡ filled mostBounds noBound (take k (r .result .bound)) =
     subst (λ w. IfOn w (r .result .bound ≡ filled mostBounds noBound (take k (r .result .bound)))) (e .before .bounds-went .given .1) (r .ensures .1 .1) in
+    let rest = restAt-goes _ _ (rest₄ (b .before)) _ (wentAt _ (r .result .went)) (r .ensures .0)
+    (endAt-place _ (r .result .went) (r .ensures .1 .0))
+    (ap (wentAt _) (e .before .bounds-went .given .1)) in
     sym
-    (planRead-accepted (s₁ p) _ end (5 + 4 * f .jobs + 1 + k)
-    (atPlace-goes (endAt (r .result .went)) (length (s₁ p)) (r .ensures .1 .0) (ap endAt (e .before .bounds-went .given .1)))
-    (head₁ p ∙ planRest-all (f .window) (f .rounds) (f .last) (f .jobs) (drop (at₁ p) (s₁ p)) (told₂ q) (told₃ d)
-    (ap (λ (x : ℕ). boundsAfter (f .jobs) [] x (drop (at₃ d) (s₁ p)) (5 + 4 * f .jobs + 1)) (sym n)
-    ∙ atTold-goes (s₁ p) _ (wentAt _ (r .result .went)) (r .ensures .0) (ap (wentAt _) (e .before .bounds-went .given .1))))
-    ∙ same-plan (f .rounds) (f .last) (f .jobs) end (5 + 4 * f .jobs + 1 + k) (sym back) (sym (filled₂ q)) (sym n) (sym full))
+    (planRead-accepted (s₁ p) _ end (5 + 4 * f .jobs + 1 + k) (rest .place) (rest .reads)
+    ∙ same-plan (f .rounds) (f .last) (f .jobs) k end (5 + 4 * f .jobs + 1 + k) (sym back) (sym (filled₂ q)) (sym full))
 
 pub read-head-spec : {M : Type 1} → statement M
 read-head-spec =
