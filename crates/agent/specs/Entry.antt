@@ -1,7 +1,7 @@
 -- The export for C (document 01, 'Offers and runs': 'it gets the length written, or -12 when the slice is too short. Bytes past that length
 -- keep their values, and with -12 all bytes do').
 use Prim.Native.Nat.{ℕ}
-use mathlib.Core.Bool.{Bool, true, false, cond}
+use mathlib.Core.Bool.{cond}
 use mathlib.Core.List.{List}
 use lib.IntN.{ℤ, pos, negℤ}
 use lib.ListN.{length}

@@ -19,14 +19,14 @@ use Rattle.lines.specs.Written.{writtenAs}
 use Rattle.session.specs.Sessions.{dispatchOutput, sessionAnswer}
 use Rattle.agent.specs.Entry.{entryAnswer}
 
--- a length that the entry tells
+-- a length that the entry returns
 pub record EntryTold (s out : List ℕ) (n : ℕ) : Type 0 where
   pub room : n ≤ length out
   pub answer : pos n ≡ entryAnswer s out
 
--- the number of refusal that it tells
+-- the refusal that it returns
 pub record NoRoomTold (s out : List ℕ) (n : ℕ) : Type 0 where
-  pub is : n ≡ 12
+  pub is : n ≡ number NoRoom
   pub answer : negℤ (pos n) ≡ entryAnswer s out
 
 module _ (s out : List ℕ) {r : Written} (d : r ≡ sessionAnswer s out) where
@@ -55,5 +55,5 @@ module _ (s out : List ℕ) {r : Written} (d : r ≡ sessionAnswer s out) where
       of true h f = clash (cc)
       of false h f =
           let is : x ≡ NoRoom = cc in
-          let twelve : n ≡ 12 = q ∙ ap number is in
-          record { is = twelve; answer = ap (λ (n : ℕ). negℤ (pos n)) twelve ∙ sym (ap by-room h) }
+          let no-room : n ≡ number NoRoom = q ∙ ap number is in
+          record { is = no-room; answer = ap (λ (n : ℕ). negℤ (pos n)) no-room ∙ sym (ap by-room h) }

@@ -1,4 +1,4 @@
--- `gekumosari_session`: a length is one of the lent slice, and so an i64 holds it (`entry-length`); a refusal is the 12 (`entry-refused`).
+-- `gekumosari_session`: a length is at most that of the lent slice, and so an i64 holds it (`entry-length`); a refusal is by 12 (`entry-refused`).
 use Prim.Native.Nat.{ℕ, _^_, _<_}
 use mathlib.Core.Path.{_≡_, refl, _∙_}
 use native.Mathlib.Omega.{arith}
@@ -7,6 +7,8 @@ use lib.IntN.{pos, negℤ, _-ℤ_}
 use mir.Syntax.{w64}
 use mir.Val.{ofZ, toZ}
 use mir.Facts.{sfits-lit, toZ-pos}
+use Rattle.lines.specs.declared.Refusal.the-variants.{NoRoom}
+use Rattle.lines.specs.Refusals.{number}
 use Rattle.agent.specs.EntryLaws.{EntryTold, entry-length, NoRoomTold, entry-refused}
 use borrow.Author.Needs.{needs}
 use Rattle.agent.proofs.entry.gekumosari_session.Statement.{statement}
@@ -42,7 +44,7 @@ enum-known-told-2 c = search needs
 number-requires : tie.Need-number-requires
 number-requires c κs = search needs
 
--- the 12
+-- the refusal
 refused-told : (c : tie.After-number) → let s = c .before .before .before .before .before .before .before .before .before .before in
     NoRoomTold (now (s .args .text)) (now (s .args .out)) (c .number .result)
 refused-told c =
@@ -65,7 +67,7 @@ returns c = (toZ-pos w64 (length-small c) ∙ length-told c .answer, c .before .
 same-length-2 : tie.Need-same-length-2
 same-length-2 c = search needs
 
-less : {n : ℕ} → n ≡ 12 → toZ w64 (ofZ w64 (pos 0 -ℤ toZ w64 n)) ≡ negℤ (pos n)
+less : {n : ℕ} → n ≡ number NoRoom → toZ w64 (ofZ w64 (pos 0 -ℤ toZ w64 n)) ≡ negℤ (pos n)
 less e = rw (e) refl
 
 returns-2 : tie.Need-returns-2
