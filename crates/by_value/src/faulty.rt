@@ -19,7 +19,7 @@ fn in_session(s: &[u8]) {
     tell_faulty(n, d, part);
 }
 
-// P, P with a window of 0, P with nothing behind its bounds line, and no text at all.
+// P, P with a window of 0, P with nothing after its bounds line, and no text at all.
 fn plans() {
     say(b"faulty lines of plans\n");
     in_plan(
@@ -34,7 +34,7 @@ fn plans() {
     in_plan(b"");
 }
 
-// P without its last LF, P with a step behind it, P7, and P with a pair that comes again.
+// P without its last LF, P with a step after it, P7, and P with a pair that is repeated.
 fn more_plans() {
     in_plan(
         b"window=10\nrounds=100\nlast=1000\njobs=1\nmin=2\nmax=4\nrelease=0\ndeadline=10\nbounds=2\nbound=ns1,ts1,12\nbound=ts1,ns1,-8",

@@ -1,4 +1,4 @@
-// Plans, calendars and runs, put together by hand.
+// Plans, calendars and runs, built by hand.
 
 use calendars::Calendar;
 use calendars::Terms;

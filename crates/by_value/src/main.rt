@@ -1,4 +1,4 @@
-// The operations on values, run: what other programs read from a text is put together by hand here, and handed over. It reads no input; what it
+// The operations on values, run: what other programs read from a text is built by hand here, and passed in. It reads no input; what it
 // prints is compared with the crate's file `stdout`, which was written from document 01 and not by this program.
 
 mod faulty;

@@ -16,7 +16,7 @@ use plan::Letter;
 use plan::Plan;
 use rounds::VerdictTold;
 
-// The text that tells what is decided of a plan.
+// The text of what is decided of a plan.
 fn answered(p: Plan) {
     let mut out = [0u8; 1024];
     let told = values::answer_value(p, &mut out);
@@ -48,7 +48,7 @@ fn judged(p: Plan) {
     }
 }
 
-// What writing into a lent slice came to.
+// The result of writing into a lent slice.
 fn tell_written(w: Written) {
     match w {
         Written::Length(m) => tell_line(b"length=", m as u64),
@@ -64,7 +64,7 @@ fn wrote(p: Plan, out: &mut [u8]) {
     say(b"\n");
 }
 
-// The same of the text that tells what is decided of it.
+// The same of the text of what is decided of it.
 fn answered_in(p: Plan, out: &mut [u8]) {
     let w = values::answer_value(p, out);
     tell_written(w);
@@ -117,7 +117,7 @@ pub fn decisions() {
     no_strategy();
 }
 
-// One plan, refused in each of the ways in which a plan is handed over.
+// One plan, refused in each of the ways in which a plan is passed in.
 fn refused(p: Plan) {
     let mut out = [b'.'; 16];
     judged(p);

@@ -62,7 +62,7 @@ fn second_window(p: Plan, c: Calendar, run: Run) {
     ask(p, c, done);
 }
 
-// The same steps, each handed over as a step.
+// The same steps, each passed in as a step.
 fn taken(p: Plan, c: Calendar) {
     let fresh = runs::new_run();
     let asked = step(p, c, fresh, Step::Ask);

@@ -13,14 +13,14 @@ pub fn say(s: &[u8]) {
     io::write_all(STDOUT_FILENO, s);
 }
 
-// A number, and the byte behind it.
+// A number, and the byte after it.
 fn tell_number(z: i64, end: u8) {
     let mut line = [0u8; 32];
     let n = text::put_ended_number(&mut line, 0, z, end);
     io::write_all(STDOUT_FILENO, &line[..n]);
 }
 
-// A count, and what stands behind it.
+// A count, and the bytes after it.
 fn tell_count(n: u64, end: &[u8]) {
     io::print_decimal(STDOUT_FILENO, n);
     say(end);
@@ -49,7 +49,7 @@ pub fn tell_faulty(n: u64, d: u64, part: &[u8]) {
     say(b"]\n");
 }
 
-// A time, and the byte behind it.
+// A time, and the byte after it.
 fn tell_time(t: RunTime, end: u8) {
     tell_number(t.0, end);
 }

@@ -7,7 +7,7 @@ use lines::LONGEST_TEXT;
 use session::MOST_BYTES;
 
 fn main() {
-    // One byte more than the longest text has, so that a longer one is told.
+    // One byte more than the longest text has, so that a longer one is recognised.
     let mut text = [0u8; LONGEST_TEXT + 1];
     let n = io::read_full(STDIN_FILENO, &mut text);
     let mut out = [0u8; MOST_BYTES];

@@ -1,4 +1,4 @@
--- `tell_number`: the place behind the number is one of the line's 32 bytes, so that it counts bytes of the part that is written.
+-- `tell_number`: the place after the number is one of the line's 32 bytes, so that it counts bytes of the part that is written.
 use Prim.Native.Nat.{ℕ, _≤_}
 use mathlib.Core.Path.{_≡_}
 use mathlib.Core.List.{List}
