@@ -1,8 +1,8 @@
 -- A case: a program, its standard input and its whole standard output, as quoted texts.
 use Prim.Native.Nat.{ℕ}
 use Prim.Native.String.{String}
-use mathlib.Core.Path.{_≡_, refl}
-use mathlib.Core.List.{List, [], _∷_, map}
+use mathlib.Core.Path.{_≡_}
+use mathlib.Core.List.{List, map}
 use Rattle.text.specs.Bytes.{bytes}
 use Rattle.text.specs.Lines.{lenTo, afterKey}
 use Rattle.text.specs.Numbers.{allDigits, isPositive, isNumber, digitsValue, numberValue, numberIn, numberOf, digitsBefore, decimal}

@@ -84,7 +84,7 @@ one-text = planAlone-unique
 
 -- ---- demand 3
 
--- 'For an accepted plan': one that was read at the head of a text, or one that was handed over as a value, with a place for each job and bound, and judged good
+-- 'For an accepted plan': one that was read at the head of a text, or one that was passed in as a value, with a place for each job and bound, and judged good
 pub read-accepted : (s : List ℕ) {p : Plan} {t : List ℕ} {n : ℕ} → planHead s ≡ read p t n → Accepted p
 read-accepted s e = planHead-accepted s e
 
@@ -162,7 +162,7 @@ module _ (p : Plan) (good : Accepted p) where
           → stepped p (calendar p c) r (Finish t) .answer ≡ Refused refusal.OutsideTimes
       outside-refused = demand-3.outside-refused p good m c accepted r h reached j i s runs
 
-  -- and that run is any that a session comes to, whatever its steps are: those that were refused have left it as it was
+  -- and every session's run is such a run, whatever its steps are: those that were refused have left it as it was
   module _ (m : ℕ) (c : Rows) (accepted : outcome p ≡ settled m c) (sts : List Step) where
     pub session-kept : ReachedWith p (calendar p c) (afterSteps p (calendar p c) newRun sts)
     session-kept = demand-3.session-reached p (calendar p c) sts
@@ -182,7 +182,7 @@ pub step-effect : (p : Plan) (c : Calendar) (r : Run) (h : History) (st : Step)
     → StepEffect p c r h (stepped p c r st .run) (historyAfter r (stepped p c r st .answer) h)
 step-effect = demand-3.step-effect
 
--- what a start and a finish that were taken make of any run: it runs since the time that was told; it waits for the window's next job, or for the next
+-- what a start and a finish that were taken make of any run: it runs since the time of the answer; it waits for the window's next job, or for the next
 -- window's first
 module _ (p : Plan) (c : Calendar) (r : Run) (j i : ℕ) where
   pub started-runs : (choice : Choice) (t : RunTime) → stepped p c r (Start choice) .answer ≡ Started j i t

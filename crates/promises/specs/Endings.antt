@@ -4,23 +4,17 @@
 -- range of T is not reached (`auto-taken`).
 use Prim.Native.Nat.{ℕ, zero, suc, _-_, _≤_, _<_}
 use mathlib.Core.Path.{_≡_, refl, sym, ap, subst, _∙_}
-use mathlib.Core.Bool.{Bool, true, false, cond}
+use mathlib.Core.Bool.{false}
 use mathlib.Core.List.{List, [], _∷_, _++_, append-assoc}
 use native.Mathlib.Omega.{arith}
-use lib.Dec.{ltb}
-use lib.Signed.{ltZ}
-use lib.IntN.{_+ℤ_}
-use lib.ListN.{length, getD}
-use borrow.Author.Tests.{ltb-true, ltb-false}
+use lib.ListN.{length}
 use Rattle.whole.specs.Clash.{clash}
-use Rattle.text.specs.Numbers.{within}
-use Rattle.clock.specs.declared.RunTime.{RunTime}
 use Rattle.plan.specs.declared.Plan.{Plan}
 use Rattle.lines.specs.declared.Refusal.{Refusal}
 use Rattle.lines.specs.declared.Refusal.the-variants as refusal
 use Rattle.lines.specs.Refusals.{refusedLine}
 use Rattle.lines.specs.Reading.{Reading, read, refused, next}
-use Rattle.plan.specs.PlanLines.{planHead, planAlone, noJob}
+use Rattle.plan.specs.PlanLines.{planHead, planAlone}
 use Rattle.plan.specs.PlanLaws.{planHead-accepted}
 use Rattle.plan.specs.Accepted.{Accepted}
 use Rattle.bounds.specs.Tables.{Rows}
@@ -149,7 +143,7 @@ pub data LinesAre : List ℕ → ℕ → List Step → Type 0 where
   none : {n : ℕ} → LinesAre [] n []
   then : {s u : List ℕ} {n k : ℕ} {st : Step} {sts : List Step} → stepLine s n ≡ read st u k → LinesAre u k sts → LinesAre s n (st ∷ sts)
 
--- every line behind a settled plan is a step, and the output is the answers to all of them; none ends the session (`goes-on`)
+-- every line after a settled plan is a step, and the output is the answers to all of them; none ends the session (`goes-on`)
 pub record TakenWhole (s : List ℕ) : Type 0 where
   pub plan : Plan
   pub steps-text : List ℕ

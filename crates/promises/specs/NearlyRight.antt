@@ -1,7 +1,7 @@
 -- Plans that tell right from nearly right: each has another verdict under a definition that is off by little.
 use mathlib.Core.Path.{refl}
 use mathlib.Core.List.{List, [], _∷_}
-use Rattle.promises.specs.Case.{Case, Calendar, Dispatch, Right, computing}
+use Rattle.promises.specs.Case.{Case, Calendar, Right, computing}
 
 abbrev pub nearlyRight : List Case
 nearlyRight =

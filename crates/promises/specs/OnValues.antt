@@ -59,7 +59,9 @@ planP = planWith (pos 10) 1
 abbrev calendarWith : ℤ → ℤ → ℕ → ℤ → ℕ → ℤ → Calendar
 calendarWith low high below c above d =
     record {
-      terms = record { low = record { 0 = low }; high = record { 0 = high }; below = record { 0 = below }; above = record { 0 = above } } ∷ replicate (mostJobs - 1) noTerms;
+      terms =
+          record { low = record { 0 = low }; high = record { 0 = high }; below = record { 0 = below }; above = record { 0 = above } }
+          ∷ replicate (mostJobs - 1) noTerms;
       «at_least» = c ∷ replicate (mostJobs * mostEvents - 1) (pos 0);
       «at_most» = d ∷ replicate (mostJobs * mostEvents - 1) (pos 0);
     }
@@ -145,7 +147,8 @@ orderCases =
     -- an auto start at -5 is refused by 2,0 and not by 8: no plan has this calendar, and an ask is answered by its offer
     ∷ stays planP (between (negsuc 4) (pos 6)) newRun Ask (offered (negsuc 4) (pos 6))
     ∷ stays planP (between (negsuc 4) (pos 6)) newRun (Start Auto) outside
-    ∷ moves planP (between (negsuc 4) (pos 6)) newRun (Start (At (atTime (pos 0)))) (Started 1 1 (atTime (pos 0))) (inFirstWindow (Running 1 1 (atTime (pos 0))))
+    ∷ moves planP (between (negsuc 4) (pos 6)) newRun (Start (At (atTime (pos 0)))) (Started 1 1 (atTime (pos 0)))
+    (inFirstWindow (Running 1 1 (atTime (pos 0))))
     ∷ []
 
 -- 'a run's window 1..`last`, or `last` + 1 waiting for job 1 (the run is over), its job 1..`jobs`'; times

@@ -1,10 +1,10 @@
 -- No two answers meet one promise. Most crates say it of their own operations, in `Unique`; here it is said of those of `clock`, `bounds` and `rounds`. What
--- a set of bounds leaves open is told in docs/PROMISES.md.
+-- a set of bounds leaves open is said in docs/PROMISES.md.
 use Prim.Native.Nat.{ℕ}
 use mathlib.Core.Path.{_≡_, ap}
 use mathlib.Core.Bool.{Bool}
 use mathlib.Core.List.{List}
-use lib.IntN.{ℤ, pos}
+use lib.IntN.{ℤ}
 use Rattle.text.specs.Unique.{only}
 use Rattle.clock.specs.declared.WindowTime.{WindowTime}
 use Rattle.clock.specs.declared.RunTime.{RunTime}

@@ -24,7 +24,7 @@ use Rattle.bounds.specs.Tables.{Cell, off, upto, least, plus, join, Rows, at, j
 use Rattle.bounds.specs.Elimination.{onlyIf, finishCell, startCell, withoutFinish, withoutStart, thenSet, withoutPlace, eliminated}
 use Rattle.bounds.specs.BuildLaws.{eventOf-start, eventOf-finish, byNode}
 use Rattle.rounds.specs.Rounds.{ownNodes, moved}
-use Rattle.strategy.specs.SetLaws.{judgedSet-at, judgedSet-sound, judgedSet-some}
+use Rattle.strategy.specs.SetLaws.{judgedSet-at, judgedSet-agrees, judgedSet-some}
 use Rattle.strategy.specs.PlaceLaws.{thenSet-bounds}
 use Rattle.strategy.specs.WindowLaws.{this-shift}
 use Rattle.strategy.specs.JoinedLaws.{nextNode, next-later, moved-later, event-next-start, event-next-finish, job-next, next-shift}
@@ -214,11 +214,11 @@ plus-plus (upto w) a b d e h = ap upto (regroup w a b d e h)
     regroup : (w a b d e : ℤ) → a +ℤ b ≡ d +ℤ e → (w +ℤ a) +ℤ b ≡ (w +ℤ d) +ℤ e
     regroup w a b d e h = omega (shows eq (any ⊕ any ⊕ any) (any ⊕ any ⊕ any), wholes)
 
-join-plus : (c e : Cell) (y s z : ℤ) → join (plus c (s -ℤ y)) (plus e (z -ℤ s)) ≡ plus (join c e) (z -ℤ y)
+join-moved : (c e : Cell) (y s z : ℤ) → join (plus c (s -ℤ y)) (plus e (z -ℤ s)) ≡ plus (join c e) (z -ℤ y)
 unfolding join plus
-join-plus off e y s z = refl
-join-plus (upto w) off y s z = refl
-join-plus (upto w) (upto v) y s z = ap upto (omega (shows eq (any ⊕ (any ⊖ any) ⊕ (any ⊕ (any ⊖ any))) (any ⊕ any ⊕ (any ⊖ any)), wholes))
+join-moved off e y s z = refl
+join-moved (upto w) off y s z = refl
+join-moved (upto w) (upto v) y s z = ap upto (omega (shows eq (any ⊕ (any ⊖ any) ⊕ (any ⊕ (any ⊖ any))) (any ⊕ any ⊕ (any ⊖ any)), wholes))
 
 turned : (f z y m : ℤ) → f ≡ z → (f -ℤ y) +ℤ m ≡ m +ℤ (z -ℤ y)
 turned f z y m e = omega (shows eq (any ⊖ any ⊕ any) (any ⊕ (any ⊖ any)), wholes)
@@ -230,15 +230,15 @@ turned-back f y z m e = omega (shows eq (any ⊖ any ⊕ any) (any ⊕ (any ⊖ 
 
 module _ (p : Plan) where
   -- on the nodes below k, cell for cell: g of two windows is f of one, moved
-  abbrev pub Shifted : ℕ → (ℕ → ℕ → Cell) → (ℕ → ℕ → Cell) → Type 0
-  Shifted k f g = (y z : ℕ) → y < k → z < k → g (nextNode p y) (nextNode p z) ≡ shifted p y z (f y z)
+  abbrev pub MovedCells : ℕ → (ℕ → ℕ → Cell) → (ℕ → ℕ → Cell) → Type 0
+  MovedCells k f g = (y z : ℕ) → y < k → z < k → g (nextNode p y) (nextNode p z) ≡ shifted p y z (f y z)
 
   pub next-below : (k y : ℕ) → y < k → nextNode p y < k + ownNodes p
   next-below k zero h = omega arith
   next-below k (suc y) h = rw (next-later p (suc y) (omega arith)) (omega arith)
 
   -- judged, they are so still, and what is no contradiction in two windows is none in one
-  module _ (k K : ℕ) (K-is : K ≡ k + ownNodes p) (low : k ≤ nodes (p .jobs)) (f g : ℕ → ℕ → Cell) (same : Shifted k f g)
+  module _ (k K : ℕ) (K-is : K ≡ k + ownNodes p) (low : k ≤ nodes (p .jobs)) (f g : ℕ → ℕ → Cell) (same : MovedCells k f g)
       (B : Rows) (B-is : judgedSet p K g ≡ bounds B) where
     below : (y : ℕ) → y < k → nextNode p y < K
     below y h = let b = next-below k y h in omega arith
@@ -252,12 +252,12 @@ module _ (p : Plan) where
     alone-set (bounds A) e = (A, e)
     alone-set contradiction e =
         let r = judgedSet-some p k f e in
-        let s = judgedSet-sound p K g B B-is (nextNode p (r .0)) (nextNode p (r .1)) (below (r .0) (r .2)) (below (r .1) (r .3)) in
+        let s = judgedSet-agrees p K g B B-is (nextNode p (r .0)) (nextNode p (r .1)) (below (r .0) (r .2)) (below (r .1) (r .3)) in
         let t = r .4 in
         let q = ap isContradiction (judged-same (r .0) (r .1) (r .2) (r .3)) in
         clash (cc)
 
-    pub shifted-set : (A : Rows) × (judgedSet p k f ≡ bounds A) × Shifted k (at A) (at B)
+    shifted-set : (A : Rows) × (judgedSet p k f ≡ bounds A) × MovedCells k (at A) (at B)
     shifted-set =
         let r = alone-set (judgedSet p k f) refl in (
           r .0,
@@ -286,7 +286,7 @@ module _ (p : Plan) where
 
   -- ---- a place of one window and of two
 
-  module _ (i : ℕ) (low : i < p .jobs) (A B : Rows) (same : Shifted (nodes (suc i)) (at A) (at B)) where
+  module _ (i : ℕ) (low : i < p .jobs) (A B : Rows) (same : MovedCells (nodes (suc i)) (at A) (at B)) where
     start-is : startNode (p .jobs + i) ≡ nextNode p (startNode i)
     start-is = let e : startNode (p .jobs + i) ≡ startNode i + ownNodes p = omega arith in e ∙ sym (next-later p (startNode i) (omega arith))
 
@@ -341,15 +341,15 @@ module _ (p : Plan) where
           (moved p z -ℤ moved p y))
           ∙ least-plus (at A y z) _ (moved p z -ℤ moved p y)
 
-    pub finish-shifted : Shifted fᵢ (finishCell p i A) (finishCell p (p .jobs + i) B)
+    finish-shifted : MovedCells fᵢ (finishCell p i A) (finishCell p (p .jobs + i) B)
     finish-shifted y z a b = finish-shifted-at y z a b
 
     module _ (W : Rows) (W-is : withoutFinish p (p .jobs + i) B ≡ bounds W) where
-      pub without-finish : (V′ : Rows) × (withoutFinish p i A ≡ bounds V′) × Shifted fᵢ (at V′) (at W)
+      pub without-finish : (V′ : Rows) × (withoutFinish p i A ≡ bounds V′) × MovedCells fᵢ (at V′) (at W)
       without-finish =
           shifted-set fᵢ (finishNode (p .jobs + i)) (omega arith) (omega arith) (finishCell p i A) (finishCell p (p .jobs + i) B) finish-shifted W W-is
 
-      start-shifted : Shifted sᵢ (startCell i (without-finish .0)) (startCell (p .jobs + i) W)
+      start-shifted : MovedCells sᵢ (startCell i (without-finish .0)) (startCell (p .jobs + i) W)
       unfolding startCell
       start-shifted y z a b =
           let v = without-finish in
@@ -357,16 +357,16 @@ module _ (p : Plan) where
           (ap₂ join
           (ap (λ s. at W (nextNode p y) s) start-is ∙ v .2 y sᵢ (omega arith) (omega arith))
           (ap (λ s. at W s (nextNode p z)) start-is ∙ v .2 sᵢ z (omega arith) (omega arith))
-          ∙ join-plus (at (v .0) y sᵢ) (at (v .0) sᵢ z) (moved p y) (moved p sᵢ) (moved p z))
+          ∙ join-moved (at (v .0) y sᵢ) (at (v .0) sᵢ z) (moved p y) (moved p sᵢ) (moved p z))
           ∙ least-plus (at (v .0) y z) (join (at (v .0) y sᵢ) (at (v .0) sᵢ z)) (moved p z -ℤ moved p y)
 
       pub without-start : (B₂ : Rows) → withoutStart p (p .jobs + i) W ≡ bounds B₂
-          → (A₂ : Rows) × (withoutStart p i (without-finish .0) ≡ bounds A₂) × Shifted sᵢ (at A₂) (at B₂)
+          → (A₂ : Rows) × (withoutStart p i (without-finish .0) ≡ bounds A₂) × MovedCells sᵢ (at A₂) (at B₂)
       without-start B₂ e =
           shifted-set sᵢ (startNode (p .jobs + i)) (omega arith) (omega arith) (startCell i (without-finish .0)) (startCell (p .jobs + i) W) start-shifted B₂ e
 
-    pub without-place : (B₂ : Rows) → withoutPlace p (p .jobs + i) B ≡ bounds B₂
-        → (A₂ : Rows) × (withoutPlace p i A ≡ bounds A₂) × Shifted (nodes i) (at A₂) (at B₂)
+    without-place : (B₂ : Rows) → withoutPlace p (p .jobs + i) B ≡ bounds B₂
+        → (A₂ : Rows) × (withoutPlace p i A ≡ bounds A₂) × MovedCells (nodes i) (at A₂) (at B₂)
     unfolding withoutPlace thenSet
     without-place B₂ e =
         let r = thenSet-bounds (withoutFinish p (p .jobs + i) B) (withoutStart p (p .jobs + i)) B₂ e in
@@ -376,7 +376,8 @@ module _ (p : Plan) where
 
   -- ---- several places
 
-  pub elim-shifted : (count : ℕ) (A B : Rows) → count ≤ p .jobs → Shifted (nodes count) (at A) (at B) → (B₂ : Rows) → eliminated p (p .jobs) count B ≡ bounds B₂
+  pub elim-shifted : (count : ℕ) (A B : Rows) → count ≤ p .jobs → MovedCells (nodes count) (at A) (at B)
+      → (B₂ : Rows) → eliminated p (p .jobs) count B ≡ bounds B₂
       → (A₂ : Rows) × (eliminated p 0 count A ≡ bounds A₂)
   unfolding eliminated thenSet
   elim-shifted zero A B low same B₂ e = (A, refl)

@@ -9,15 +9,15 @@ use Rattle.bounds.specs.Tables.{Cell, off, upto, least, plus, join}
 use Rattle.bounds.specs.Elimination.{onlyIf}
 use Rattle.strategy.specs.Keeping.{Holds}
 
-lesser-iff : (w v x : ℤ) (b : Bool) → leZ w v ≡ b → Holds (cond b (upto w) (upto v)) x ↔ ((x ≤ℤ w) × (x ≤ℤ v))
-lesser-iff w v x true e = omega wholes
-lesser-iff w v x false e = omega wholes
+lesser-holds : (w v x : ℤ) (b : Bool) → leZ w v ≡ b → Holds (cond b (upto w) (upto v)) x ↔ ((x ≤ℤ w) × (x ≤ℤ v))
+lesser-holds w v x true e = omega wholes
+lesser-holds w v x false e = omega wholes
 
 pub least-iff : (c d : Cell) (x : ℤ) → Holds (least c d) x ↔ (Holds c x × Holds d x)
 unfolding least
 least-iff off d x = (λ h. (tt, h), λ h. h .1)
 least-iff (upto w) off x = (λ h. (h, tt), λ h. h .0)
-least-iff (upto w) (upto v) x = lesser-iff w v x (leZ w v) refl
+least-iff (upto w) (upto v) x = lesser-holds w v x (leZ w v) refl
 
 pub plus-iff : (c : Cell) (a x : ℤ) → Holds (plus c a) x ↔ Holds c (x -ℤ a)
 unfolding plus
@@ -35,9 +35,9 @@ unfolding join
 join-back w v x h = h
 
 -- a cell that says something is no empty cell
-pub present : (c : Cell) (a : ℤ) → ((x : ℤ) → Holds c x → x ≤ℤ a) → (w : ℤ) × (c ≡ upto w)
-present off a h = absurd (let no-room : (a +ℤ pos 1) ≤ℤ a = h (a +ℤ pos 1) tt in omega wholes)
-present (upto w) a h = (w, refl)
+pub bounded-cell : (c : Cell) (a : ℤ) → ((x : ℤ) → Holds c x → x ≤ℤ a) → (w : ℤ) × (c ≡ upto w)
+bounded-cell off a h = absurd (let no-room : (a +ℤ pos 1) ≤ℤ a = h (a +ℤ pos 1) tt in omega wholes)
+bounded-cell (upto w) a h = (w, refl)
 
 pub holds-onlyIf : (b : Bool) (c : Cell) (x : ℤ) → (b ≡ true → Holds c x) → Holds (onlyIf b c) x
 holds-onlyIf true c x h = h refl

@@ -26,7 +26,7 @@ use Rattle.strategy.specs.CellLaws.{least-iff, plus-iff, join-keeps, joi
 abbrev pub KeepsAt : ℕ → (ℕ → ℕ → Cell) → (ℕ → ℤ) → Type 0
 KeepsAt k f X = (y z : ℕ) → y < k → z < k → Holds (f y z) (X z -ℤ X y)
 
-pub holds-less : (c : Cell) (x y : ℤ) → x ≤ℤ y → Holds c y → Holds c x
+holds-less : (c : Cell) (x y : ℤ) → x ≤ℤ y → Holds c y → Holds c x
 holds-less off x y l h = tt
 holds-less (upto w) x y l h = omega wholes
 

@@ -15,6 +15,7 @@ use Rattle.plan.specs.declared.Bound.{Bound}
 use Rattle.plan.specs.declared.Plan.{Plan}
 use Rattle.plan.specs.EventNames.{isNext}
 use Rattle.plan.specs.Accepted.{BoundAccepted, Accepted}
+use Rattle.plan.specs.ListLaws.{All}
 use Rattle.bounds.specs.declared.Event.the-variants.{Start, Finish}
 use Rattle.bounds.specs.declared.Judgement.{Judgement}
 use Rattle.bounds.specs.declared.Judgement.the-variants.{Contradiction, LeftOut, Kept}
@@ -26,11 +27,11 @@ use Rattle.rounds.specs.Given.{placeOf, eventAt, betweenBounds}
 use Rattle.rounds.specs.Rounds.{C0, ownNodes, moved, onNext, joined}
 use Rattle.strategy.specs.SetLaws.{judgedSet-at}
 use Rattle.strategy.specs.PlaceLaws.{thenSet-bounds}
-use Rattle.strategy.specs.GivenLaws.{listed-accepted, listed-one-this, All, across-all, all-first, all-others}
+use Rattle.strategy.specs.GivenLaws.{listed-accepted, listed-one-this, across-all}
 use Rattle.strategy.specs.WindowLaws.{place-this}
-use Rattle.strategy.specs.JoinedLaws.{C0-tidy, C0-past, nextNode, next-later, onNext-next, joinedCell}
+use Rattle.strategy.specs.JoinedLaws.{C0-wellFormed, C0-past, nextNode, next-later, onNext-next, joinedCell}
 use Rattle.strategy.specs.RoundLaws.{C, Round, round-parts}
-use Rattle.strategy.specs.AloneLaws.{Shifted, shifted, next-below, judgement-next, kept-plus, elim-shifted}
+use Rattle.strategy.specs.AloneLaws.{MovedCells, shifted, next-below, judgement-next, kept-plus, elim-shifted}
 
 -- ---- no bound between windows is one of the next window alone
 
@@ -49,7 +50,7 @@ leastOf-off : (y z : ℕ) (bs : List Between) → All (Elsewhere y z) bs → lea
 unfolding leastOf
 leastOf-off y z [] h = refl
 leastOf-off y z (b ∷ bs) h =
-    skipped y z b (leastOf bs y z) _ refl (all-first (Elsewhere y z) b bs h) ∙ leastOf-off y z bs (all-others (Elsewhere y z) b bs h)
+    skipped y z b (leastOf bs y z) _ refl (h .0) ∙ leastOf-off y z bs (h .1)
 
 module _ (p : Plan) (good : Accepted p) where
   next-far : (y k : ℕ) → k ≡ nextNode p y → 0 < k → k ≤ ownNodes p → ⊥
@@ -86,8 +87,8 @@ module _ (p : Plan) (good : Accepted p) where
 
   -- ---- sets that were judged already
 
-  abbrev pub Judged : ℕ → Rows → Type 0
-  Judged k t = (y z : ℕ) → y < k → z < k → keptCell (judgement p y z (at t y z)) (at t y z) ≡ at t y z
+  abbrev JudgedAlready : ℕ → Rows → Type 0
+  JudgedAlready k t = (y z : ℕ) → y < k → z < k → keptCell (judgement p y z (at t y z)) (at t y z) ≡ at t y z
 
   twice : (y z : ℕ) (c : Cell) (j : Judgement) → judgement p y z c ≡ j
       → keptCell (judgement p y z (keptCell j c)) (keptCell j c) ≡ keptCell j c
@@ -96,11 +97,11 @@ module _ (p : Plan) (good : Accepted p) where
   twice y z c LeftOut e = refl
   twice y z c Kept e = ap (λ j. keptCell j c) e
 
-  judged-judged : (k : ℕ) (f : ℕ → ℕ → Cell) (t : Rows) → judgedSet p k f ≡ bounds t → Judged k t
-  judged-judged k f t e y z a b =
+  judged-again : (k : ℕ) (f : ℕ → ℕ → Cell) (t : Rows) → judgedSet p k f ≡ bounds t → JudgedAlready k t
+  judged-again k f t e y z a b =
       subst (λ c. keptCell (judgement p y z c) c ≡ c) (sym (judgedSet-at p k f t e y z a b)) (twice y z (f y z) _ refl)
 
-  elim-judged : (low count : ℕ) (t t₂ : Rows) → Judged (nodes (low + count)) t → eliminated p low count t ≡ bounds t₂ → Judged (nodes low) t₂
+  elim-judged : (low count : ℕ) (t t₂ : Rows) → JudgedAlready (nodes (low + count)) t → eliminated p low count t ≡ bounds t₂ → JudgedAlready (nodes low) t₂
   unfolding eliminated withoutPlace
   elim-judged low zero t t₂ h e = λ y z a b. subst (λ t. keptCell (judgement p y z (at t y z)) (at t y z) ≡ at t y z) (same t t₂ e)
       (h y z (omega arith) (omega arith))
@@ -110,20 +111,20 @@ module _ (p : Plan) (good : Accepted p) where
   elim-judged low (suc count) t t₂ h e =
       let r = thenSet-bounds (withoutPlace p (low + count) t) (eliminated p low count) t₂ e in
       let q = thenSet-bounds (withoutFinish p (low + count) t) (withoutStart p (low + count)) (r .0) (r .1) in
-      elim-judged low count (r .0) t₂ (judged-judged (startNode (low + count)) (startCell (low + count) (q .0)) (r .0) (q .2)) (r .2)
+      elim-judged low count (r .0) t₂ (judged-again (startNode (low + count)) (startCell (low + count) (q .0)) (r .0) (q .2)) (r .2)
 
-  pub C-judged : (m : ℕ) (c : Rows) → C p m ≡ bounds c → Judged (nodes (p .jobs)) c
+  pub C-judged : (m : ℕ) (c : Rows) → C p m ≡ bounds c → JudgedAlready (nodes (p .jobs)) c
   unfolding C C0 joined
-  C-judged zero c e = judged-judged (nodes (p .jobs)) _ c e
+  C-judged zero c e = judged-again (nodes (p .jobs)) _ c e
   C-judged (suc m) c e =
       let r = round-parts p good m c e in
-      elim-judged (p .jobs) (p .jobs) (r .both) c (judged-judged (nodes (p .jobs + p .jobs)) _ (r .both) (r .both-is)) (r .left-is)
+      elim-judged (p .jobs) (p .jobs) (r .both) c (judged-again (nodes (p .jobs + p .jobs)) _ (r .both) (r .both-is)) (r .left-is)
 
   -- ---- the set that a round starts with
 
-  module _ (c0 c : Rows) (c0-is : C0 p ≡ bounds c0) (c-judged : Judged (nodes (p .jobs)) c) (t : Rows) (t-is : joined p c0 c ≡ bounds t) where
+  module _ (c0 c : Rows) (c0-is : C0 p ≡ bounds c0) (c-judged : JudgedAlready (nodes (p .jobs)) c) (t : Rows) (t-is : joined p c0 c ≡ bounds t) where
     own-off : (y z : ℕ) → at c0 (nextNode p y) (nextNode p z) ≡ off
-    own-off zero zero = C0-tidy p good c0 c0-is .diagonal 0 (omega arith)
+    own-off zero zero = C0-wellFormed p good c0 c0-is .diagonal 0 (omega arith)
     own-off zero (suc z) = let n = next-later p (suc z) (omega arith) in C0-past p good c0 c0-is 0 (nextNode p (suc z)) (inr (omega arith))
     own-off (suc y) z = let n = next-later p (suc y) (omega arith) in C0-past p good c0 c0-is (nextNode p (suc y)) (nextNode p z) (inl (omega arith))
 
@@ -138,7 +139,7 @@ module _ (p : Plan) (good : Accepted p) where
         ∙ alone-cell _
         ∙ onNext-next p c y z
 
-    pub joined-shifted : Shifted p (nodes (p .jobs)) (at c) (at t)
+    pub joined-shifted : MovedCells p (nodes (p .jobs)) (at c) (at t)
     unfolding joined
     joined-shifted y z a b =
         let ny = next-below p (nodes (p .jobs)) y a in

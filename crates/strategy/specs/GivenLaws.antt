@@ -18,6 +18,7 @@ use Rattle.plan.specs.declared.Bound.{Bound}
 use Rattle.plan.specs.declared.Plan.{Plan}
 use Rattle.plan.specs.PlanLines.{noBound}
 use Rattle.plan.specs.PlanWritten.{boundsOf}
+use Rattle.plan.specs.ListLaws.{All}
 use Rattle.plan.specs.EventNames.{isNext}
 use Rattle.plan.specs.Accepted.{BoundAccepted, Accepted}
 use Rattle.bounds.specs.declared.Event.the-variants.{Start, Finish}
@@ -65,69 +66,63 @@ module _ (p : Plan) (good : Accepted p) where
 
 -- ---- what holds of all bounds of a list
 
-abbrev pub All : (Between → Type 0) → List Between → Type 0
-All P bs = (b : Between) → List·Memᴰ b bs → P b
+module _ (P : Between → Type 0) where
+  all-each : (bs : List Between) → ((b : Between) → List·Memᴰ b bs → P b) → All P bs
+  all-each [] f = tt
+  all-each (a ∷ bs) f = (f a (List·Memᴰ·head refl), all-each bs (λ b m. f b (List·Memᴰ·tail m)))
 
-all-nil : (P : Between → Type 0) → All P []
-all-nil P b m = absurd (List·Memᴰ·not-nil m)
+  all-one : (bs : List Between) → All P bs → (b : Between) → List·Memᴰ b bs → P b
+  all-one [] f b m = absurd (List·Memᴰ·not-nil m)
+  all-one (a ∷ bs) f b m = ⊎-elim (λ (e : b ≡ a). subst P (sym e) (f .0)) (λ n. all-one bs (f .1) b n) (List·Memᴰ·cases-cons m)
 
-all-cons : (P : Between → Type 0) (a : Between) (bs : List Between) → P a → All P bs → All P (a ∷ bs)
-all-cons P a bs h f b m = ⊎-elim (λ (e : b ≡ a). subst P (sym e) h) (λ n. f b n) (List·Memᴰ·cases-cons m)
+  all-join : (xs bs : List Between) → All P xs → All P bs → All P (xs ++ bs)
+  all-join [] bs f g = g
+  all-join (a ∷ xs) bs f g = (f .0, all-join xs bs (f .1) g)
 
-pub all-first : (P : Between → Type 0) (a : Between) (bs : List Between) → All P (a ∷ bs) → P a
-all-first P a bs f = f a (List·Memᴰ·head refl)
+  all-left : (xs bs : List Between) → All P (xs ++ bs) → All P xs
+  all-left [] bs f = tt
+  all-left (a ∷ xs) bs f = (f .0, all-left xs bs (f .1))
 
-pub all-others : (P : Between → Type 0) (a : Between) (bs : List Between) → All P (a ∷ bs) → All P bs
-all-others P a bs f b m = f b (List·Memᴰ·tail m)
-
-all-join : (P : Between → Type 0) (xs bs : List Between) → All P xs → All P bs → All P (xs ++ bs)
-all-join P [] bs f g = g
-all-join P (a ∷ xs) bs f g = all-cons P a (xs ++ bs) (all-first P a xs f) (all-join P xs bs (all-others P a xs f) g)
-
-all-left : (P : Between → Type 0) (xs bs : List Between) → All P (xs ++ bs) → All P xs
-all-left P [] bs f = all-nil P
-all-left P (a ∷ xs) bs f = all-cons P a xs (all-first P a (xs ++ bs) f) (all-left P xs bs (all-others P a (xs ++ bs) f))
-
-all-right : (P : Between → Type 0) (xs bs : List Between) → All P (xs ++ bs) → All P bs
-all-right P [] bs f = f
-all-right P (a ∷ xs) bs f = all-right P xs bs (all-others P a (xs ++ bs) f)
+  all-right : (xs bs : List Between) → All P (xs ++ bs) → All P bs
+  all-right [] bs f = f
+  all-right (a ∷ xs) bs f = all-right xs bs (f .1)
 
 -- ---- the least weight of a list
 
 module _ (y z : ℕ) (x : ℤ) where
   -- b says something of the pair y, z, and x keeps it
-  abbrev pub Says : Between → Type 0
-  Says b = nodeOf (b .y) ≡ y → nodeOf (b .z) ≡ z → x ≤ℤ b .w
+  abbrev pub PairKept : Between → Type 0
+  PairKept b = nodeOf (b .y) ≡ y → nodeOf (b .z) ≡ z → x ≤ℤ b .w
 
-  says-first : (b : Between) (c : Cell) (t : Bool) → (eqb (nodeOf (b .y)) y && eqb (nodeOf (b .z)) z) ≡ t
-      → Holds (cond t (least (upto (b .w)) c) c) x → Says b × Holds c x
-  says-first b c true e h =
+  pairKept-first : (b : Between) (c : Cell) (t : Bool) → (eqb (nodeOf (b .y)) y && eqb (nodeOf (b .z)) z) ≡ t
+      → Holds (cond t (least (upto (b .w)) c) c) x → PairKept b × Holds c x
+  pairKept-first b c true e h =
       let r = least-iff (upto (b .w)) c x .0 h in
       (λ i j. r .0, r .1)
-  says-first b c false e h = (
+  pairKept-first b c false e h = (
     λ i j. absurd (let t : (eqb (nodeOf (b .y)) y && eqb (nodeOf (b .z)) z) ≡ true = rw (eq-eqb (nodeOf (b .y)) y i, eq-eqb (nodeOf (b .z)) z j) in
         clash (cc)),
     h,
   )
 
-  first-says : (b : Between) (c : Cell) (t : Bool) → (eqb (nodeOf (b .y)) y && eqb (nodeOf (b .z)) z) ≡ t
-      → Says b → Holds c x → Holds (cond t (least (upto (b .w)) c) c) x
-  first-says b c true e s h =
+  first-pairKept : (b : Between) (c : Cell) (t : Bool) → (eqb (nodeOf (b .y)) y && eqb (nodeOf (b .z)) z) ≡ t
+      → PairKept b → Holds c x → Holds (cond t (least (upto (b .w)) c) c) x
+  first-pairKept b c true e s h =
       let r = both-true (eqb (nodeOf (b .y)) y) (eqb (nodeOf (b .z)) z) e in
       least-iff (upto (b .w)) c x .1 (s (eqb-true (nodeOf (b .y)) y (r .0)) (eqb-true (nodeOf (b .z)) z (r .1)), h)
-  first-says b c false e s h = h
+  first-pairKept b c false e s h = h
 
-  pub leastOf-says : (bs : List Between) → Holds (leastOf bs y z) x → All Says bs
+  pub leastOf-pairKept : (bs : List Between) → Holds (leastOf bs y z) x → All PairKept bs
   unfolding leastOf
-  leastOf-says [] h = all-nil Says
-  leastOf-says (b ∷ bs) h =
-      let r = says-first b (leastOf bs y z) _ refl h in
-      all-cons Says b bs (r .0) (leastOf-says bs (r .1))
+  leastOf-pairKept [] h = tt
+  leastOf-pairKept (b ∷ bs) h =
+      let r = pairKept-first b (leastOf bs y z) _ refl h in
+      (r .0, leastOf-pairKept bs (r .1))
 
-  says-leastOf : (bs : List Between) → All Says bs → Holds (leastOf bs y z) x
+  pairKept-leastOf : (bs : List Between) → All PairKept bs → Holds (leastOf bs y z) x
   unfolding leastOf
-  says-leastOf [] f = tt
-  says-leastOf (b ∷ bs) f = first-says b (leastOf bs y z) _ refl (all-first Says b bs f) (says-leastOf bs (all-others Says b bs f))
+  pairKept-leastOf [] f = tt
+  pairKept-leastOf (b ∷ bs) f = first-pairKept b (leastOf bs y z) _ refl (f .0) (pairKept-leastOf bs (f .1))
 
 -- ---- times that keep a list of bounds
 
@@ -139,73 +134,70 @@ pub record Below (k : ℕ) (b : Between) : Type 0 where
   pub z : nodeOf (b .z) < k
 
 pub leastOf-kept : (k : ℕ) (bs : List Between) (u : History) → All (Below k) bs → Keeps k (leastOf bs) u → All (BetweenKept u) bs
-leastOf-kept k bs u low kept b m =
-    let l = low b m in
-    let h = leastOf-says (nodeOf (b .y)) (nodeOf (b .z)) _ bs (kept (nodeOf (b .y)) (nodeOf (b .z)) (l .y) (l .z)) b m refl refl in
-    rw (eventOf-nodeOf (b .y), eventOf-nodeOf (b .z)) at h
+leastOf-kept k bs u low kept =
+    all-each (BetweenKept u) bs
+    (λ b m.
+    let l = all-one (Below k) bs low b m in
+    let x = gap u (nodeOf (b .y)) (nodeOf (b .z)) in
+    let said = leastOf-pairKept (nodeOf (b .y)) (nodeOf (b .z)) x bs (kept (nodeOf (b .y)) (nodeOf (b .z)) (l .y) (l .z)) in
+    let h = all-one (PairKept (nodeOf (b .y)) (nodeOf (b .z)) x) bs said b m refl refl in
+    rw (eventOf-nodeOf (b .y), eventOf-nodeOf (b .z)) at h)
 
 pub kept-leastOf : (k : ℕ) (bs : List Between) (u : History) → All (BetweenKept u) bs → Keeps k (leastOf bs) u
 kept-leastOf k bs u kept y z a b =
-    says-leastOf y z (gap u y z) bs
+    pairKept-leastOf y z (gap u y z) bs
+    (all-each (PairKept y z (gap u y z)) bs
     (λ d m i j.
-    rw (ap eventOf (sym i) ∙ eventOf-nodeOf (d .y), ap eventOf (sym j) ∙ eventOf-nodeOf (d .z)) (kept d m))
+    rw (ap eventOf (sym i) ∙ eventOf-nodeOf (d .y), ap eventOf (sym j) ∙ eventOf-nodeOf (d .z)) (all-one (BetweenKept u) bs kept d m)))
 
 -- ---- a bound that stands in a list where a test holds, or where it does not
 
 module _ (P : Between → Type 0) where
   all-if : (n : Bool) (a : Between) (bs : List Between) → (n ≡ true → P a) → All P bs → All P (cond n (a ∷ bs) bs)
-  all-if true a bs h f = all-cons P a bs (h refl) f
+  all-if true a bs h f = (h refl, f)
   all-if false a bs h f = f
 
   all-unless : (n : Bool) (a : Between) (bs : List Between) → (n ≡ false → P a) → All P bs → All P (cond n bs (a ∷ bs))
   all-unless true a bs h f = f
-  all-unless false a bs h f = all-cons P a bs (h refl) f
+  all-unless false a bs h f = (h refl, f)
 
   each-if : (n : Bool) (a : Between) (bs : List Between) → All P (cond n (a ∷ bs) bs) → (n ≡ true → P a) × All P bs
-  each-if true a bs f = (λ e. all-first P a bs f, all-others P a bs f)
+  each-if true a bs f = (λ e. f .0, f .1)
   each-if false a bs f = (λ e. clash (cc), f)
 
   each-unless : (n : Bool) (a : Between) (bs : List Between) → All P (cond n bs (a ∷ bs)) → (n ≡ false → P a) × All P bs
   each-unless true a bs f = (λ e. clash (cc), f)
-  each-unless false a bs f = (λ e. all-first P a bs f, all-others P a bs f)
+  each-unless false a bs f = (λ e. f .0, f .1)
 
 -- ---- the three parts of a window's own bounds
 
 module _ (P : Between → Type 0) where
   module _ (p : Plan) where
     -- the four bounds that one job's range makes
-    pub record Ranged (i : ℕ) : Type 0 where
+    pub record RangeBounds (i : ℕ) : Type 0 where
       pub startUp : P (upTo p (Start i))
       pub startDown : P (downTo p (Start i))
       pub finishUp : P (upTo p (Finish i))
       pub finishDown : P (downTo p (Finish i))
 
-    all-ranges : (k : ℕ) → ((i : ℕ) → i < k → Ranged i) → All P (ranges p k)
+    all-ranges : (k : ℕ) → ((i : ℕ) → i < k → RangeBounds i) → All P (ranges p k)
     unfolding ranges
-    all-ranges zero f = all-nil P
+    all-ranges zero f = tt
     all-ranges (suc k) f =
         let r = f k (omega arith) in
-        all-cons P _ _ (r .startUp)
-        (all-cons P _ _ (r .startDown)
-        (all-cons P _ _ (r .finishUp)
-        (all-cons P _ _ (r .finishDown) (all-ranges k (λ i h. f i (omega arith))))))
+        (r .startUp, (r .startDown, (r .finishUp, (r .finishDown, all-ranges k (λ i h. f i (omega arith))))))
 
-    each-range : (k : ℕ) → All P (ranges p k) → (i : ℕ) → i < k → Ranged i
+    each-range : (k : ℕ) → All P (ranges p k) → (i : ℕ) → i < k → RangeBounds i
     unfolding ranges
     each-range zero f i h = absurd (omega arith)
     each-range (suc k) f i h =
-        let f₁ = all-others P _ _ f in
-        let f₂ = all-others P _ _ f₁ in
-        let f₃ = all-others P _ _ f₂ in
-        ⊎-elim (λ (a : i < k). each-range k (all-others P _ _ f₃) i a)
-        (λ (a : i ≡ k).
-        subst Ranged (sym a)
-        (record { startUp = all-first P _ _ f; startDown = all-first P _ _ f₁; finishUp = all-first P _ _ f₂; finishDown = all-first P _ _ f₃ }))
+        ⊎-elim (λ (a : i < k). each-range k (f .1 .1 .1 .1) i a)
+        (λ (a : i ≡ k). subst RangeBounds (sym a) (record { startUp = f .0; startDown = f .1 .0; finishUp = f .1 .1 .0; finishDown = f .1 .1 .1 .0 }))
         (below-or-last i k h)
 
     all-given : (t : Bool) (ds : List Bound) → ((d : Bound) → List·Memᴰ d ds → hasNext d ≡ t → P (meant p d)) → All P (givenBounds p t ds)
     unfolding givenBounds
-    all-given t [] f = all-nil P
+    all-given t [] f = tt
     all-given true (d ∷ ds) f =
         all-if P (hasNext d) (meant p d) (givenBounds p true ds) (f d (List·Memᴰ·head refl)) (all-given true ds (λ c m. f c (List·Memᴰ·tail m)))
     all-given false (d ∷ ds) f =
@@ -223,22 +215,22 @@ module _ (P : Between → Type 0) where
 
   all-orders : (k : ℕ) → ((i : ℕ) → i < k → P (inOrder i)) → All P (orders k)
   unfolding orders
-  all-orders zero f = all-nil P
-  all-orders (suc k) f = all-cons P _ _ (f k (omega arith)) (all-orders k (λ i h. f i (omega arith)))
+  all-orders zero f = tt
+  all-orders (suc k) f = (f k (omega arith), all-orders k (λ i h. f i (omega arith)))
 
   each-order : (k : ℕ) → All P (orders k) → (i : ℕ) → i < k → P (inOrder i)
   unfolding orders
   each-order zero f i h = absurd (omega arith)
   each-order (suc k) f i h =
-      ⊎-elim (λ (a : i < k). each-order k (all-others P _ _ f) i a)
-      (λ (a : i ≡ k). subst (λ i. P (inOrder i)) (sym a) (all-first P _ _ f))
+      ⊎-elim (λ (a : i < k). each-order k (f .1) i a)
+      (λ (a : i ≡ k). subst (λ i. P (inOrder i)) (sym a) (f .0))
       (below-or-last i k h)
 
 -- ---- the two lists as a whole
 
 module _ (P : Between → Type 0) (p : Plan) where
   pub record OwnAll : Type 0 where
-    pub ranged : (i : ℕ) → i < p .jobs → Ranged P p i
+    pub ranged : (i : ℕ) → i < p .jobs → RangeBounds P p i
     pub ordered : (i : ℕ) → suc i < p .jobs → P (inOrder i)
     pub given : (d : Bound) → List·Memᴰ d (boundsOf p) → hasNext d ≡ false → P (meant p d)
 
@@ -265,8 +257,8 @@ module _ (P : Between → Type 0) (p : Plan) where
 
   pub across-all : AcrossAll → All P (betweenBounds p)
   unfolding betweenBounds
-  across-all a = all-cons P _ _ (a .ordered) (all-given P p true (boundsOf p) (a .given))
+  across-all a = (a .ordered, all-given P p true (boundsOf p) (a .given))
 
   pub all-across : All P (betweenBounds p) → AcrossAll
   unfolding betweenBounds
-  all-across f = record { ordered = all-first P _ _ f; given = each-given P p true (boundsOf p) (all-others P _ _ f) }
+  all-across f = record { ordered = f .0; given = each-given P p true (boundsOf p) (f .1) }

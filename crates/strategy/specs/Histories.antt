@@ -30,9 +30,9 @@ turn p k = getD (p .job) (k % p .jobs) noJob
 -- ---- 'window j begins at (j-1) x window on the run's clock'
 
 -- a time of the run's clock on the clock of a window that begins at b
-abbrev pub since : ℤ → Ran → Ran
-since b r = record { start = r .start -ℤ b; finish = r .finish -ℤ b }
+abbrev pub onWindow : ℤ → Ran → Ran
+onWindow b r = record { start = r .start -ℤ b; finish = r .finish -ℤ b }
 
 -- what a history has seen from window j + 1 on, on that window's own clock
 unfoldable pub seenFrom : Plan → ℕ → History → History
-seenFrom p j h = map (since (pos j *ℤ p .window)) (drop (j * p .jobs) h)
+seenFrom p j h = map (onWindow (pos j *ℤ p .window)) (drop (j * p .jobs) h)

@@ -16,53 +16,54 @@ use Rattle.whole.specs.Shape.{any, _⊕_, _⊖_, le, eq}
 use Rattle.whole.specs.ShapeLaws.{reads, shows}
 use Rattle.plan.specs.declared.Plan.{Plan}
 use Rattle.plan.specs.Accepted.{Accepted}
+use Rattle.plan.specs.ListLaws.{All}
 use Rattle.bounds.specs.declared.Event.the-variants.{Start, Finish}
 use Rattle.bounds.specs.Events.{jobAt, shift, earliest, latest, eventOf, nodeOf, startNode, finishNode, nodes}
 use Rattle.bounds.specs.Tables.{Cell, off, least, plus, Rows, at, leastOf, contradiction, bounds}
 use Rattle.bounds.specs.BuildLaws.{eventOf-start, eventOf-finish, byNode}
 use Rattle.rounds.specs.Given.{ownBounds, betweenBounds}
 use Rattle.rounds.specs.Rounds.{C0, ownNodes, isOwn, moved, onNext, joined}
-use Rattle.strategy.specs.Histories.{History, since, seenFrom, turn}
+use Rattle.strategy.specs.Histories.{History, onWindow, seenFrom, turn}
 use Rattle.strategy.specs.Strategies.{ranIn}
-use Rattle.strategy.specs.Keeping.{Holds, when, gap, Keeps, Timely, Anchored, Sized}
+use Rattle.strategy.specs.Keeping.{Holds, when, gap, Keeps, RunsInside, OriginBounded, NodesSeen}
 use Rattle.strategy.specs.CellLaws.{least-iff, plus-iff}
 use Rattle.strategy.specs.SetLaws.{jobAt-turn, judgedSet-past, judged-keeps, judged-back, judged-none}
 use Rattle.strategy.specs.HistoryLaws.{Fails}
-use Rattle.strategy.specs.PlaceLaws.{Tidy, judged-tidy}
-use Rattle.strategy.specs.GivenLaws.{All, BetweenKept, leastOf-says, leastOf-kept, kept-leastOf, Says, all-own}
+use Rattle.strategy.specs.PlaceLaws.{WellFormed, judged-wellFormed}
+use Rattle.strategy.specs.GivenLaws.{BetweenKept, leastOf-pairKept, leastOf-kept, kept-leastOf, PairKept, all-own}
 use Rattle.strategy.specs.WindowLaws.{own-below, across-below, this-shift}
 use Rattle.strategy.specs.SeenLaws.{at-most-or-above, ran-seen, turn-seen}
 
 -- ---- C(0)
 
 module _ (p : Plan) (good : Accepted p) where
-  own-anchored : Anchored p (nodes (p .jobs)) (leastOf (ownBounds p))
+  own-originBounded : OriginBounded p (nodes (p .jobs)) (leastOf (ownBounds p))
   unfolding nodeOf
-  own-anchored =
+  own-originBounded =
       record {
         above =
             byNode (λ y. y < nodes (p .jobs) → 0 < y → (x : ℤ) → Holds (leastOf (ownBounds p) 0 y) x → x ≤ℤ latest p (eventOf y))
             (λ h i. absurd (omega arith))
-            (λ k h i x g. rw (eventOf-start k) (all-own (Says 0 (startNode k) x) p (leastOf-says 0 (startNode k) x (ownBounds p) g) .ranged k
+            (λ k h i x g. rw (eventOf-start k) (all-own (PairKept 0 (startNode k) x) p (leastOf-pairKept 0 (startNode k) x (ownBounds p) g) .ranged k
             (omega arith) .startUp refl refl))
-            (λ k h i x g. rw (eventOf-finish k) (all-own (Says 0 (finishNode k) x) p (leastOf-says 0 (finishNode k) x (ownBounds p) g) .ranged k
+            (λ k h i x g. rw (eventOf-finish k) (all-own (PairKept 0 (finishNode k) x) p (leastOf-pairKept 0 (finishNode k) x (ownBounds p) g) .ranged k
             (omega arith) .finishUp refl refl));
         below =
             byNode (λ y. y < nodes (p .jobs) → 0 < y → (x : ℤ) → Holds (leastOf (ownBounds p) y 0) x → x ≤ℤ negℤ (earliest p (eventOf y)))
             (λ h i. absurd (omega arith))
-            (λ k h i x g. rw (eventOf-start k) (all-own (Says (startNode k) 0 x) p (leastOf-says (startNode k) 0 x (ownBounds p) g) .ranged k
+            (λ k h i x g. rw (eventOf-start k) (all-own (PairKept (startNode k) 0 x) p (leastOf-pairKept (startNode k) 0 x (ownBounds p) g) .ranged k
             (omega arith) .startDown refl refl))
-            (λ k h i x g. rw (eventOf-finish k) (all-own (Says (finishNode k) 0 x) p (leastOf-says (finishNode k) 0 x (ownBounds p) g) .ranged k
+            (λ k h i x g. rw (eventOf-finish k) (all-own (PairKept (finishNode k) 0 x) p (leastOf-pairKept (finishNode k) 0 x (ownBounds p) g) .ranged k
             (omega arith) .finishDown refl refl));
       }
 
-  sized-one : (u : History) → p .jobs ≤ length u → Sized p (nodes (p .jobs)) u
-  sized-one u n = record { seen = omega arith; two = omega arith }
+  nodesSeen-one : (u : History) → p .jobs ≤ length u → NodesSeen p (nodes (p .jobs)) u
+  nodesSeen-one u n = record { seen = omega arith; two = omega arith }
 
   module _ (c0 : Rows) (c0-is : C0 p ≡ bounds c0) where
-    pub C0-tidy : Tidy p (nodes (p .jobs)) c0
+    pub C0-wellFormed : WellFormed p (nodes (p .jobs)) c0
     unfolding C0
-    C0-tidy = judged-tidy p (nodes (p .jobs)) (leastOf (ownBounds p)) c0 own-anchored c0-is
+    C0-wellFormed = judged-wellFormed p (nodes (p .jobs)) (leastOf (ownBounds p)) c0 own-originBounded c0-is
 
     pub C0-past : (y z : ℕ) → (nodes (p .jobs) ≤ y) ⊎ (nodes (p .jobs) ≤ z) → at c0 y z ≡ off
     unfolding C0
@@ -71,19 +72,19 @@ module _ (p : Plan) (good : Accepted p) where
     pub C0-keeps : (u : History) → All (BetweenKept u) (ownBounds p) → Keeps (nodes (p .jobs)) (at c0) u
     unfolding C0
     C0-keeps u own =
-        judged-keeps p (nodes (p .jobs)) (leastOf (ownBounds p)) own-anchored c0 c0-is u (kept-leastOf (nodes (p .jobs)) (ownBounds p) u own)
+        judged-keeps p (nodes (p .jobs)) (leastOf (ownBounds p)) own-originBounded c0 c0-is u (kept-leastOf (nodes (p .jobs)) (ownBounds p) u own)
 
-    pub C0-back : (u : History) → p .jobs ≤ length u → Timely p u → Keeps (nodes (p .jobs)) (at c0) u → All (BetweenKept u) (ownBounds p)
+    pub C0-back : (u : History) → p .jobs ≤ length u → RunsInside p u → Keeps (nodes (p .jobs)) (at c0) u → All (BetweenKept u) (ownBounds p)
     unfolding C0
     C0-back u n old kept =
         leastOf-kept (nodes (p .jobs)) (ownBounds p) u (own-below p good)
-        (judged-back p (nodes (p .jobs)) (leastOf (ownBounds p)) own-anchored c0 c0-is u (sized-one u n) old kept)
+        (judged-back p (nodes (p .jobs)) (leastOf (ownBounds p)) own-originBounded c0 c0-is u (nodesSeen-one u n) old kept)
 
   pub C0-none : C0 p ≡ contradiction → Fails p (p .jobs) (λ u. All (BetweenKept u) (ownBounds p))
   unfolding C0
   C0-none e =
-      let f = judged-none p (nodes (p .jobs)) (leastOf (ownBounds p)) own-anchored e in
-      (f .0, λ u n x own. f .1 u (sized-one u (omega arith)) x (kept-leastOf (nodes (p .jobs)) (ownBounds p) u own))
+      let f = judged-none p (nodes (p .jobs)) (leastOf (ownBounds p)) own-originBounded e in
+      (f .0, λ u n x own. f .1 u (nodesSeen-one u (omega arith)) x (kept-leastOf (nodes (p .jobs)) (ownBounds p) u own))
 
 -- ---- nodes of the next window
 
@@ -153,12 +154,12 @@ module _ (p : Plan) (u : History) (two : p .jobs + p .jobs ≤ length u) where
   one-window : (w : ℤ) → pos 1 *ℤ w ≡ w
   one-window w = let m = split-mul 1 w in omega wholes
 
-  ran-next : (k : ℕ) → k < p .jobs → ranIn (seenFrom p 1 u) k ≡ since (p .window) (ranIn u (p .jobs + k))
+  ran-next : (k : ℕ) → k < p .jobs → ranIn (seenFrom p 1 u) k ≡ onWindow (p .window) (ranIn u (p .jobs + k))
   ran-next k h =
       let e : 1 * p .jobs + k ≡ p .jobs + k = omega arith in
-      ran-seen p 1 u k (omega arith) ∙ ap₂ (λ w i. since w (ranIn u i)) (one-window (p .window)) e
+      ran-seen p 1 u k (omega arith) ∙ ap₂ (λ w i. onWindow w (ranIn u i)) (one-window (p .window)) e
 
-  pub when-next : (y : ℕ) → y < nodes (p .jobs) → when (seenFrom p 1 u) (eventOf y) ≡ when u (eventOf (nextNode p y)) -ℤ moved p y
+  when-next : (y : ℕ) → y < nodes (p .jobs) → when (seenFrom p 1 u) (eventOf y) ≡ when u (eventOf (nextNode p y)) -ℤ moved p y
   unfolding eventOf
   when-next =
       byNode (λ y. y < nodes (p .jobs) → when (seenFrom p 1 u) (eventOf y) ≡ when u (eventOf (nextNode p y)) -ℤ moved p y)
@@ -181,7 +182,7 @@ module _ (p : Plan) where
   one-zero : (a w : ℤ) → a +ℤ w ≡ (a +ℤ pos 0) +ℤ w
   one-zero a w = omega (shows eq (any ⊕ any) (any ⊕ any ⊕ any), wholes)
 
-  pub latest-next : (y : ℕ) → y < nodes (p .jobs) → 0 < y → latest p (eventOf (nextNode p y)) ≡ latest p (eventOf y) +ℤ p .window
+  latest-next : (y : ℕ) → y < nodes (p .jobs) → 0 < y → latest p (eventOf (nextNode p y)) ≡ latest p (eventOf y) +ℤ p .window
   unfolding latest
   latest-next =
       byNode (λ y. y < nodes (p .jobs) → 0 < y → latest p (eventOf (nextNode p y)) ≡ latest p (eventOf y) +ℤ p .window)
@@ -191,7 +192,7 @@ module _ (p : Plan) where
       (λ k h i. rw (eventOf-finish k, event-next-finish p k, next-shift k, this-shift p k (omega arith), job-next k (omega arith))
       (one-zero (jobAt p k .deadline) (p .window)))
 
-  pub earliest-next : (y : ℕ) → y < nodes (p .jobs) → 0 < y → earliest p (eventOf (nextNode p y)) ≡ earliest p (eventOf y) +ℤ p .window
+  earliest-next : (y : ℕ) → y < nodes (p .jobs) → 0 < y → earliest p (eventOf (nextNode p y)) ≡ earliest p (eventOf y) +ℤ p .window
   unfolding earliest
   earliest-next =
       byNode (λ y. y < nodes (p .jobs) → 0 < y → earliest p (eventOf (nextNode p y)) ≡ earliest p (eventOf y) +ℤ p .window)
@@ -207,7 +208,7 @@ module _ (p : Plan) where
 abbrev pub joinedCell : Plan → Rows → Rows → ℕ → ℕ → Cell
 joinedCell p c0 c y z = least (at c0 y z) (least (onNext p c y z) (leastOf (betweenBounds p) y z))
 
-pub joinedCell-parts : (p : Plan) (c0 c : Rows) (y z : ℕ) (x : ℤ) → Holds (joinedCell p c0 c y z) x
+joinedCell-parts : (p : Plan) (c0 c : Rows) (y z : ℕ) (x : ℤ) → Holds (joinedCell p c0 c y z) x
     → Holds (at c0 y z) x × Holds (onNext p c y z) x × Holds (leastOf (betweenBounds p) y z) x
 joinedCell-parts p c0 c y z x h =
     let r = least-iff (at c0 y z) _ x .0 h in
@@ -220,7 +221,7 @@ back-above x l w h = omega (reads le (any ⊖ (any ⊖ any)) any, wholes)
 back-below : (x e w : ℤ) → (x -ℤ (pos 0 -ℤ w)) ≤ℤ negℤ e → x ≤ℤ negℤ (e +ℤ w)
 back-below x e w h = omega (reads le (any ⊖ (any ⊖ any)) any, wholes, split-neg e, split-neg (e +ℤ w), split-add e w)
 
-module _ (p : Plan) (good : Accepted p) (c0 c : Rows) (t0 : Tidy p (nodes (p .jobs)) c0) (tc : Anchored p (nodes (p .jobs)) (at c)) where
+module _ (p : Plan) (good : Accepted p) (c0 c : Rows) (t0 : WellFormed p (nodes (p .jobs)) c0) (tc : OriginBounded p (nodes (p .jobs)) (at c)) where
   above-next : (y : ℕ) → y < nodes (p .jobs) → 0 < y → (x : ℤ) → Holds (onNext p c 0 (nextNode p y)) x → x ≤ℤ latest p (eventOf (nextNode p y))
   above-next y h i x g =
       let a : Holds (plus (at c 0 y) (moved p y -ℤ moved p 0)) x = rw (onNext-next p c 0 y) at g in
@@ -238,13 +239,13 @@ module _ (p : Plan) (good : Accepted p) (c0 c : Rows) (t0 : Tidy p (nodes (p .jo
       let e : y ≡ (y - ownNodes p) + ownNodes p = omega arith in
       (y - ownNodes p, omega arith, omega arith, e ∙ sym (next-later p (y - ownNodes p) (omega arith)))
 
-  pub joined-anchored : Anchored p (nodes (p .jobs + p .jobs)) (joinedCell p c0 c)
-  joined-anchored =
+  joined-originBounded : OriginBounded p (nodes (p .jobs + p .jobs)) (joinedCell p c0 c)
+  joined-originBounded =
       record {
         above =
             λ y h i x g.
             let r = joinedCell-parts p c0 c 0 y x g in
-            ⊎-elim (λ (a : y ≤ ownNodes p). t0 .anchored .above y (omega arith) i x (r .0))
+            ⊎-elim (λ (a : y ≤ ownNodes p). t0 .originBounded .above y (omega arith) i x (r .0))
             (λ (a : ownNodes p < y).
             let n = later-node y a h in
             rw (n .3) (above-next (n .0) (n .1) (n .2) x (rw (n .3) at (r .1))))
@@ -252,7 +253,7 @@ module _ (p : Plan) (good : Accepted p) (c0 c : Rows) (t0 : Tidy p (nodes (p .jo
         below =
             λ y h i x g.
             let r = joinedCell-parts p c0 c y 0 x g in
-            ⊎-elim (λ (a : y ≤ ownNodes p). t0 .anchored .below y (omega arith) i x (r .0))
+            ⊎-elim (λ (a : y ≤ ownNodes p). t0 .originBounded .below y (omega arith) i x (r .0))
             (λ (a : ownNodes p < y).
             let n = later-node y a h in
             rw (n .3) (below-next (n .0) (n .1) (n .2) x (rw (n .3) at (r .1))))
@@ -270,7 +271,7 @@ module _ (p : Plan) (c : Rows) (u : History) (two : p .jobs + p .jobs ≤ length
       ap₂ (λ v w. v -ℤ w) (when-next p u two z b) (when-next p u two y a)
       ∙ gap-moved (when u (eventOf (nextNode p z))) (when u (eventOf (nextNode p y))) (moved p z) (moved p y)
 
-  pub next-keeps : Keeps (nodes (p .jobs + p .jobs)) (onNext p c) u → Keeps (nodes (p .jobs)) (at c) (seenFrom p 1 u)
+  next-keeps : Keeps (nodes (p .jobs + p .jobs)) (onNext p c) u → Keeps (nodes (p .jobs)) (at c) (seenFrom p 1 u)
   next-keeps kept y z a b =
       rw (gap-next y z a b)
       (plus-iff (at c y z) (moved p z -ℤ moved p y) (gap u (nextNode p y) (nextNode p z)) .0
@@ -287,7 +288,7 @@ module _ (p : Plan) (c : Rows) (u : History) (two : p .jobs + p .jobs ≤ length
       (plus-iff (at c y z) (moved p z -ℤ moved p y) (gap u (nextNode p y) (nextNode p z)) .1
       (rw (gap-next y z a b) at (kept y z a b)))
 
-  pub keeps-next : Keeps (nodes (p .jobs)) (at c) (seenFrom p 1 u) → Keeps (nodes (p .jobs + p .jobs)) (onNext p c) u
+  keeps-next : Keeps (nodes (p .jobs)) (at c) (seenFrom p 1 u) → Keeps (nodes (p .jobs + p .jobs)) (onNext p c) u
   keeps-next kept y z a b =
       ⊎-elim (λ (h : isOwn p y ≡ true). rw (onNext-own p c y z (inl h)) tt)
       (λ (h : (x : ℕ) × (x < nodes (p .jobs)) × (y ≡ nextNode p x)).
@@ -305,7 +306,7 @@ pub record Both (p : Plan) (c0 c : Rows) (u : History) : Type 0 where
   pub next : Keeps (nodes (p .jobs)) (at c) (seenFrom p 1 u)
   pub across : All (BetweenKept u) (betweenBounds p)
 
-module _ (p : Plan) (good : Accepted p) (c0 c : Rows) (c0-is : C0 p ≡ bounds c0) (tc : Anchored p (nodes (p .jobs)) (at c)) where
+module _ (p : Plan) (good : Accepted p) (c0 c : Rows) (c0-is : C0 p ≡ bounds c0) (tc : OriginBounded p (nodes (p .jobs)) (at c)) where
   raw-keeps : (u : History) → p .jobs + p .jobs ≤ length u → Both p c0 c u → Keeps (nodes (p .jobs + p .jobs)) (joinedCell p c0 c) u
   raw-keeps u two both y z a b =
       least-iff (at c0 y z) _ (gap u y z) .1 (
@@ -319,26 +320,26 @@ module _ (p : Plan) (good : Accepted p) (c0 c : Rows) (c0-is : C0 p ≡ bounds c
       own y z (inr h) (inl k) = rw (C0-past p good c0 c0-is y z (inr k)) tt
       own y z (inr h) (inr k) = both .this y z h k
 
-  two-sized : (u : History) → length u ≡ p .jobs + p .jobs → Sized p (nodes (p .jobs + p .jobs)) u
-  two-sized u n = record { seen = omega arith; two = omega arith }
+  two-nodesSeen : (u : History) → length u ≡ p .jobs + p .jobs → NodesSeen p (nodes (p .jobs + p .jobs)) u
+  two-nodesSeen u n = record { seen = omega arith; two = omega arith }
 
-  anchored : Anchored p (nodes (p .jobs + p .jobs)) (joinedCell p c0 c)
-  anchored = joined-anchored p good c0 c (C0-tidy p good c0 c0-is) tc
+  originBounded : OriginBounded p (nodes (p .jobs + p .jobs)) (joinedCell p c0 c)
+  originBounded = joined-originBounded p good c0 c (C0-wellFormed p good c0 c0-is) tc
 
   module _ (t : Rows) (t-is : joined p c0 c ≡ bounds t) where
-    pub joined-tidy : Tidy p (nodes (p .jobs + p .jobs)) t
+    pub joined-wellFormed : WellFormed p (nodes (p .jobs + p .jobs)) t
     unfolding joined
-    joined-tidy = judged-tidy p (nodes (p .jobs + p .jobs)) (joinedCell p c0 c) t anchored t-is
+    joined-wellFormed = judged-wellFormed p (nodes (p .jobs + p .jobs)) (joinedCell p c0 c) t originBounded t-is
 
     pub joined-keeps : (u : History) → length u ≡ p .jobs + p .jobs → Both p c0 c u → Keeps (nodes (p .jobs + p .jobs)) (at t) u
     unfolding joined
     joined-keeps u n both =
-        judged-keeps p (nodes (p .jobs + p .jobs)) (joinedCell p c0 c) anchored t t-is u (raw-keeps u (omega arith) both)
+        judged-keeps p (nodes (p .jobs + p .jobs)) (joinedCell p c0 c) originBounded t t-is u (raw-keeps u (omega arith) both)
 
-    pub joined-back : (u : History) → length u ≡ p .jobs + p .jobs → Timely p u → Keeps (nodes (p .jobs + p .jobs)) (at t) u → Both p c0 c u
+    pub joined-back : (u : History) → length u ≡ p .jobs + p .jobs → RunsInside p u → Keeps (nodes (p .jobs + p .jobs)) (at t) u → Both p c0 c u
     unfolding joined
     joined-back u n old kept =
-        let raw = judged-back p (nodes (p .jobs + p .jobs)) (joinedCell p c0 c) anchored t t-is u (two-sized u n) old kept in
+        let raw = judged-back p (nodes (p .jobs + p .jobs)) (joinedCell p c0 c) originBounded t t-is u (two-nodesSeen u n) old kept in
         record {
           this = λ y z a b. joinedCell-parts p c0 c y z (gap u y z) (raw y z (omega arith) (omega arith)) .0;
           next = next-keeps p c u (omega arith) (λ y z a b. joinedCell-parts p c0 c y z (gap u y z) (raw y z a b) .1);
@@ -350,5 +351,5 @@ module _ (p : Plan) (good : Accepted p) (c0 c : Rows) (c0-is : C0 p ≡ bounds c
   pub joined-none : joined p c0 c ≡ contradiction → Fails p (p .jobs + p .jobs) (Both p c0 c)
   unfolding joined
   joined-none e =
-      let f = judged-none p (nodes (p .jobs + p .jobs)) (joinedCell p c0 c) anchored e in
-      (f .0, λ u n x both. f .1 u (two-sized u n) x (raw-keeps u (omega arith) both))
+      let f = judged-none p (nodes (p .jobs + p .jobs)) (joinedCell p c0 c) originBounded e in
+      (f .0, λ u n x both. f .1 u (two-nodesSeen u n) x (raw-keeps u (omega arith) both))

@@ -19,7 +19,7 @@ use Rattle.bounds.specs.Events.{jobAt, earliest, latest}
 use Rattle.bounds.specs.Judgements.{judged, judgedSame, judgedRunning, judgedReverse, judgedOrigin, judgedApart, atLeast}
 use Rattle.strategy.specs.Histories.{History}
 use Rattle.strategy.specs.Strategies.{ranIn}
-use Rattle.strategy.specs.Keeping.{when, RunsWithin, InRange, extreme}
+use Rattle.strategy.specs.Keeping.{when, RunsWithin, EventInRange, longOrShort}
 
 -- ---- the tests
 
@@ -41,7 +41,7 @@ origin-left : (b : Bool) → cond b Contradiction Kept ≡ LeftOut → ⊥
 origin-left true h = clash (cc)
 origin-left false h = clash (cc)
 
-pub judgedOrigin-left : (p : Plan) (y z : Event) (w : ℤ) → judgedOrigin p y z w ≡ LeftOut → ⊥
+judgedOrigin-left : (p : Plan) (y z : Event) (w : ℤ) → judgedOrigin p y z w ≡ LeftOut → ⊥
 judgedOrigin-left p y z w h = origin-left (ltZ w (earliest p z -ℤ latest p y)) h
 
 origin-never : (limit w : ℤ) (b : Bool) → ltZ w limit ≡ b → cond b Contradiction Kept ≡ Contradiction → w <ℤ limit
@@ -62,10 +62,10 @@ apart-never least most w false false e d h = clash (cc)
 
 abbrev pub Fits : Plan → History → Event → Type 0
 Fits p u Origin = Unit {0}
-Fits p u (Start k) = InRange p u (Start k)
-Fits p u (Finish k) = InRange p u (Finish k) × RunsWithin (jobAt p k) (ranIn u k)
+Fits p u (Start k) = EventInRange p u (Start k)
+Fits p u (Finish k) = EventInRange p u (Finish k) × RunsWithin (jobAt p k) (ranIn u k)
 
-pub fits-range : (p : Plan) (u : History) (e : Event) → Fits p u e → InRange p u e
+fits-range : (p : Plan) (u : History) (e : Event) → Fits p u e → EventInRange p u e
 unfolding earliest latest
 fits-range p u Origin h = record { early = omega wholes; late = omega wholes }
 fits-range p u (Start k) h = h
@@ -74,10 +74,10 @@ fits-range p u (Finish k) h = h .0
 -- and its running time is the longest, or the shortest
 abbrev pub FitsAt : Plan → Bool → History → Event → Type 0
 FitsAt p long u Origin = Unit {0}
-FitsAt p long u (Start k) = InRange p u (Start k)
-FitsAt p long u (Finish k) = InRange p u (Finish k) × (ranIn u k .finish -ℤ ranIn u k .start ≡ extreme long (jobAt p k))
+FitsAt p long u (Start k) = EventInRange p u (Start k)
+FitsAt p long u (Finish k) = EventInRange p u (Finish k) × (ranIn u k .finish -ℤ ranIn u k .start ≡ longOrShort long (jobAt p k))
 
-fitsAt-range : (p : Plan) (long : Bool) (u : History) (e : Event) → FitsAt p long u e → InRange p u e
+fitsAt-range : (p : Plan) (long : Bool) (u : History) (e : Event) → FitsAt p long u e → EventInRange p u e
 unfolding earliest latest
 fitsAt-range p long u Origin h = record { early = omega wholes; late = omega wholes }
 fitsAt-range p long u (Start k) h = h
@@ -141,7 +141,7 @@ module _ (p : Plan) (u : History) where
 -- ---- contradictions
 
 -- no times in range keep z - y <= w, where every job runs as long as it can, or where every job runs as short
-abbrev pub Never : Plan → Event → Event → ℤ → Type 0
+abbrev Never : Plan → Event → Event → ℤ → Type 0
 Never p y z w = (long : Bool) × ((u : History) → FitsAt p long u y → FitsAt p long u z → (when u z -ℤ when u y) ≤ℤ w → ⊥)
 
 module _ (p : Plan) where

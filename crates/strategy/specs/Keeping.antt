@@ -42,28 +42,28 @@ pub record RunsWithin (job : Job) (r : Ran) : Type 0 where
   pub most : (r .finish -ℤ r .start) ≤ℤ job .max
 
 -- every running time of u is between min and max
-abbrev pub Timely : Plan → History → Type 0
-Timely p u = (k : ℕ) → k < length u → RunsWithin (turn p k) (ranIn u k)
+abbrev pub RunsInside : Plan → History → Type 0
+RunsInside p u = (k : ℕ) → k < length u → RunsWithin (turn p k) (ranIn u k)
 
 -- the longest running time of a job, or the shortest
-abbrev pub extreme : Bool → Job → ℤ
-extreme long job = cond long (job .max) (job .min)
+abbrev pub longOrShort : Bool → Job → ℤ
+longOrShort long job = cond long (job .max) (job .min)
 
 -- every job of u ran as long as it can, or every job as short
-abbrev pub Extreme : Plan → Bool → History → Type 0
-Extreme p long u = (k : ℕ) → k < length u → ranIn u k .finish -ℤ ranIn u k .start ≡ extreme long (turn p k)
+abbrev pub LongOrShort : Plan → Bool → History → Type 0
+LongOrShort p long u = (k : ℕ) → k < length u → ranIn u k .finish -ℤ ranIn u k .start ≡ longOrShort long (turn p k)
 
 -- an event lies between earliest and latest
-pub record InRange (p : Plan) (u : History) (e : Event) : Type 0 where
+pub record EventInRange (p : Plan) (u : History) (e : Event) : Type 0 where
   pub early : earliest p e ≤ℤ when u e
   pub late : when u e ≤ℤ latest p e
 
 -- the bounds to and from the origin say at least that
-pub record Anchored (p : Plan) (k : ℕ) (f : ℕ → ℕ → Cell) : Type 0 where
+pub record OriginBounded (p : Plan) (k : ℕ) (f : ℕ → ℕ → Cell) : Type 0 where
   pub above : (y : ℕ) → y < k → 0 < y → (x : ℤ) → Holds (f 0 y) x → x ≤ℤ latest p (eventOf y)
   pub below : (y : ℕ) → y < k → 0 < y → (x : ℤ) → Holds (f y 0) x → x ≤ℤ negℤ (earliest p (eventOf y))
 
 -- the nodes below k are of jobs that u has seen, in two windows
-pub record Sized (p : Plan) (k : ℕ) (u : History) : Type 0 where
+pub record NodesSeen (p : Plan) (k : ℕ) (u : History) : Type 0 where
   pub seen : k ≤ nodes (length u)
   pub two : k ≤ nodes (p .jobs + p .jobs)

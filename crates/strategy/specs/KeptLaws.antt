@@ -13,7 +13,7 @@ use lib.ListN.{length, length-append, List·getD-append}
 use Rattle.whole.specs.Rules.{wholes}
 use Rattle.plan.specs.declared.Plan.{Plan}
 use Rattle.plan.specs.Accepted.{Accepted}
-use Rattle.strategy.specs.Histories.{Ran, History, noRan, ranFor, turn, since, seenFrom}
+use Rattle.strategy.specs.Histories.{Ran, History, noRan, ranFor, turn, onWindow, seenFrom}
 use Rattle.strategy.specs.Strategies.{ranIn, placeIn, boundIn, KeptIn, Kept, Forced}
 use Rattle.strategy.specs.EliminationLaws.{below-or-last}
 use Rattle.strategy.specs.HistoryLaws.{Follows, length-more, ran-new, each-more, turn-min-max, forced-play}
@@ -23,7 +23,7 @@ use Rattle.strategy.specs.SeenLaws.{at-most-or-above, length-seen, ran-s
 -- ---- one window and the next
 
 module _ (p : Plan) where
-  pub keptIn-before : (u m : History) → KeptIn p (u ++ m) → KeptIn p u
+  keptIn-before : (u m : History) → KeptIn p (u ++ m) → KeptIn p u
   keptIn-before u m k =
       let n = length-append u m in
       record {
@@ -76,18 +76,18 @@ module _ (p : Plan) where
       let n = length-append u m in
       record {
         kept = keptIn-before u m (k .kept);
-        punctual = λ i h s. rw (List·getD-append u m noRan i s) at (k .punctual i h (omega arith));
+        leavesRoom = λ i h s. rw (List·getD-append u m noRan i s) at (k .leavesRoom i h (omega arith));
       }
 
   held-more : Accepted p → (u m : History) → p .jobs + p .jobs ≤ length u → Held p u → Held p (u ++ m)
   held-more good u m two k =
       record {
         kept = keptIn-more good u m two (k .kept);
-        punctual = λ i h s. let l : i < length u = omega arith in rw (List·getD-append u m noRan i l) (k .punctual i h l);
+        leavesRoom = λ i h s. let l : i < length u = omega arith in rw (List·getD-append u m noRan i l) (k .leavesRoom i h l);
       }
 
   pub held-none : Held p []
-  held-none = record { kept = keptIn-none; punctual = λ i h s. absurd (omega arith) }
+  held-none = record { kept = keptIn-none; leavesRoom = λ i h s. absurd (omega arith) }
 
 -- ---- all windows
 
@@ -118,7 +118,7 @@ module _ (p : Plan) (P : History → Type 0) (none : P []) where
         let a = mul-le-mul-right {m = suc (suc j)} {n = i} (p .jobs) (omega arith) in
         rw (seen-none p i (h ++ m) (omega arith)) none
 
-    pub always-next : Always p P (h ++ m)
+    always-next : Always p P (h ++ m)
     always-next i =
         ⊎-elim
         (λ (a : i ≤ suc j).
@@ -130,7 +130,7 @@ module _ (p : Plan) (P : History → Type 0) (none : P []) where
         (λ (a : suc j < i). later i a)
         (at-most-or-above i (suc j))
 
-  pub always-one : (h : History) → length h ≤ p .jobs → P (seenFrom p 0 h) → Always p P h
+  always-one : (h : History) → length h ≤ p .jobs → P (seenFrom p 0 h) → Always p P h
   always-one h n first zero = first
   always-one h n first (suc i) =
       let a = suc-mul i (p .jobs) in
@@ -153,42 +153,42 @@ module _ (p : Plan) where
 -- ---- every start leaves room for the longest run
 
 module _ (p : Plan) where
-  abbrev pub PunctualAt : ℕ → Ran → Type 0
-  PunctualAt k r =
+  abbrev pub LeavesRoomAt : ℕ → Ran → Type 0
+  LeavesRoomAt k r =
       (j i : ℕ) → i < p .jobs → k ≡ j * p .jobs + i → ((r .start -ℤ pos j *ℤ p .window) +ℤ turn p i .max) ≤ℤ turn p i .deadline
 
-  abbrev pub Punctual : History → Type 0
-  Punctual h = (k : ℕ) → k < length h → PunctualAt k (ranIn h k)
+  abbrev pub LeavesRoom : History → Type 0
+  LeavesRoom h = (k : ℕ) → k < length h → LeavesRoomAt k (ranIn h k)
 
-  pub held-of : (h : History) → Kept p h → Punctual h → Always p (Held p) h
+  pub held-of : (h : History) → Kept p h → LeavesRoom h → Always p (Held p) h
   held-of h k c j =
       record {
         kept = k j;
-        punctual =
+        leavesRoom =
             λ i l s.
             let n = length-seen p j h in
             let low : j * p .jobs + i < length h = omega arith in
             rw (ran-seen p j h i low) (c (j * p .jobs + i) low j i l refl);
       }
 
-  pub punctual-of : (h : History) → Always p (Held p) h → Punctual h
-  punctual-of h a k low j i l e =
+  pub leavesRoom-of : (h : History) → Always p (Held p) h → LeavesRoom h
+  leavesRoom-of h a k low j i l e =
       let n = length-seen p j h in
       let low′ : j * p .jobs + i < length h = omega arith in
-      let q = rw (ran-seen p j h i low′) at (a j .punctual i l (omega arith)) in
+      let q = rw (ran-seen p j h i low′) at (a j .leavesRoom i l (omega arith)) in
       subst (λ k. ((ranIn h k .start -ℤ pos j *ℤ p .window) +ℤ turn p i .max) ≤ℤ turn p i .deadline) (sym e) q
 
-  pub kept-of : (h : History) → Always p (Held p) h → Kept p h
-  kept-of h a j = a j .kept
+  pub always-kept : (h : History) → Always p (Held p) h → Kept p h
+  always-kept h a j = a j .kept
 
   room : (t b m d : ℤ) → ((t +ℤ m) -ℤ b) ≤ℤ d → ((t -ℤ b) +ℤ m) ≤ℤ d
   room t b m d h = omega wholes
 
   -- the longest run of a start shows the deadline
-  pub starts-punctual : Accepted p → (Q : History → Type 0) → ((h : History) → Q h → Kept p h) → (g : ℕ) (h : History) (t : ℤ)
+  pub starts-leavesRoom : Accepted p → (Q : History → Type 0) → ((h : History) → Q h → Kept p h) → (g : ℕ) (h : History) (t : ℤ)
       → Forced p Q g (ranFor h t (turn p (length h) .max))
-      → (e : ℤ) → PunctualAt (length h) (record { start = t; finish = t +ℤ e })
-  starts-punctual good Q kept g h t f e j i l k =
+      → (e : ℤ) → LeavesRoomAt (length h) (record { start = t; finish = t +ℤ e })
+  starts-leavesRoom good Q kept g h t f e j i l k =
       let max = turn p (length h) .max in
       let longest = ranFor h t max in
       let r = forced-play p good Q true g longest f in
@@ -201,22 +201,22 @@ module _ (p : Plan) where
       let kp : KeptIn p (seenFrom p j (longest ++ m)) = kept (longest ++ m) (subst Q (r .follows .whole) (r .won)) j in
       let there : ranIn (longest ++ m) (j * p .jobs + i) ≡ record { start = t; finish = t +ℤ max } =
       ap (ranIn (longest ++ m)) (sym k) ∙ List·getD-append longest m noRan (length h) low₁ ∙ ran-new h _ (length h) refl in
-      let d = rw (ran-seen p j (longest ++ m) i low ∙ ap (since (pos j *ℤ p .window)) there) at (kp .inTime i l (omega arith)) in
+      let d = rw (ran-seen p j (longest ++ m) i low ∙ ap (onWindow (pos j *ℤ p .window)) there) at (kp .inTime i l (omega arith)) in
       room t (pos j *ℤ p .window) (turn p i .max) (turn p i .deadline) (subst (λ x. ((t +ℤ x) -ℤ pos j *ℤ p .window) ≤ℤ turn p i .deadline) max-is d)
     where
       max-is : turn p (length h) .max ≡ turn p i .max
       max-is = ap (λ j. j .max) (ap (turn p) k ∙ Rattle.strategy.specs.SeenLaws.turn-seen p j i)
 
-  pub forced-punctual : Accepted p → (Q : History → Type 0) → ((h : History) → Q h → Kept p h) → (g : ℕ) (h : History) → Punctual h
-      → Forced p Q g h → Forced p (λ h. Q h × Punctual h) g h
+  pub forced-leavesRoom : Accepted p → (Q : History → Type 0) → ((h : History) → Q h → Kept p h) → (g : ℕ) (h : History) → LeavesRoom h
+      → Forced p Q g h → Forced p (λ h. Q h × LeavesRoom h) g h
   unfolding Forced
-  forced-punctual good Q kept zero h c q = (q, c)
-  forced-punctual good Q kept (suc g) h c (t, f) =
+  forced-leavesRoom good Q kept zero h c q = (q, c)
+  forced-leavesRoom good Q kept (suc g) h c (t, f) =
       let mm = turn-min-max p good (length h) in (
         t,
         λ e lo hi.
-            forced-punctual good Q kept g (ranFor h t e)
-            (each-more PunctualAt h _ c
-            (starts-punctual good Q kept g h t (f (turn p (length h) .max) mm (omega wholes)) e))
+            forced-leavesRoom good Q kept g (ranFor h t e)
+            (each-more LeavesRoomAt h _ c
+            (starts-leavesRoom good Q kept g h t (f (turn p (length h) .max) mm (omega wholes)) e))
             (f e lo hi),
       )

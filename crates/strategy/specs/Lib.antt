@@ -1,5 +1,6 @@
 -- What a way to choose the starts is, from first principles, and that the verdict and the offers of document 01 answer exactly that. In
 -- reading order: histories, what a strategy is, and which runs are reached. These three are definitions alone; then read `Theorems`.
+-- ---- documents 01 and 002
 pub mod Histories
 pub mod Strategies
 pub mod Reaching

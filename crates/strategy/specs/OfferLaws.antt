@@ -1,17 +1,15 @@
 -- The offer, read off the tables. The calendar holds, for each job, the row and the column of its start in the table just before it is eliminated; so t is on
 -- offer exactly if these hold at t, for the events in force.
-use Prim.Native.Nat.{ℕ, zero, suc, _+_, _*_, _-_, _/_, _%_, _≤_, _<_}
+use Prim.Native.Nat.{ℕ, zero, suc, _+_, _*_, _-_, _≤_, _<_}
 use mathlib.Core.Path.{_≡_, refl, sym, ap, ap₂, subst, _∙_}
 use mathlib.Core.Logic.{_↔_}
-use mathlib.Core.Bool.{Bool, true, false, cond}
+use mathlib.Core.Bool.{true, false}
 use mathlib.Core.List.{List, [], _∷_, _++_}
 use native.Mathlib.Omega.{arith}
-use lib.Dec.{eqb}
 use lib.IntN.{ℤ, pos, negℤ, _+ℤ_, _-ℤ_, _*ℤ_}
 use lib.Signed.{_≤ℤ_}
 use lib.ListN.{length, getD, length-append, length-replicate, replicate, List·getD-append}
 use lib.Seq.{getD-append-add}
-use borrow.Author.Tests.{eq-eqb, ne-eqb}
 use Rattle.whole.specs.Clash.{clash}
 use Rattle.whole.specs.SplitLaws.{split-neg}
 use Rattle.whole.specs.Rules.{wholes}
@@ -71,7 +69,7 @@ unfolding allTerms
 length-terms p k [] = refl
 length-terms p k (t ∷ ts) = ap suc (length-terms p (suc k) ts)
 
-pub terms-at : (p : Plan) (ts : List Rows) (i : ℕ) → i < length ts → getD (calendarOf p ts .terms) i noTerms ≡ termsOf p i (getD ts i [])
+terms-at : (p : Plan) (ts : List Rows) (i : ℕ) → i < length ts → getD (calendarOf p ts .terms) i noTerms ≡ termsOf p i (getD ts i [])
 unfolding calendarOf
 terms-at p ts i h =
     let n = length-terms p 0 ts in
@@ -126,7 +124,7 @@ module _ (cs : ℕ → Rows → List ℤ) where
       ∙ ap (λ k. getD (cs k (getD ts i [])) e (pos 0)) z
 
 module _ (p : Plan) (few : p .jobs ≤ mostJobs) (ts : List Rows) (all : length ts ≡ p .jobs) (i e : ℕ) (h : i < p .jobs) (l : e < eventsBefore p i) where
-  pub least-at : getD (calendarOf p ts .«at_least») (i * mostEvents + e) (pos 0)
+  least-at : getD (calendarOf p ts .«at_least») (i * mostEvents + e) (pos 0)
       ≡ negℤ (weight (fromBelow (getD ts i []) (startNode (p .jobs + i)) e))
   unfolding calendarOf leastCs
   least-at =
@@ -135,7 +133,7 @@ module _ (p : Plan) (few : p .jobs ≤ mostJobs) (ts : List Rows) (all : length 
       (let n = length-listed (eventsBefore p i) (λ e. negℤ (weight (fromBelow (getD ts i []) (startNode (p .jobs + i)) e))) in omega arith)
       ∙ getD-listed (eventsBefore p i) _ e (pos 0) l
 
-  pub most-at : getD (calendarOf p ts .«at_most») (i * mostEvents + e) (pos 0)
+  most-at : getD (calendarOf p ts .«at_most») (i * mostEvents + e) (pos 0)
       ≡ weight (fromAbove (getD ts i []) (startNode (p .jobs + i)) e)
   unfolding calendarOf mostCs
   most-at =
@@ -192,11 +190,11 @@ module _ (p : Plan) (r : Run) (J count : ℕ) (order : ℤ → ℤ → Type 0) (
       term-law (timeAt (r .seen) k .0) w .0
       (subst (λ a. order (timeAt (r .seen) k .0 +ℤ a) t) (cs-is k h ∙ ap (λ x. c (weight x)) e) (b on))
 
-  pub side-out : AllPast → (y : ℕ) → y < suc count → InForce p r y → Holds (cell y) (D (nodeTime p r J y))
+  side-out : AllPast → (y : ℕ) → y < suc count → InForce p r y → Holds (cell y) (D (nodeTime p r J y))
   side-out h zero l f = rw there (base-law w₀ .0 (subst (λ a. order ((pos J *ℤ p .window) +ℤ (a -ℤ p .window)) t) base-is (h .origin)))
   side-out h (suc k) l f = term-out k (omega arith) (h .terms k f (omega arith)) (cell (suc k)) refl
 
-  pub side-in : ((y : ℕ) → y < suc count → InForce p r y → Holds (cell y) (D (nodeTime p r J y))) → AllPast
+  side-in : ((y : ℕ) → y < suc count → InForce p r y → Holds (cell y) (D (nodeTime p r J y))) → AllPast
   side-in f =
       record {
         origin = subst (λ a. order ((pos J *ℤ p .window) +ℤ (a -ℤ p .window)) t) (sym base-is) (base-law w₀ .1 (rw there at (f 0 (omega arith) tt)));
@@ -286,7 +284,7 @@ module _ (p : Plan) (few : p .jobs ≤ mostJobs) (ts : List Rows) (all : length 
   upper-is t = past-is AtMost (λ x. x .above .0) (λ x. x .high .0) (calendarOf p ts .«at_most») t
 
   -- t, on the clock of the table, keeps the start's row and column, as far as they are in force
-  pub record Fitting (t : ℤ) : Type 0 where
+  pub record StartFits (t : ℤ) : Type 0 where
     pub row : (y : ℕ) → y < s → InForce p r y → Holds (at table s y) (nodeTime p r J y -ℤ (t -ℤ tableBegin p J))
     pub column : (y : ℕ) → y < s → InForce p r y → Holds (at table y s) ((t -ℤ tableBegin p J) -ℤ nodeTime p r J y)
 
@@ -294,8 +292,8 @@ module _ (p : Plan) (few : p .jobs ≤ mostJobs) (ts : List Rows) (all : length 
     abbrev x : ℤ
     x = t -ℤ tableBegin p J
 
-    pub offer-fitting : OnOffer offered t → Fitting t
-    offer-fitting o =
+    pub offer-startFits : OnOffer offered t → StartFits t
+    offer-startFits o =
         record {
           row =
               λ y l f.
@@ -313,8 +311,8 @@ module _ (p : Plan) (few : p .jobs ≤ mostJobs) (ts : List Rows) (all : length 
               (o .most))) y (omega arith) f;
         }
 
-    pub fitting-offer : Fitting t → OnOffer offered t
-    fitting-offer f =
+    pub startFits-offer : StartFits t → OnOffer offered t
+    startFits-offer f =
         record {
           least =
               offerAt-from-iff turn (calendarOf p ts .«at_least») (calendarOf p ts .«at_most») r (suc J) (suc i) t .1

@@ -1,6 +1,6 @@
--- Reached runs. Such a run shows its history, and from it the game can still be won (`state`); so its offer is never empty, and t is on offer exactly if after a
--- start at t strategies exist to the end of this window and of every later one.
-use Prim.Native.Nat.{ℕ, zero, suc, _+_, _*_, _-_, _≤_, _<_}
+-- Reached runs. Such a run shows its history, and from it the game can still be won (`state`); so its offer is never empty, and t is on offer exactly if
+-- after a start at t strategies exist to the end of this window and of every later one.
+use Prim.Native.Nat.{ℕ, zero, suc, _+_, _*_, _-_, _≤_}
 use mathlib.Core.Path.{_≡_, refl, sym, ap, ap₂, subst, _∙_}
 use mathlib.Core.Logic.{_↔_, _⊎_, inl, inr}
 use mathlib.Core.Bool.{true}
@@ -33,14 +33,24 @@ use Rattle.runs.specs.StepEffectLaws.{opening-open, waiting-not-empty, running-
 use Rattle.runs.specs.AnswerLaws.{answer-empty, ask-offered, start-taken, start-refused, start-auto}
 use Rattle.strategy.specs.Histories.{Ran, History, ranFor, turn}
 use Rattle.strategy.specs.Strategies.{Kept, StrategyAfter}
-use Rattle.strategy.specs.Reaching.{AtTurn, ended, historyAfter, Reached, begun, more, StepEffect, nothing, start-on-offer, finish-inside-times}
+use Rattle.strategy.specs.Reaching.{AtTurn, withFinish, historyAfter, Reached, begun, more, StepEffect, nothing, start-on-offer, finish-inside-times}
 use Rattle.strategy.specs.ReachingLaws.{turn-job, step-effect}
 use Rattle.plan.specs.Accepted.{Accepted}
 use Rattle.strategy.specs.TimeLaws.{start-time}
-use Rattle.strategy.specs.KeptLaws.{kept-of}
+use Rattle.strategy.specs.KeptLaws.{always-kept}
 use Rattle.strategy.specs.VerdictLaws.{IsSettled, settled-is}
-use Rattle.strategy.specs.GameLaws.{Settling, settling, Well, well-begin, WellAfter, well-more, Winning, winning-chosen, chosen-winning}
-use Rattle.strategy.specs.RunLaws.{Shows}
+use Rattle.strategy.specs.GameLaws.{
+  Settling,
+  settling,
+  Winnable,
+  winnable-begin,
+  WinnableAfter,
+  winnable-more,
+  Winning,
+  winning-strategies,
+  strategies-winning,
+}
+use Rattle.strategy.specs.RunLaws.{ShowsHistory}
 use Rattle.strategy.specs.WinningLaws.{offer-winning, winning-offer, offer-some}
 use Rattle.strategy.specs.ShowsLaws.{goes-on, next-begins}
 
@@ -51,8 +61,8 @@ module _ (p : Plan) (good : Accepted p) (m : ℕ) (c : Rows) (s : IsSettled p go
     pub i : ℕ
     pub g : ℕ
     pub phase : r .phase ≡ Waiting (suc j) (suc i)
-    pub well : Well p good m c s f h j i (suc g)
-    pub shows : Shows p r h j i
+    pub winnable : Winnable p good m c s f h j i (suc g)
+    pub shows : ShowsHistory p r h j i
 
   -- it runs that job since a time from which the game can be won
   pub record Runs (r : Run) (h : History) : Type 0 where
@@ -61,8 +71,8 @@ module _ (p : Plan) (good : Accepted p) (m : ℕ) (c : Rows) (s : IsSettled p go
     pub g : ℕ
     pub since : RunTime
     pub phase : r .phase ≡ Running (suc j) (suc i) since
-    pub well : Well p good m c s f h j i (suc g)
-    pub shows : Shows p r h j i
+    pub winnable : Winnable p good m c s f h j i (suc g)
+    pub shows : ShowsHistory p r h j i
     pub winning : Winning p good m c s f h j g (since .0)
 
   begun-waits : Waits newRun []
@@ -72,12 +82,12 @@ module _ (p : Plan) (good : Accepted p) (m : ℕ) (c : Rows) (s : IsSettled p go
         i = 0;
         g = p .jobs - 1;
         phase = refl;
-        well = subst (Well p good m c s f [] 0 0) (let a = good .jobs-least in let e : p .jobs ≡ suc (p .jobs - 1) = omega arith in e)
-            (well-begin p good m c s f);
+        winnable = subst (Winnable p good m c s f [] 0 0) (let a = good .jobs-least in let e : p .jobs ≡ suc (p .jobs - 1) = omega arith in e)
+            (winnable-begin p good m c s f);
         shows = record { places = refl; present = λ k l. absurd (omega arith); previous = refl };
       }
 
-  shows-running : (r : Run) (h : History) (j i a b : ℕ) (t : RunTime) → Shows p r h j i → Shows p (runningSince r a b t) h j i
+  shows-running : (r : Run) (h : History) (j i a b : ℕ) (t : RunTime) → ShowsHistory p r h j i → ShowsHistory p (runningSince r a b t) h j i
   shows-running r h zero i a b t sh = record { places = sh .places; present = sh .present; previous = sh .previous }
   shows-running r h (suc j) i a b t sh = record { places = sh .places; present = sh .present; previous = sh .previous }
 
@@ -93,15 +103,15 @@ module _ (p : Plan) (good : Accepted p) (m : ℕ) (c : Rows) (s : IsSettled p go
         g = w .g;
         since = t;
         phase = ap₂ (λ a b. Running a b t) (sym same-window) (sym same-job);
-        well = w .well;
+        winnable = w .winnable;
         shows = shows-running r h (w .j) (w .i) j i t (w .shows);
         winning =
-            offer-winning p good m c s f r h (w .i) (w .g) (w .j) (w .well) (w .shows) (t .0)
+            offer-winning p good m c s f r h (w .i) (w .g) (w .j) (w .winnable) (w .shows) (t .0)
             (subst (λ o. OnOffer o (t .0)) (sym (ap₂ (offerOf p (calendar p c) r) same-window same-job)) on);
       }
 
-  turn-of-well : (h : History) (j i g : ℕ) → Well p good m c s f h j i (suc g) → AtTurn p h (suc j) (suc i)
-  turn-of-well h j i g w =
+  turn-of-winnable : (h : History) (j i g : ℕ) → Winnable p good m c s f h j i (suc g) → AtTurn p h (suc j) (suc i)
+  turn-of-winnable h j i g w =
       record {
         window = omega arith;
         job-least = omega arith;
@@ -109,14 +119,14 @@ module _ (p : Plan) (good : Accepted p) (m : ℕ) (c : Rows) (s : IsSettled p go
         finished = w .size ∙ ap₂ (λ (a b : ℕ). a * p .jobs + b) (let e : j ≡ suc j - 1 = omega arith in e) (let e : i ≡ suc i - 1 = omega arith in e);
       }
 
-  module _ (r : Run) (h : History) (j i : ℕ) (since finish : RunTime) (sh : Shows p r h j i) where
+  module _ (r : Run) (h : History) (j i : ℕ) (since finish : RunTime) (sh : ShowsHistory p r h j i) where
     abbrev ran : Ran
     ran = record { start = since .0; finish = finish .0 }
 
     abbrev after : Run
     after = closedSince (p .jobs) r (suc j) (suc i) since finish
 
-    moves-on : (g : ℕ) (w : Well p good m c s f h j i (suc g)) → WellAfter p good m c s f j i g (h ++ (ran ∷ [])) → Waits after (h ++ (ran ∷ []))
+    moves-on : (g : ℕ) (w : Winnable p good m c s f h j i (suc g)) → WinnableAfter p good m c s f j i g (h ++ (ran ∷ [])) → Waits after (h ++ (ran ∷ []))
     moves-on zero w next =
         let a = w .ig in
         let b = next-begins p r h j i sh (good .jobs-most) (omega arith) (w .size) since finish (omega arith) in
@@ -125,14 +135,14 @@ module _ (p : Plan) (good : Accepted p) (m : ℕ) (c : Rows) (s : IsSettled p go
           i = 0;
           g = p .jobs - 1;
           phase = b .0;
-          well = subst (Well p good m c s f (h ++ (ran ∷ [])) (suc j) 0)
+          winnable = subst (Winnable p good m c s f (h ++ (ran ∷ [])) (suc j) 0)
               (let k = good .jobs-least in let e : p .jobs ≡ suc (p .jobs - 1) = omega arith in e) next;
           shows = b .1;
         }
     moves-on (suc g) w next =
         let a = w .ig in
         let b = goes-on p r h j i sh (good .jobs-most) (omega arith) (w .size) since finish (omega arith) in
-        record { j = j; i = suc i; g = g; phase = b .0; well = next; shows = b .1 }
+        record { j = j; i = suc i; g = g; phase = b .0; winnable = next; shows = b .1 }
 
   finish-is : (a b : ℤ) → a +ℤ (b -ℤ a) ≡ b
   finish-is a b = omega wholes
@@ -145,18 +155,19 @@ module _ (p : Plan) (good : Accepted p) (m : ℕ) (c : Rows) (s : IsSettled p go
       let same-window : suc (w .j) ≡ j = cc in
       let same-job : suc (w .i) ≡ i = cc in
       let same-start : w .since ≡ since = cc in
-      let n = turn-job p h _ _ (turn-of-well h (w .j) (w .i) (w .g) (w .well)) ∙ ap (λ i. getD (p .job) (i - 1) noJob) same-job in
+      let n = turn-job p h _ _ (turn-of-winnable h (w .j) (w .i) (w .g) (w .winnable)) ∙ ap (λ i. getD (p .job) (i - 1) noJob) same-job in
       let ran = t .0 -ℤ since .0 in
       let lo = inside .least in
       let hi = inside .most in
       let lo′ : turn p (length h) .min ≤ℤ (t .0 -ℤ since .0) = rw n (omega wholes) in
       let hi′ : (t .0 -ℤ since .0) ≤ℤ turn p (length h) .max = rw n (omega wholes) in
       let wins = subst (λ s. Winning p good m c _ f h (w .j) (w .g) (s .0)) same-start (w .winning) in
-      let next = well-more p good m c s f h (w .j) (w .i) (w .g) (w .well) (since .0) ran lo′ hi′ (wins ran lo′ hi′) in
+      let next = winnable-more p good m c s f h (w .j) (w .i) (w .g) (w .winnable) (since .0) ran lo′ hi′ (wins ran lo′ hi′) in
       subst (λ j. Waits (closedSince (p .jobs) r j i since t) (h ++ (record { start = since .0; finish = t .0 } ∷ []))) same-window
       (subst (λ i. Waits (closedSince (p .jobs) r (suc (w .j)) i since t) (h ++ (record { start = since .0; finish = t .0 } ∷ []))) same-job
-      (moves-on r h (w .j) (w .i) since t (w .shows) (w .g) (w .well)
-      (subst (λ z. WellAfter p good m c s f (w .j) (w .i) (w .g) (h ++ (record { start = since .0; finish = z } ∷ []))) (finish-is (since .0) (t .0)) next)))
+      (moves-on r h (w .j) (w .i) since t (w .shows) (w .g) (w .winnable)
+      (subst (λ z. WinnableAfter p good m c s f (w .j) (w .i) (w .g) (h ++ (record { start = since .0; finish = z } ∷ [])))
+      (finish-is (since .0) (t .0)) next)))
 
   not-both : (r : Run) (a b d e : ℕ) (t : RunTime) → r .phase ≡ Waiting a b → r .phase ≡ Running d e t → ⊥
   not-both r a b d e t x y = clash (cc)
@@ -183,23 +194,23 @@ module _ (p : Plan) (good : Accepted p) (m : ℕ) (c : Rows) (accepted : outcome
 
   module _ (r : Run) (h : History) (reached : Reached p (calendar p c) r h) where
     run-held : Waits p good m c s f r h ⊎ Runs p good m c s f r h → Kept p h
-    run-held (inl w) = kept-of p h (w .well .held)
-    run-held (inr w) = kept-of p h (w .well .held)
+    run-held (inl w) = always-kept p h (w .winnable .held)
+    run-held (inr w) = always-kept p h (w .winnable .held)
 
     pub reached-kept : Kept p h
     reached-kept = run-held (state p good m c s f reached)
 
     -- whose turn it is
-    turn-from : (j i g J I : ℕ) → suc j ≡ J → suc i ≡ I → Well p good m c s f h j i (suc g) → AtTurn p h J I
-    turn-from j i g J I a b w = subst (AtTurn p h J) b (subst (λ j. AtTurn p h j (suc i)) a (turn-of-well p good m c s f h j i g w))
+    turn-from : (j i g J I : ℕ) → suc j ≡ J → suc i ≡ I → Winnable p good m c s f h j i (suc g) → AtTurn p h J I
+    turn-from j i g J I a b w = subst (AtTurn p h J) b (subst (λ j. AtTurn p h j (suc i)) a (turn-of-winnable p good m c s f h j i g w))
 
     waiting-turn : (J I : ℕ) → r .phase ≡ Waiting J I → Waits p good m c s f r h ⊎ Runs p good m c s f r h → AtTurn p h J I
-    waiting-turn J I e (inl w) = let d = w .phase in turn-from (w .j) (w .i) (w .g) J I (cc) (cc) (w .well)
+    waiting-turn J I e (inl w) = let d = w .phase in turn-from (w .j) (w .i) (w .g) J I (cc) (cc) (w .winnable)
     waiting-turn J I e (inr w) = let d = w .phase in clash (cc)
 
     running-turn : (J I : ℕ) (t : RunTime) → r .phase ≡ Running J I t → Waits p good m c s f r h ⊎ Runs p good m c s f r h → AtTurn p h J I
     running-turn J I t e (inl w) = let d = w .phase in clash (cc)
-    running-turn J I t e (inr w) = let d = w .phase in turn-from (w .j) (w .i) (w .g) J I (cc) (cc) (w .well)
+    running-turn J I t e (inr w) = let d = w .phase in turn-from (w .j) (w .i) (w .g) J I (cc) (cc) (w .winnable)
 
     pub reached-waiting : (J I : ℕ) → r .phase ≡ Waiting J I → AtTurn p h J I
     reached-waiting J I e = waiting-turn J I e (state p good m c s f reached)
@@ -231,10 +242,10 @@ module _ (p : Plan) (good : Accepted p) (m : ℕ) (c : Rows) (accepted : outcome
       reached-some =
           let t = at-turn in
           let w = t .waits in
-          subst (λ o. o .from .0 ≤ℤ o .to .0) (offer-at t) (offer-some p good m c s f r h (w .i) (w .g) (w .j) (w .well) (w .shows))
+          subst (λ o. o .from .0 ≤ℤ o .to .0) (offer-at t) (offer-some p good m c s f r h (w .i) (w .g) (w .j) (w .winnable) (w .shows))
 
       left-is : (t : Turn) → t .waits .g ≡ p .jobs - I
-      left-is t = let a = t .waits .well .ig in let b = t .job in omega arith
+      left-is t = let a = t .waits .winnable .ig in let b = t .job in omega arith
 
       pub reached-offer : (t : ℤ) → OnOffer offered t ↔ ((k : ℕ) → StrategyAfter p h t ((p .jobs - I) + k * p .jobs))
       reached-offer t =
@@ -242,12 +253,12 @@ module _ (p : Plan) (good : Accepted p) (m : ℕ) (c : Rows) (accepted : outcome
           let w = n .waits in (
             λ o k.
                 subst (λ g. StrategyAfter p h t (g + k * p .jobs)) (left-is n)
-                (winning-chosen p good m c s f h (w .j) (w .i) (w .g) (w .well) t
-                (offer-winning p good m c s f r h (w .i) (w .g) (w .j) (w .well) (w .shows) t (subst (λ o. OnOffer o t) (sym (offer-at n)) o)) k),
+                (winning-strategies p good m c s f h (w .j) (w .i) (w .g) (w .winnable) t
+                (offer-winning p good m c s f r h (w .i) (w .g) (w .j) (w .winnable) (w .shows) t (subst (λ o. OnOffer o t) (sym (offer-at n)) o)) k),
             λ q.
                 subst (λ o. OnOffer o t) (offer-at n)
-                (winning-offer p good m c s f r h (w .i) (w .g) (w .j) (w .well) (w .shows) t
-                (chosen-winning p good m c s f h (w .j) (w .i) (w .g) (w .well) t
+                (winning-offer p good m c s f r h (w .i) (w .g) (w .j) (w .winnable) (w .shows) t
+                (strategies-winning p good m c s f h (w .j) (w .i) (w .g) (w .winnable) t
                 (λ k. subst (λ g. StrategyAfter p h t (g + k * p .jobs)) (sym (left-is n)) (q k)))),
           )
 
@@ -269,7 +280,7 @@ module _ (p : Plan) (good : Accepted p) (m : ℕ) (c : Rows) (accepted : outcome
       pub reached-in-range : (t : RunTime) → OnOffer (offerOf p (calendar p c) r J I) (t .0) → isTime t ≡ true
       reached-in-range t on =
           let n = at-turn J I phase in
-          let w = n .waits .well in
+          let w = n .waits .winnable in
           start-time p good h (n .waits .j) (n .waits .i) _ (w .size) (let g = w .ig in omega arith) (subst (λ j. j ≤ p .last) (sym (n .window)) lasts) (t .0)
           (reached-offer J I phase (t .0) .0 on 0)
 
@@ -329,13 +340,13 @@ module _ (p : Plan) (good : Accepted p) (m : ℕ) (c : Rows) (accepted : outcome
     begins-running = started-running p (calendar p c) r (At t) J I t taken
 
     pub reached-on : (e : ℤ) → turn p (length h) .min ≤ℤ e → e ≤ℤ turn p (length h) .max → (r′ : Run) × Reached p (calendar p c) r′ (ranFor h (t .0) e)
-    unfolding historyAfter ended
+    unfolding historyAfter withFinish
     reached-on e lo hi =
         let u : RunTime = record { 0 = t .0 +ℤ e } in
         let inside : InTimes (turn p (length h)) (t .0) (t .0 +ℤ e) = record { least = omega wholes; most = omega wholes } in
         let final = reached-final begins h begins-reached J I t begins-running u .0 inside in
         let ends = stepped p (calendar p c) begins (Finish u) .run in (
           ends,
-          subst (λ f. Reached p (calendar p c) ends (ended f u h)) begins-running
+          subst (λ f. Reached p (calendar p c) ends (withFinish f u h)) begins-running
               (subst (λ a. Reached p (calendar p c) ends (historyAfter begins a h)) final (more begins-reached (Finish u))),
         )

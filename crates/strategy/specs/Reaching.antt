@@ -2,7 +2,7 @@
 -- nothing, a start that was on offer, or a finish inside its times.
 use Prim.Native.Nat.{ℕ, _+_, _*_, _-_, _≤_}
 use mathlib.Core.Path.{_≡_}
-use mathlib.Core.List.{List, [], _∷_, _++_}
+use mathlib.Core.List.{[], _∷_, _++_}
 use lib.ListN.{length, getD}
 use Rattle.clock.specs.declared.RunTime.{RunTime}
 use Rattle.plan.specs.declared.Plan.{Plan}
@@ -28,15 +28,15 @@ pub record AtTurn (p : Plan) (h : History) (j i : ℕ) : Type 0 where
 -- ---- what an answer adds to the history
 
 -- the job that runs has finished at t
-unfoldable pub ended : Phase → RunTime → History → History
-ended (Waiting j i) t h = h
-ended (Running j i s) t h = h ++ (record { start = s .0; finish = t .0 } ∷ [])
+unfoldable pub withFinish : Phase → RunTime → History → History
+withFinish (Waiting j i) t h = h
+withFinish (Running j i s) t h = h ++ (record { start = s .0; finish = t .0 } ∷ [])
 
 -- 'A count is final exactly when its finish is accepted.'
 unfoldable pub historyAfter : Run → Answer → History → History
 historyAfter r (Offered o) h = h
 historyAfter r (Started j i t) h = h
-historyAfter r (Final j i t) h = ended (r .phase) t h
+historyAfter r (Final j i t) h = withFinish (r .phase) t h
 historyAfter r (Refused x) h = h
 
 -- ---- reached runs

@@ -6,7 +6,6 @@ use mathlib.Core.List.{List, [], _∷_}
 use native.Mathlib.Nat.{mod-eq-of-lt}
 use native.Mathlib.Omega.{arith}
 use lib.ListN.{length, getD}
-use Rattle.plan.specs.declared.Job.{Job}
 use Rattle.plan.specs.declared.Plan.{Plan}
 use Rattle.plan.specs.PlanLines.{noJob}
 use Rattle.calendars.specs.declared.Calendar.{Calendar}
@@ -19,7 +18,7 @@ use Rattle.runs.specs.StepEffectLaws.{started-on-offer, final-in-times}
 use Rattle.strategy.specs.Histories.{History, turn}
 use Rattle.strategy.specs.Reaching.{
   AtTurn,
-  ended,
+  withFinish,
   historyAfter,
   Reached,
   begun,
@@ -43,12 +42,12 @@ turn-job p h j i a =
 
 module _ (p : Plan) (c : Calendar) (r : Run) (h : History) where
   answer-effect : (st : Step) (a : Answer) → answerOf p c r st ≡ a → StepEffect p c r h (moved (p .jobs) r a) (historyAfter r a h)
-  unfolding moved historyAfter closed ended
+  unfolding moved historyAfter closed withFinish
   answer-effect st (Offered o) e = nothing
   answer-effect st (Started j i t) e = let k = started-on-offer p c r st j i t e in start-on-offer j i t (k .waits) (k .lasts) (k .on)
   answer-effect st (Final j i t) e =
       let k = final-in-times p c r st j i t e in
-      subst (λ f. StepEffect p c r h (closed (p .jobs) r t f) (ended f t h)) (sym (k .runs)) (finish-inside-times j i (k .since) t (k .runs) (k .inside))
+      subst (λ f. StepEffect p c r h (closed (p .jobs) r t f) (withFinish f t h)) (sym (k .runs)) (finish-inside-times j i (k .since) t (k .runs) (k .inside))
   answer-effect st (Refused x) e = nothing
 
   pub step-effect : (st : Step) → StepEffect p c r h (stepped p c r st .run) (historyAfter r (stepped p c r st .answer) h)

@@ -27,9 +27,9 @@ use Rattle.strategy.specs.Keeping.{Holds, when}
 use Rattle.strategy.specs.CellLaws.{plus-iff}
 use Rattle.strategy.specs.SeenLaws.{at-most-or-above, ran-seen}
 use Rattle.strategy.specs.JoinedLaws.{nextNode, next-later, moved-later}
-use Rattle.strategy.specs.AloneLaws.{Shifted}
+use Rattle.strategy.specs.AloneLaws.{MovedCells}
 use Rattle.strategy.specs.StageLaws.{Allowed}
-use Rattle.strategy.specs.OfferLaws.{InForce, tableBegin, nodeTime, Fitting}
+use Rattle.strategy.specs.OfferLaws.{InForce, tableBegin, nodeTime, StartFits}
 
 -- ---- what a run shows
 
@@ -44,7 +44,7 @@ ShowsPrevious p r h zero = r .before ≡ Nothing
 ShowsPrevious p r h (suc j) = (r .before ≡ Window) × ((k : ℕ) → k < p .jobs → ShowsJob (r .seen) k (ranIn h (j * p .jobs + k)))
 
 -- j windows and i jobs of the next one
-pub record Shows (p : Plan) (r : Run) (h : History) (j i : ℕ) : Type 0 where
+pub record ShowsHistory (p : Plan) (r : Run) (h : History) (j i : ℕ) : Type 0 where
   pub places : length (r .seen) ≡ mostEvents
   pub present : (k : ℕ) → k < i → ShowsJob (r .seen) (p .jobs + k) (ranIn h (j * p .jobs + k))
   pub previous : ShowsPrevious p r h j
@@ -77,7 +77,7 @@ module _ (p : Plan) (r : Run) where
 
   -- ---- later windows
 
-  module _ (h : History) (j i : ℕ) (sh : Shows p r h (suc j) i) (low : i < p .jobs) (size : length h ≡ suc j * p .jobs + i) where
+  module _ (h : History) (j i : ℕ) (sh : ShowsHistory p r h (suc j) i) (low : i < p .jobs) (size : length h ≡ suc j * p .jobs + i) where
     -- the jobs of both windows
     shows-job : (k : ℕ) → k < p .jobs + i → ShowsJob (r .seen) k (ranIn h (j * p .jobs + k))
     shows-job k l =
@@ -93,7 +93,7 @@ module _ (p : Plan) (r : Run) where
     begin-is : tableBegin p (suc j) ≡ pos j *ℤ p .window
     begin-is = let a = split-mul (suc j) (p .window) in let b = split-mul j (p .window) in omega wholes
 
-    pub later-time : (y : ℕ) → y < startNode (p .jobs + i) → nodeTime p r (suc j) y ≡ when (seenFrom p j h) (eventOf y)
+    later-time : (y : ℕ) → y < startNode (p .jobs + i) → nodeTime p r (suc j) y ≡ when (seenFrom p j h) (eventOf y)
     unfolding eventOf
     later-time =
         byNode (λ y. y < startNode (p .jobs + i) → nodeTime p r (suc j) y ≡ when (seenFrom p j h) (eventOf y)) (λ l. refl)
@@ -112,7 +112,7 @@ module _ (p : Plan) (r : Run) where
 
   -- ---- the first window
 
-  module _ (h : History) (i : ℕ) (sh : Shows p r h 0 i) where
+  module _ (h : History) (i : ℕ) (sh : ShowsHistory p r h 0 i) where
     first-job : (k : ℕ) → k < i → ShowsJob (r .seen) (p .jobs + k) (ranIn h k)
     first-job k l = subst (λ n. ShowsJob (r .seen) (p .jobs + k) (ranIn h n)) (let e : 0 * p .jobs + k ≡ k = omega arith in e) (sh .present k l)
 
@@ -123,7 +123,7 @@ module _ (p : Plan) (r : Run) where
     window-later : (a w : ℤ) → a -ℤ (pos 0 *ℤ w -ℤ w) ≡ a +ℤ w
     window-later a w = let m = split-mul 0 w in omega (shows eq (any ⊖ (any ⊖ any)) (any ⊕ any), wholes)
 
-    pub first-time : (y : ℕ) → y < startNode i → nodeTime p r 0 (nextNode p y) ≡ when h (eventOf y) +ℤ moved p y
+    first-time : (y : ℕ) → y < startNode i → nodeTime p r 0 (nextNode p y) ≡ when h (eventOf y) +ℤ moved p y
     unfolding eventOf
     first-time =
         byNode (λ y. y < startNode i → nodeTime p r 0 (nextNode p y) ≡ when h (eventOf y) +ℤ moved p y)
@@ -148,7 +148,7 @@ module _ (p : Plan) (few : p .jobs ≤ mostJobs) (ts : List Rows) (all : length 
   table = getD ts i []
 
   -- later windows
-  module _ (j : ℕ) (sh : Shows p r h (suc j) i) (size : length h ≡ suc j * p .jobs + i) (v : Rows) (v-is : table ≡ v) where
+  module _ (j : ℕ) (sh : ShowsHistory p r h (suc j) i) (size : length h ≡ suc j * p .jobs + i) (v : Rows) (v-is : table ≡ v) where
     later-at : (y : ℕ) → y < startNode (p .jobs + i)
         → nodeTime p r (suc j) y -ℤ (t -ℤ tableBegin p (suc j)) ≡ when (seenFrom p j h) (eventOf y) -ℤ (t -ℤ pos j *ℤ p .window)
     later-at y l = ap₂ (λ a b. a -ℤ (t -ℤ b)) (later-time p r h j i sh low size y l) (begin-is p r h j i sh low size)
@@ -157,8 +157,8 @@ module _ (p : Plan) (few : p .jobs ≤ mostJobs) (ts : List Rows) (all : length 
         → (t -ℤ tableBegin p (suc j)) -ℤ nodeTime p r (suc j) y ≡ (t -ℤ pos j *ℤ p .window) -ℤ when (seenFrom p j h) (eventOf y)
     later-back y l = ap₂ (λ a b. (t -ℤ b) -ℤ a) (later-time p r h j i sh low size y l) (begin-is p r h j i sh low size)
 
-    pub later-fitting : Allowed v (p .jobs + i) (λ y. when (seenFrom p j h) (eventOf y)) (t -ℤ pos j *ℤ p .window) → Fitting p few ts all i low r (suc j) t
-    later-fitting a =
+    pub later-startFits : Allowed v (p .jobs + i) (λ y. when (seenFrom p j h) (eventOf y)) (t -ℤ pos j *ℤ p .window) → StartFits p few ts all i low r (suc j) t
+    later-startFits a =
         record {
           row = λ y l f. subst (λ v. Holds (at v (startNode (p .jobs + i)) y) (nodeTime p r (suc j) y -ℤ (t -ℤ tableBegin p (suc j)))) (sym v-is)
               (subst (Holds (at v (startNode (p .jobs + i)) y)) (sym (later-at y l)) (a .row y l));
@@ -166,8 +166,8 @@ module _ (p : Plan) (few : p .jobs ≤ mostJobs) (ts : List Rows) (all : length 
               (subst (Holds (at v y (startNode (p .jobs + i)))) (sym (later-back y l)) (a .column y l));
         }
 
-    pub fitting-later : Fitting p few ts all i low r (suc j) t → Allowed v (p .jobs + i) (λ y. when (seenFrom p j h) (eventOf y)) (t -ℤ pos j *ℤ p .window)
-    fitting-later f =
+    pub startFits-later : StartFits p few ts all i low r (suc j) t → Allowed v (p .jobs + i) (λ y. when (seenFrom p j h) (eventOf y)) (t -ℤ pos j *ℤ p .window)
+    startFits-later f =
         record {
           row =
               λ y l.
@@ -188,7 +188,7 @@ module _ (p : Plan) (few : p .jobs ≤ mostJobs) (ts : List Rows) (all : length 
   gap-column : (a m t w : ℤ) → ((t +ℤ w) -ℤ (a +ℤ m)) -ℤ (w -ℤ m) ≡ t -ℤ a
   gap-column a m t w = omega (shows eq (any ⊕ any ⊖ (any ⊕ any) ⊖ (any ⊖ any)) (any ⊖ any), wholes)
 
-  module _ (sh : Shows p r h 0 i) (v w : Rows) (v-is : table ≡ v) (same : Shifted p (finishNode i) (at w) (at v)) where
+  module _ (sh : ShowsHistory p r h 0 i) (v w : Rows) (v-is : table ≡ v) (same : MovedCells p (finishNode i) (at w) (at v)) where
     abbrev s : ℕ
     s = startNode (p .jobs + i)
 
@@ -221,8 +221,8 @@ module _ (p : Plan) (few : p .jobs ≤ mostJobs) (ts : List Rows) (all : length 
     next-low zero l = omega arith
     next-low (suc y) l = rw (next-later p (suc y) (omega arith)) (omega arith)
 
-    pub fitting-first : Fitting p few ts all i low r 0 t → Allowed w i (λ y. when h (eventOf y)) t
-    fitting-first f =
+    pub startFits-first : StartFits p few ts all i low r 0 t → Allowed w i (λ y. when h (eventOf y)) t
+    startFits-first f =
         record {
           row =
               λ y l.
@@ -252,8 +252,8 @@ module _ (p : Plan) (few : p .jobs ≤ mostJobs) (ts : List Rows) (all : length 
     back-low y x l (inl e) = omega arith
     back-low y x l (inr e) = omega arith
 
-    pub first-fitting : Allowed w i (λ y. when h (eventOf y)) t → Fitting p few ts all i low r 0 t
-    first-fitting a =
+    pub first-startFits : Allowed w i (λ y. when h (eventOf y)) t → StartFits p few ts all i low r 0 t
+    first-startFits a =
         record {
           row =
               λ y l f.

@@ -18,9 +18,9 @@ use Rattle.whole.specs.Shape.{any, _⊕_, _⊖_, le, eq}
 use Rattle.whole.specs.ShapeLaws.{shows}
 use Rattle.plan.specs.declared.Plan.{Plan}
 use Rattle.plan.specs.PlanLines.{noJob}
-use Rattle.strategy.specs.Histories.{Ran, History, noRan, ranFor, turn, since, seenFrom}
+use Rattle.strategy.specs.Histories.{Ran, History, noRan, ranFor, turn, onWindow, seenFrom}
 use Rattle.strategy.specs.Strategies.{ranIn, Forced}
-use Rattle.strategy.specs.Keeping.{Timely}
+use Rattle.strategy.specs.Keeping.{RunsInside}
 use Rattle.strategy.specs.HistoryLaws.{length-more}
 
 -- ---- lists
@@ -48,21 +48,21 @@ module _ (p : Plan) (j : ℕ) where
   unfolding seenFrom
   length-seen h = length-map (drop (j * p .jobs) h) _ ∙ length-drop (j * p .jobs) h
 
-  pub ran-seen : (h : History) (k : ℕ) → j * p .jobs + k < length h → ranIn (seenFrom p j h) k ≡ since (pos j *ℤ p .window) (ranIn h (j * p .jobs + k))
+  pub ran-seen : (h : History) (k : ℕ) → j * p .jobs + k < length h → ranIn (seenFrom p j h) k ≡ onWindow (pos j *ℤ p .window) (ranIn h (j * p .jobs + k))
   unfolding seenFrom
   ran-seen h k i =
       let n = length-drop (j * p .jobs) h in
-      map-at (since (pos j *ℤ p .window)) (drop (j * p .jobs) h) k (omega arith)
-      ∙ ap (since (pos j *ℤ p .window)) (getD-drop (j * p .jobs) h k noRan)
+      map-at (onWindow (pos j *ℤ p .window)) (drop (j * p .jobs) h) k (omega arith)
+      ∙ ap (onWindow (pos j *ℤ p .window)) (getD-drop (j * p .jobs) h k noRan)
 
-  pub seen-more : (h m : History) → j * p .jobs ≤ length h → seenFrom p j (h ++ m) ≡ seenFrom p j h ++ map (since (pos j *ℤ p .window)) m
+  pub seen-more : (h m : History) → j * p .jobs ≤ length h → seenFrom p j (h ++ m) ≡ seenFrom p j h ++ map (onWindow (pos j *ℤ p .window)) m
   unfolding seenFrom
   seen-more h m i =
-      ap (map (since (pos j *ℤ p .window))) (drop-append-le (j * p .jobs) h m i) ∙ map-join _ (drop (j * p .jobs) h) m
+      ap (map (onWindow (pos j *ℤ p .window))) (drop-append-le (j * p .jobs) h m i) ∙ map-join _ (drop (j * p .jobs) h) m
 
   pub seen-none : (h : History) → length h ≤ j * p .jobs → seenFrom p j h ≡ []
   unfolding seenFrom
-  seen-none h i = ap (map (since (pos j *ℤ p .window))) (drop-of-length-le h i)
+  seen-none h i = ap (map (onWindow (pos j *ℤ p .window))) (drop-of-length-le h i)
 
   since-later : (t e b : ℤ) → (t +ℤ e) -ℤ b ≡ (t -ℤ b) +ℤ e
   since-later t e b = omega (shows eq (any ⊕ any ⊖ any) (any ⊖ any ⊕ any), wholes)
@@ -76,8 +76,8 @@ module _ (p : Plan) (j : ℕ) where
   pub turn-seen : (k : ℕ) → turn p (j * p .jobs + k) ≡ turn p k
   turn-seen k = ap (λ i. getD (p .job) i noJob) (mul-add-mod-self-right j (p .jobs) k)
 
-  pub timely-seen : (h : History) → Timely p h → Timely p (seenFrom p j h)
-  timely-seen h old k i =
+  pub runsInside-seen : (h : History) → RunsInside p h → RunsInside p (seenFrom p j h)
+  runsInside-seen h old k i =
       let n = length-seen h in
       let low : j * p .jobs + k < length h = omega arith in
       let r = old (j * p .jobs + k) low in
@@ -131,7 +131,7 @@ since-next j x w =
     let c = split-mul (suc j) w in
     omega (shows eq (any ⊖ any ⊖ any) (any ⊖ any), wholes)
 
-ran-next : (j : ℕ) (r : Ran) (w : ℤ) → since (pos 1 *ℤ w) (since (pos j *ℤ w) r) ≡ since (pos (suc j) *ℤ w) r
+ran-next : (j : ℕ) (r : Ran) (w : ℤ) → onWindow (pos 1 *ℤ w) (onWindow (pos j *ℤ w) r) ≡ onWindow (pos (suc j) *ℤ w) r
 ran-next j r w = λ i. record { start = since-next j (r .start) w i; finish = since-next j (r .finish) w i }
 
 pub seen-next : (p : Plan) (j : ℕ) (h : History) → seenFrom p 1 (seenFrom p j h) ≡ seenFrom p (suc j) h
@@ -147,9 +147,9 @@ seen-next p j h =
     let low₃ : suc j * p .jobs + i < length h = omega arith in
     let same : j * p .jobs + (1 * p .jobs + i) ≡ suc j * p .jobs + i = omega arith in
     ran-seen p 1 (seenFrom p j h) i low₁
-    ∙ ap (since (pos 1 *ℤ p .window)) (ran-seen p j h (1 * p .jobs + i) low₂)
+    ∙ ap (onWindow (pos 1 *ℤ p .window)) (ran-seen p j h (1 * p .jobs + i) low₂)
     ∙ ran-next j (ranIn h (j * p .jobs + (1 * p .jobs + i))) (p .window)
-    ∙ ap (λ k. since (pos (suc j) *ℤ p .window) (ranIn h k)) same
+    ∙ ap (λ k. onWindow (pos (suc j) *ℤ p .window) (ranIn h k)) same
     ∙ sym (ran-seen p (suc j) h i low₃))
 
 -- the first window's clock is the run's
@@ -163,7 +163,7 @@ seen-all p h =
     (λ i l.
     let low : 0 * p .jobs + i < length h = omega arith in
     let same : 0 * p .jobs + i ≡ i = omega arith in
-    ran-seen p 0 h i low ∙ ap (λ k. since (pos 0 *ℤ p .window) (ranIn h k)) same ∙ ran-zero (ranIn h i) (p .window))
+    ran-seen p 0 h i low ∙ ap (λ k. onWindow (pos 0 *ℤ p .window) (ranIn h k)) same ∙ ran-zero (ranIn h i) (p .window))
   where
-    ran-zero : (r : Ran) (w : ℤ) → since (pos 0 *ℤ w) r ≡ r
+    ran-zero : (r : Ran) (w : ℤ) → onWindow (pos 0 *ℤ w) r ≡ r
     ran-zero r w = λ i. record { start = since-zero (r .start) w i; finish = since-zero (r .finish) w i }

@@ -25,43 +25,43 @@ use Rattle.bounds.specs.Judgements.{judged}
 use Rattle.bounds.specs.Tables.{Cell, off, upto, Rows, at, build, judgement, isContradiction, keptCell, contradiction, bounds, contradicts, keptRows, judgedSet}
 use Rattle.bounds.specs.BuildLaws.{at-build, at-build-past, anyBelow-some, anyBelow-none, eventOf-start, eventOf-finish, byNode}
 use Rattle.strategy.specs.Histories.{History, turn}
-use Rattle.strategy.specs.Keeping.{Holds, gap, Keeps, Timely, Extreme, InRange, Anchored, Sized}
+use Rattle.strategy.specs.Keeping.{Holds, gap, Keeps, RunsInside, LongOrShort, EventInRange, OriginBounded, NodesSeen}
 use Rattle.strategy.specs.JudgementLaws.{Fits, FitsAt, judged-left, judged-never}
 
 -- ---- the job at a place of two windows is the one whose turn it is
 
-job-at : (p : Plan) (k : ℕ) (b : Bool) → isThis p k ≡ b → k < p .jobs + p .jobs
+turn-at : (p : Plan) (k : ℕ) (b : Bool) → isThis p k ≡ b → k < p .jobs + p .jobs
     → getD (p .job) (cond b k (k - p .jobs)) noJob ≡ turn p k
-job-at p k true e h = let i : k < p .jobs = ltb-so e in rw (mod-eq-of-lt i)
+turn-at p k true e h = let i : k < p .jobs = ltb-so e in rw (mod-eq-of-lt i)
   where
     ltb-so : isThis p k ≡ true → k < p .jobs
     ltb-so t = borrow.Author.Tests.ltb-true k (p .jobs) t
-job-at p k false e h =
+turn-at p k false e h =
     let i : p .jobs ≤ k = borrow.Author.Tests.ltb-false k (p .jobs) e in
     let low : k - p .jobs < p .jobs = omega arith in
     ap (λ i. getD (p .job) i noJob) (sym (mod-eq-sub-mod i ∙ mod-eq-of-lt low))
 
 pub jobAt-turn : (p : Plan) (k : ℕ) → k < p .jobs + p .jobs → jobAt p k ≡ turn p k
 unfolding jobAt
-jobAt-turn p k h = job-at p k (isThis p k) refl h
+jobAt-turn p k h = turn-at p k (isThis p k) refl h
 
 -- ---- ranges
 
-module _ (p : Plan) (k : ℕ) (f : ℕ → ℕ → Cell) (u : History) (anchored : Anchored p k f) (kept : Keeps k f u) where
-  range-of : (y : ℕ) → y < k → 0 < y → InRange p u (eventOf y)
+module _ (p : Plan) (k : ℕ) (f : ℕ → ℕ → Cell) (u : History) (originBounded : OriginBounded p k f) (kept : Keeps k f u) where
+  range-of : (y : ℕ) → y < k → 0 < y → EventInRange p u (eventOf y)
   unfolding eventOf
   range-of y h i =
-      let a = anchored .above y h i (gap u 0 y) (kept 0 y (omega arith) h) in
-      let b = anchored .below y h i (gap u y 0) (kept y 0 h (omega arith)) in
+      let a = originBounded .above y h i (gap u 0 y) (kept 0 y (omega arith) h) in
+      let b = originBounded .below y h i (gap u y 0) (kept y 0 h (omega arith)) in
       record { early = omega (wholes, split-neg (earliest p (eventOf y))); late = omega wholes }
 
-  range-start : (j : ℕ) → startNode j < k → InRange p u (Start j)
-  range-start j h = subst (λ e. InRange p u e) (eventOf-start j) (range-of (startNode j) h (omega arith))
+  range-start : (j : ℕ) → startNode j < k → EventInRange p u (Start j)
+  range-start j h = subst (λ e. EventInRange p u e) (eventOf-start j) (range-of (startNode j) h (omega arith))
 
-  range-finish : (j : ℕ) → finishNode j < k → InRange p u (Finish j)
-  range-finish j h = subst (λ e. InRange p u e) (eventOf-finish j) (range-of (finishNode j) h (omega arith))
+  range-finish : (j : ℕ) → finishNode j < k → EventInRange p u (Finish j)
+  range-finish j h = subst (λ e. EventInRange p u e) (eventOf-finish j) (range-of (finishNode j) h (omega arith))
 
-  pub fits : Sized p k u → Timely p u → (y : ℕ) → y < k → Fits p u (eventOf y)
+  fits : NodesSeen p k u → RunsInside p u → (y : ℕ) → y < k → Fits p u (eventOf y)
   unfolding eventOf
   fits s t =
       byNode (λ y. y < k → Fits p u (eventOf y)) (λ h. tt)
@@ -72,7 +72,7 @@ module _ (p : Plan) (k : ℕ) (f : ℕ → ℕ → Cell) (u : History) (anchored
       subst (λ e. Fits p u e) (sym (eventOf-finish j))
       (range-finish j h, rw (jobAt-turn p j two) (t j low)))
 
-  pub fitsAt : (long : Bool) → Sized p k u → Extreme p long u → (y : ℕ) → y < k → FitsAt p long u (eventOf y)
+  fitsAt : (long : Bool) → NodesSeen p k u → LongOrShort p long u → (y : ℕ) → y < k → FitsAt p long u (eventOf y)
   unfolding eventOf
   fitsAt long s t =
       byNode (λ y. y < k → FitsAt p long u (eventOf y)) (λ h. tt)
@@ -94,10 +94,10 @@ set-never true t h = refl
 set-never false t h = clash (cc)
 
 module _ (p : Plan) (k : ℕ) (f : ℕ → ℕ → Cell) where
-  pub judgedSet-sound : (t : Rows) → judgedSet p k f ≡ bounds t → (y z : ℕ) → y < k → z < k
+  pub judgedSet-agrees : (t : Rows) → judgedSet p k f ≡ bounds t → (y z : ℕ) → y < k → z < k
       → isContradiction (judgement p y z (f y z)) ≡ false
   unfolding judgedSet contradicts
-  judgedSet-sound t h y z a b =
+  judgedSet-agrees t h y z a b =
       rw (at-build k f y z a b) at
       (anyBelow-none k _ (anyBelow-none k _ (set-bounds _ _ t h .0) y a) z b)
 
@@ -124,8 +124,8 @@ module _ (p : Plan) (k : ℕ) (f : ℕ → ℕ → Cell) where
 
 -- ---- times and a judged cell
 
-abbrev cellOf : Plan → ℕ → ℕ → Cell → Cell
-cellOf p y z c = keptCell (judgement p y z c) c
+abbrev keptOf : Plan → ℕ → ℕ → Cell → Cell
+keptOf p y z c = keptCell (judgement p y z c) c
 
 -- bounds to and from the origin are kept as they are
 origin-stays : (b : Bool) (w : ℤ) → isContradiction (cond b Contradiction Kept) ≡ false
@@ -153,12 +153,12 @@ not-origin =
     (λ k h e. let g = eventOf-start k in clash (cc))
     (λ k h e. let g = eventOf-finish k in clash (cc))
 
-cell-from-origin : (p : Plan) (y : ℕ) (c : Cell) → 0 < y → isContradiction (judgement p 0 y c) ≡ false → cellOf p 0 y c ≡ c
+cell-from-origin : (p : Plan) (y : ℕ) (c : Cell) → 0 < y → isContradiction (judgement p 0 y c) ≡ false → keptOf p 0 y c ≡ c
 unfolding judgement eventOf
 cell-from-origin p y off h s = refl
 cell-from-origin p y (upto w) h s = from-origin p (eventOf y) w (not-origin y h) s
 
-cell-to-origin : (p : Plan) (y : ℕ) (c : Cell) → 0 < y → isContradiction (judgement p y 0 c) ≡ false → cellOf p y 0 c ≡ c
+cell-to-origin : (p : Plan) (y : ℕ) (c : Cell) → 0 < y → isContradiction (judgement p y 0 c) ≡ false → keptOf p y 0 c ≡ c
 unfolding judgement eventOf
 cell-to-origin p y off h s = refl
 cell-to-origin p y (upto w) h s = to-origin p (eventOf y) w (not-origin y h) s
@@ -174,7 +174,7 @@ event-same p Origin w = same-off w (ltZ w (pos 0))
 event-same p (Start k) w = rw (eq-eqb k k refl) (same-off w (ltZ w (pos 0)))
 event-same p (Finish k) w = rw (eq-eqb k k refl) (same-off w (ltZ w (pos 0)))
 
-cell-same : (p : Plan) (y : ℕ) (c : Cell) → cellOf p y y c ≡ off
+cell-same : (p : Plan) (y : ℕ) (c : Cell) → keptOf p y y c ≡ off
 unfolding judgement
 cell-same p y off = refl
 cell-same p y (upto w) = event-same p (eventOf y) w
@@ -191,7 +191,7 @@ kept-back LeftOut w x s l h = l refl
 kept-back Kept w x s l h = h
 
 cell-back : (p : Plan) (u : History) (y z : ℕ) (c : Cell) → isContradiction (judgement p y z c) ≡ false
-    → Fits p u (eventOf y) → Fits p u (eventOf z) → Holds (cellOf p y z c) (gap u y z) → Holds c (gap u y z)
+    → Fits p u (eventOf y) → Fits p u (eventOf z) → Holds (keptOf p y z c) (gap u y z) → Holds c (gap u y z)
 unfolding judgement
 cell-back p u y z off s a b h = tt
 cell-back p u y z (upto w) s a b h =
@@ -210,21 +210,21 @@ cell-never p y z (upto w) s = judged-never p (eventOf y) (eventOf z) w (is-contr
 
 -- ---- times and a judged set
 
-module _ (p : Plan) (k : ℕ) (f : ℕ → ℕ → Cell) (anchored : Anchored p k f) where
-  pub judged-anchored : (t : Rows) → judgedSet p k f ≡ bounds t → Anchored p k (at t)
-  judged-anchored t h =
+module _ (p : Plan) (k : ℕ) (f : ℕ → ℕ → Cell) (originBounded : OriginBounded p k f) where
+  pub judged-originBounded : (t : Rows) → judgedSet p k f ≡ bounds t → OriginBounded p k (at t)
+  judged-originBounded t h =
       record {
         above =
             λ y a b x g.
-            anchored .above y a b x
+            originBounded .above y a b x
             (rw (judgedSet-at p k f t h 0 y (omega arith) a
-            ∙ cell-from-origin p y (f 0 y) b (judgedSet-sound p k f t h 0 y (omega arith) a)) at
+            ∙ cell-from-origin p y (f 0 y) b (judgedSet-agrees p k f t h 0 y (omega arith) a)) at
             g);
         below =
             λ y a b x g.
-            anchored .below y a b x
+            originBounded .below y a b x
             (rw (judgedSet-at p k f t h y 0 a (omega arith)
-            ∙ cell-to-origin p y (f y 0) b (judgedSet-sound p k f t h y 0 a (omega arith))) at
+            ∙ cell-to-origin p y (f y 0) b (judgedSet-agrees p k f t h y 0 a (omega arith))) at
             g);
       }
 
@@ -232,24 +232,24 @@ module _ (p : Plan) (k : ℕ) (f : ℕ → ℕ → Cell) (anchored : Anchored p 
   judged-keeps t h u kept y z a b =
       rw (judgedSet-at p k f t h y z a b) (cell-keeps (judgement p y z (f y z)) (f y z) (gap u y z) (kept y z a b))
 
-  pub judged-back : (t : Rows) → judgedSet p k f ≡ bounds t → (u : History) → Sized p k u → Timely p u
+  pub judged-back : (t : Rows) → judgedSet p k f ≡ bounds t → (u : History) → NodesSeen p k u → RunsInside p u
       → Keeps k (at t) u → Keeps k f u
   judged-back t h u s r kept y z a b =
-      let fit = fits p k (at t) u (judged-anchored t h) kept s r in
-      cell-back p u y z (f y z) (judgedSet-sound p k f t h y z a b) (fit y a) (fit z b)
+      let fit = fits p k (at t) u (judged-originBounded t h) kept s r in
+      cell-back p u y z (f y z) (judgedSet-agrees p k f t h y z a b) (fit y a) (fit z b)
       (rw (judgedSet-at p k f t h y z a b) at (kept y z a b))
 
-  pub judged-iff : (t : Rows) → judgedSet p k f ≡ bounds t → (u : History) → Sized p k u → Timely p u → Keeps k f u ↔ Keeps k (at t) u
+  pub judged-iff : (t : Rows) → judgedSet p k f ≡ bounds t → (u : History) → NodesSeen p k u → RunsInside p u → Keeps k f u ↔ Keeps k (at t) u
   judged-iff t h u s r = (judged-keeps t h u, judged-back t h u s r)
 
   pub judged-none : judgedSet p k f ≡ contradiction
-      → (long : Bool) × ((u : History) → Sized p k u → Extreme p long u → Keeps k f u → ⊥)
+      → (long : Bool) × ((u : History) → NodesSeen p k u → LongOrShort p long u → Keeps k f u → ⊥)
   judged-none h =
       let r = judgedSet-some p k f h in
       let n = cell-never p (r .0) (r .1) (f (r .0) (r .1)) (r .4) in (
         n .0,
         λ u s e kept.
-            let fit = fitsAt p k f u anchored kept (n .0) s e in
+            let fit = fitsAt p k f u originBounded kept (n .0) s e in
             n .1 u (fit (r .0) (r .2)) (fit (r .1) (r .3)) (kept (r .0) (r .1) (r .2) (r .3)),
       )
 

@@ -11,7 +11,6 @@ use borrow.Author.Tests.{lt-ltb, le-ltb}
 use Rattle.clock.specs.declared.RunTime.{RunTime}
 use Rattle.plan.specs.declared.Plan.{Plan}
 use Rattle.plan.specs.Limits.{mostJobs}
-use Rattle.bounds.specs.Tables.{at}
 use Rattle.calendars.specs.Calendars.{eventsAhead, mostEvents}
 use Rattle.runs.specs.declared.Phase.the-variants.{Waiting}
 use Rattle.runs.specs.declared.Phase.{Phase}
@@ -21,13 +20,12 @@ use Rattle.runs.specs.SeenLaws.{jobSeen-start, jobSeen-finish, jobSeen-other, j
 use Rattle.runs.specs.Steps.{closedSince}
 use Rattle.strategy.specs.Histories.{Ran, History}
 use Rattle.strategy.specs.Strategies.{ranIn}
-use Rattle.strategy.specs.CellLaws.{present}
 use Rattle.strategy.specs.EliminationLaws.{below-or-last}
 use Rattle.strategy.specs.HistoryLaws.{ran-old, ran-new}
-use Rattle.strategy.specs.RunLaws.{ShowsJob, ShowsPrevious, Shows}
+use Rattle.strategy.specs.RunLaws.{ShowsJob, ShowsPrevious, ShowsHistory}
 
-module _ (p : Plan) (r : Run) (h : History) (j i : ℕ) (sh : Shows p r h j i) (few : p .jobs ≤ mostJobs) (low : i < p .jobs) (size : length h ≡ j * p .jobs + i)
-    (since finish : RunTime) where
+module _ (p : Plan) (r : Run) (h : History) (j i : ℕ) (sh : ShowsHistory p r h j i) (few : p .jobs ≤ mostJobs) (low : i < p .jobs)
+    (size : length h ≡ j * p .jobs + i) (since finish : RunTime) where
   abbrev q : Ran
   q = record { start = since .0; finish = finish .0 }
 
@@ -85,7 +83,7 @@ module _ (p : Plan) (r : Run) (h : History) (j i : ℕ) (sh : Shows p r h j i) (
 
   -- the window goes on
   pub goes-on : suc i < p .jobs → let after = closedSince (p .jobs) r (suc j) (suc i) since finish in
-      (after .phase ≡ Waiting (suc j) (suc (suc i))) × Shows p after h′ j (suc i)
+      (after .phase ≡ Waiting (suc j) (suc (suc i))) × ShowsHistory p after h′ j (suc i)
   goes-on l =
       rw (lt-ltb (suc i) (p .jobs) l) (
         ap (Waiting (suc j)) (add-one (suc i)),
@@ -109,7 +107,7 @@ module _ (p : Plan) (r : Run) (h : History) (j i : ℕ) (sh : Shows p r h j i) (
 
   -- the next window begins
   pub next-begins : suc i ≡ p .jobs → let after = closedSince (p .jobs) r (suc j) (suc i) since finish in
-      (after .phase ≡ Waiting (suc (suc j)) 1) × Shows p after h′ (suc j) 0
+      (after .phase ≡ Waiting (suc (suc j)) 1) × ShowsHistory p after h′ (suc j) 0
   next-begins e =
       rw (le-ltb (suc i) (p .jobs) (omega arith)) (
         ap (λ j. Waiting j 1) (add-one (suc j)),

@@ -21,24 +21,24 @@ use Rattle.bounds.specs.Elimination.{withoutFinish, withoutStart, thenSet, with
 use Rattle.calendars.specs.Calendars.{thenTables, beforeStarts}
 use Rattle.strategy.specs.Histories.{History, ranFor, turn}
 use Rattle.strategy.specs.Strategies.{Forced}
-use Rattle.strategy.specs.Keeping.{Holds, when, gap, Keeps, Timely}
+use Rattle.strategy.specs.Keeping.{Holds, when, gap, Keeps, RunsInside}
 use Rattle.strategy.specs.EliminationLaws.{keeps-more, without-s, below-or-last}
-use Rattle.strategy.specs.HistoryLaws.{length-more, timely-more, turn-min-max, forced-map, forced-split}
+use Rattle.strategy.specs.HistoryLaws.{length-more, runsInside-more, turn-min-max, forced-map, forced-split}
 use Rattle.strategy.specs.PlaceLaws.{
   when-old,
   when-start,
-  Tidy,
-  finish-tidy,
+  WellFormed,
+  finish-wellFormed,
   thenSet-bounds,
   start-choice,
   start-choice-back,
   start-judged-back,
   place-keeps-at,
-  elim-tidy,
+  elim-wellFormed,
   elim-keeps,
   elim-back,
 }
-use Rattle.strategy.specs.AloneLaws.{Shifted, without-finish, without-start}
+use Rattle.strategy.specs.AloneLaws.{MovedCells, without-finish, without-start}
 
 -- the tables around the start at place k, of a table with rest places more
 pub record Stage (p : Plan) (t : Rows) (k rest : ℕ) : Type 0 where
@@ -58,25 +58,26 @@ pub record Allowed (v : Rows) (k : ℕ) (X : ℕ → ℤ) (x : ℤ) : Type 0 whe
   pub column : (y : ℕ) → y < startNode k → Holds (at v y (startNode k)) (x -ℤ X y)
 
 -- the bounds of the start to and from the origin are there
-pub before-tidy : (p : Plan) → Accepted p → (t : Rows) (k rest : ℕ) → suc k + rest ≤ p .jobs + p .jobs → Tidy p (nodes (suc k + rest)) t
-    → (stage : Stage p t k rest) → Tidy p (finishNode k) (stage .before)
-before-tidy p good t k rest two tidy stage =
-    finish-tidy p k (stage .after) (elim-tidy p good (suc k) rest t (stage .after) two tidy (stage .after-is)) (stage .before) (stage .before-is)
+pub before-wellFormed : (p : Plan) → Accepted p → (t : Rows) (k rest : ℕ) → suc k + rest ≤ p .jobs + p .jobs → WellFormed p (nodes (suc k + rest)) t
+    → (stage : Stage p t k rest) → WellFormed p (finishNode k) (stage .before)
+before-wellFormed p good t k rest two wellFormed stage =
+    finish-wellFormed p k (stage .after) (elim-wellFormed p good (suc k) rest t (stage .after) two wellFormed (stage .after-is)) (stage .before)
+    (stage .before-is)
 
-module _ (p : Plan) (good : Accepted p) (t : Rows) (k rest : ℕ) (two : suc k + rest ≤ p .jobs + p .jobs) (tidy : Tidy p (nodes (suc k + rest)) t)
-    (stage : Stage p t k rest) (u : History) (n : length u ≡ k) (old : Timely p u) where
+module _ (p : Plan) (good : Accepted p) (t : Rows) (k rest : ℕ) (two : suc k + rest ≤ p .jobs + p .jobs) (wellFormed : WellFormed p (nodes (suc k + rest)) t)
+    (stage : Stage p t k rest) (u : History) (n : length u ≡ k) (old : RunsInside p u) where
   -- the rest of the game
-  abbrev pub Rest : ℕ → History → Type 0
+  abbrev Rest : ℕ → History → Type 0
   Rest g v = Forced p (Keeps (nodes (suc k + rest)) (at t)) g v
 
-  after-tidy : Tidy p (nodes (suc k)) (stage .after)
-  after-tidy = elim-tidy p good (suc k) rest t (stage .after) two tidy (stage .after-is)
+  after-wellFormed : WellFormed p (nodes (suc k)) (stage .after)
+  after-wellFormed = elim-wellFormed p good (suc k) rest t (stage .after) two wellFormed (stage .after-is)
 
   rest-after : (v : History) → length v ≡ suc k → Rest rest v → Keeps (nodes (suc k)) (at (stage .after)) v
-  rest-after v m q = elim-keeps p good (suc k) rest t (stage .after) two tidy (stage .after-is) v m q
+  rest-after v m q = elim-keeps p good (suc k) rest t (stage .after) two wellFormed (stage .after-is) v m q
 
-  after-rest : (v : History) → length v ≡ suc k → Timely p v → Keeps (nodes (suc k)) (at (stage .after)) v → Rest rest v
-  after-rest v m o q = elim-back p good (suc k) rest t (stage .after) two tidy (stage .after-is) v m o q
+  after-rest : (v : History) → length v ≡ suc k → RunsInside p v → Keeps (nodes (suc k)) (at (stage .after)) v → Rest rest v
+  after-rest v m o q = elim-back p good (suc k) rest t (stage .after) two wellFormed (stage .after-is) v m o q
 
   size-more : (x e : ℤ) → length (ranFor u x e) ≡ suc k
   size-more x e = length-more u _ ∙ ap suc n
@@ -86,16 +87,16 @@ module _ (p : Plan) (good : Accepted p) (t : Rows) (k rest : ℕ) (two : suc k +
   below q y z a b =
       let chosen = forced-map p _ _ 1 u (λ v f r. rest-after v (f .size ∙ ap (λ n. n + 1) n ∙ add-one k) r)
       (forced-split p _ 1 rest u (subst (λ g. Rest g u) (let e : suc rest ≡ 1 + rest = omega arith in e) q)) in
-      let kept = place-keeps-at p good k (omega arith) (stage .after) after-tidy u n (stage .before) (stage .before-is) (stage .left)
+      let kept = place-keeps-at p good k (omega arith) (stage .after) after-wellFormed u n (stage .before) (stage .before-is) (stage .left)
       (stage .left-is) chosen in
       without-s k (stage .before) (λ n. pos 0) y z (gap u y z)
-      (start-judged-back p good k (omega arith) (stage .after) after-tidy u n (stage .before) (stage .before-is) (stage .left)
+      (start-judged-back p good k (omega arith) (stage .after) after-wellFormed u n (stage .before) (stage .before-is) (stage .left)
       (stage .left-is) old kept y z a b) .0
 
   allowed-kept : Keeps (startNode k) (at (stage .before)) u → (x e : ℤ) → Allowed (stage .before) k (λ y. when u (eventOf y)) x
       → Keeps (finishNode k) (at (stage .before)) (ranFor u x e)
   allowed-kept old-kept x e a y z ly lz =
-      let corner = finish-tidy p k (stage .after) after-tidy (stage .before) (stage .before-is) .diagonal (startNode k) (omega arith) in
+      let corner = finish-wellFormed p k (stage .after) after-wellFormed (stage .before) (stage .before-is) .diagonal (startNode k) (omega arith) in
       let s = when-start u (record { start = x; finish = x +ℤ e }) k n in
       let o : (y : ℕ) → y < startNode k → when (ranFor u x e) (eventOf y) ≡ when u (eventOf y) = λ y h. when-old u _ y (omega arith) in
       keeps-more (startNode k) (at (stage .before)) (λ y. when (ranFor u x e) (eventOf y))
@@ -118,15 +119,16 @@ module _ (p : Plan) (good : Accepted p) (t : Rows) (k rest : ℕ) (two : suc k +
       → (e : ℤ) → turn p (length u) .min ≤ℤ e → e ≤ℤ turn p (length u) .max → Rest rest (ranFor u x e)
   allowed-rest q x a e lo hi =
       let mm = turn-min-max p good (length u) in
-      after-rest (ranFor u x e) (size-more x e) (timely-more p u x e lo hi old)
-      (start-choice p good k (omega arith) (stage .after) after-tidy u n (stage .before) (stage .before-is) x (turn p (length u) .min) old (omega wholes) mm
+      after-rest (ranFor u x e) (size-more x e) (runsInside-more p u x e lo hi old)
+      (start-choice p good k (omega arith) (stage .after) after-wellFormed u n (stage .before) (stage .before-is) x (turn p (length u) .min) old
+      (omega wholes) mm
       (allowed-kept (below q) x (turn p (length u) .min) a) e lo hi)
 
   pub rest-allowed : (x : ℤ) → ((e : ℤ) → turn p (length u) .min ≤ℤ e → e ≤ℤ turn p (length u) .max → Rest rest (ranFor u x e))
       → Allowed (stage .before) k (λ y. when u (eventOf y)) x
   rest-allowed x f =
       kept-allowed x (turn p (length u) .min)
-      (start-choice-back p good k (omega arith) (stage .after) after-tidy u n (stage .before) (stage .before-is) x (turn p (length u) .min)
+      (start-choice-back p good k (omega arith) (stage .after) after-wellFormed u n (stage .before) (stage .before-is) x (turn p (length u) .min)
       (λ e lo hi. rest-after (ranFor u x e) (size-more x e) (f e lo hi)))
 
 -- ---- the stages of two windows and of one alone
@@ -136,7 +138,7 @@ pub record Stages (p : Plan) (A B : Rows) (count i : ℕ) : Type 0 where
   pub rest-is : suc i + rest ≡ count
   pub later : Stage p B (p .jobs + i) rest
   pub alone : Stage p A i rest
-  pub same : Shifted p (finishNode i) (at (alone .before)) (at (later .before))
+  pub same : MovedCells p (finishNode i) (at (alone .before)) (at (later .before))
   pub listed : getD (beforeStarts p count B) i [] ≡ later .before
 
 module _ (p : Plan) where
@@ -170,13 +172,13 @@ module _ (p : Plan) where
       ∙ add-one (length (beforeStarts p count (r .0)))
       ∙ ap suc (length-tables count (r .0) c (r .2))
 
-  module _ (count : ℕ) (A B V₂ B₂ c : Rows) (low : suc count ≤ p .jobs) (same : Shifted p (nodes (suc count)) (at A) (at B))
+  module _ (count : ℕ) (A B V₂ B₂ c : Rows) (low : suc count ≤ p .jobs) (same : MovedCells p (nodes (suc count)) (at A) (at B))
       (V-is : withoutFinish p (p .jobs + count) B ≡ bounds V₂) (B₂-is : withoutStart p (p .jobs + count) V₂ ≡ bounds B₂)
       (rest-is : eliminated p (p .jobs) count B₂ ≡ bounds c) where
-    Va : (V′ : Rows) × (withoutFinish p count A ≡ bounds V′) × Shifted p (finishNode count) (at V′) (at V₂)
+    Va : (V′ : Rows) × (withoutFinish p count A ≡ bounds V′) × MovedCells p (finishNode count) (at V′) (at V₂)
     Va = without-finish p count (omega arith) A B same V₂ V-is
 
-    Aa : (A₂ : Rows) × (withoutStart p count (Va .0) ≡ bounds A₂) × Shifted p (startNode count) (at A₂) (at B₂)
+    Aa : (A₂ : Rows) × (withoutStart p count (Va .0) ≡ bounds A₂) × MovedCells p (startNode count) (at A₂) (at B₂)
     unfolding Va
     Aa = without-start p count (omega arith) A B same V₂ V-is B₂ B₂-is
 
@@ -215,7 +217,7 @@ module _ (p : Plan) where
               ∙ s .listed;
         }
 
-  pub stages : (count : ℕ) (A B c : Rows) → count ≤ p .jobs → Shifted p (nodes count) (at A) (at B) → eliminated p (p .jobs) count B ≡ bounds c
+  pub stages : (count : ℕ) (A B c : Rows) → count ≤ p .jobs → MovedCells p (nodes count) (at A) (at B) → eliminated p (p .jobs) count B ≡ bounds c
       → (i : ℕ) → i < count → Stages p A B count i
   unfolding eliminated withoutPlace
   stages zero A B c low same e i h = absurd (omega arith)

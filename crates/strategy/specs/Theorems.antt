@@ -34,10 +34,10 @@ use Rattle.runs.specs.StepEffectLaws.{started-running, final-next, final-over}
 use Rattle.strategy.specs.Histories.{History, ranFor, turn, seenFrom}
 use Rattle.strategy.specs.Strategies.{Kept, Forced, Strategy, StrategyAfter, StrategyFor, StrategyForAll}
 use Rattle.strategy.specs.Reaching.{AtTurn, historyAfter, Reached, ReachedWith, StepEffect}
-use Rattle.strategy.specs.Keeping.{Keeps, Timely, Extreme, Anchored, Sized}
+use Rattle.strategy.specs.Keeping.{Keeps, RunsInside, LongOrShort, OriginBounded, NodesSeen}
 use Rattle.strategy.specs.SetLaws.{judged-iff, judged-none}
 use Rattle.strategy.specs.EliminationLaws.{KeepsAt, setAt, finish-iff, start-iff}
-use Rattle.strategy.specs.KeptLaws.{Punctual}
+use Rattle.strategy.specs.KeptLaws.{LeavesRoom}
 use Rattle.strategy.specs.RoundLaws.{C, strategy-kept, strategy-keeps, keeps-strategy}
 use Rattle.strategy.specs.VerdictLaws.{settled-is, settled-from-then, settled-strategy, settled-outcome, none-is, none-outcome}
 use Rattle.strategy.specs.GameLaws.{fewer-windows}
@@ -74,13 +74,13 @@ strategy-more p h g = refl
 -- ---- elimination
 
 -- Judgement. Times keep a judged set exactly if they keep the set before; range is no premise, since the set's bounds to and from the origin say it.
-pub judgement-law : (p : Plan) (k : ℕ) (f : ℕ → ℕ → Cell) → Anchored p k f → (t : Rows) → judgedSet p k f ≡ bounds t
-    → (u : History) → Sized p k u → Timely p u → Keeps k f u ↔ Keeps k (at t) u
+pub judgement-law : (p : Plan) (k : ℕ) (f : ℕ → ℕ → Cell) → OriginBounded p k f → (t : Rows) → judgedSet p k f ≡ bounds t
+    → (u : History) → NodesSeen p k u → RunsInside p u → Keeps k f u ↔ Keeps k (at t) u
 judgement-law p k f a t e u s old = judged-iff p k f a t e u s old
 
 -- A contradiction is kept by no times, if every job runs as long as it can, or if every job runs as short.
-pub contradiction-law : (p : Plan) (k : ℕ) (f : ℕ → ℕ → Cell) → Anchored p k f → judgedSet p k f ≡ contradiction
-    → (long : Bool) × ((u : History) → Sized p k u → Extreme p long u → Keeps k f u → ⊥)
+pub contradiction-law : (p : Plan) (k : ℕ) (f : ℕ → ℕ → Cell) → OriginBounded p k f → judgedSet p k f ≡ contradiction
+    → (long : Bool) × ((u : History) → NodesSeen p k u → LongOrShort p long u → Keeps k f u → ⊥)
 contradiction-law p k f a e = judged-none p k f a e
 
 -- 002's Lemma 1: times keep the cells without a finish exactly if with every running time after the start they keep the table.
@@ -99,7 +99,7 @@ module _ (p : Plan) (good : Accepted p) where
 
   -- After j + 1 whole windows there is a strategy for m windows more exactly if the history keeps the plan's bounds and its last window keeps C(m).
   -- Every job so far ran between min and max, and every start left room for the longest run: as in any game that is won.
-  pub round-theorem : (m : ℕ) (c : Rows) → C p m ≡ bounds c → (j : ℕ) (h : History) → length h ≡ suc j * p .jobs → Timely p h → Punctual p h
+  pub round-theorem : (m : ℕ) (c : Rows) → C p m ≡ bounds c → (j : ℕ) (h : History) → length h ≡ suc j * p .jobs → RunsInside p h → LeavesRoom p h
       → Strategy p h (m * p .jobs) ↔ (Kept p h × Keeps (nodes (p .jobs)) (at c) (seenFrom p j h))
   round-theorem m c e j h n old room = (
     λ s. (strategy-kept p good (m * p .jobs) h s, strategy-keeps p good m c e j h n old room s),

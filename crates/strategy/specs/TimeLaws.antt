@@ -1,14 +1,13 @@
 -- A start after which there is a strategy lies between the release and the deadline of its job, on its window's clock (`start-released`, `start-inTime`); so
 -- in a window up to `last` it is in the range of T (`start-time`).
-use Prim.Native.Nat.{ℕ, suc, _+_, _*_, _-_, _%_, _≤_, _<_}
+use Prim.Native.Nat.{ℕ, suc, _+_, _*_, _-_, _≤_, _<_}
 use mathlib.Core.Path.{_≡_, refl, subst, ap, _∙_}
 use mathlib.Core.Bool.{Bool, true, false, _&&_}
 use mathlib.Core.List.{[], _∷_, _++_}
-use native.Mathlib.Nat.{mod-lt}
 use native.Mathlib.Omega.{arith}
 use lib.IntN.{ℤ, pos, negsuc, _+ℤ_, _-ℤ_, _*ℤ_}
 use lib.Signed.{_≤ℤ_, leZ}
-use lib.ListN.{length, getD}
+use lib.ListN.{length}
 use native.Mathlib.Nat.{mul-zero}
 use Rattle.whole.specs.Split.{Within, dn}
 use Rattle.whole.specs.SplitLaws.{split-mul}
@@ -18,11 +17,11 @@ use Rattle.whole.specs.Shape.{any, _⊕_, _⊖_, le}
 use Rattle.whole.specs.ShapeLaws.{reads}
 use Rattle.plan.specs.declared.Plan.{Plan}
 use Rattle.plan.specs.Limits.{latestDeadline}
-use Rattle.plan.specs.Accepted.{JobAccepted, Accepted}
+use Rattle.plan.specs.Accepted.{Accepted}
 use Rattle.text.specs.Numbers.{within}
 use Rattle.runs.specs.ValueLimits.{lastTime}
-use Rattle.strategy.specs.Histories.{Ran, History, ranFor, turn, since, seenFrom}
-use Rattle.strategy.specs.Strategies.{ranIn, KeptIn, Kept, Strategy, StrategyAfter}
+use Rattle.strategy.specs.Histories.{Ran, History, ranFor, turn, onWindow, seenFrom}
+use Rattle.strategy.specs.Strategies.{ranIn, KeptIn, StrategyAfter}
 use Rattle.strategy.specs.HistoryLaws.{length-more, ran-new, turn-min-max}
 use Rattle.strategy.specs.SeenLaws.{length-seen, ran-seen}
 use Rattle.strategy.specs.AcceptedLaws.{turn-accepted}
@@ -43,15 +42,15 @@ module _ (p : Plan) (good : Accepted p) (h : History) (j i g : ℕ) (size : leng
   there : i < length (seenFrom p j (h ++ (ran ∷ [])))
   there = omega (arith, length-seen p j (h ++ (ran ∷ [])), length-more h ran)
 
-  ran-is : ranIn (seenFrom p j (h ++ (ran ∷ []))) i ≡ since (pos j *ℤ p .window) ran
+  ran-is : ranIn (seenFrom p j (h ++ (ran ∷ []))) i ≡ onWindow (pos j *ℤ p .window) ran
   ran-is =
       ran-seen p j (h ++ (ran ∷ [])) i (omega (arith, length-more h ran))
-      ∙ ap (since (pos j *ℤ p .window)) (ran-new h ran (j * p .jobs + i) size)
+      ∙ ap (onWindow (pos j *ℤ p .window)) (ran-new h ran (j * p .jobs + i) size)
 
-  pub start-released : turn p i .release ≤ℤ (t -ℤ pos j *ℤ p .window)
+  start-released : turn p i .release ≤ℤ (t -ℤ pos j *ℤ p .window)
   start-released = subst (λ r. turn p i .release ≤ℤ r .start) ran-is (kept .released i job there)
 
-  pub start-inTime : ((t +ℤ shortest) -ℤ pos j *ℤ p .window) ≤ℤ turn p i .deadline
+  start-inTime : ((t +ℤ shortest) -ℤ pos j *ℤ p .window) ≤ℤ turn p i .deadline
   start-inTime = subst (λ r. r .finish ≤ℤ turn p i .deadline) ran-is (kept .inTime i job there)
 
 in-range : (t : ℤ) → pos 0 ≤ℤ t → t ≤ℤ lastTime → within (pos 0) lastTime t ≡ true

@@ -55,7 +55,7 @@ module _ (p : Plan) (good : Accepted p) where
   no-windows = subst (λ g. Strategy p [] g) (sym (zero-mul (p .jobs))) (nothing-kept p good)
 
   -- where there is a C(m), there is a strategy for m windows and fewer
-  pub strategies-before : (m : ℕ) (c : Rows) → C p m ≡ bounds c → (k : ℕ) → k ≤ m → StrategyFor p k
+  strategies-before : (m : ℕ) (c : Rows) → C p m ≡ bounds c → (k : ℕ) → k ≤ m → StrategyFor p k
   strategies-before m c e zero h = no-windows
   strategies-before m c e (suc k) h =
       let b = C-earlier m (suc k) c e h in

@@ -24,22 +24,22 @@ use Rattle.plan.specs.declared.Plan.{Plan}
 use Rattle.plan.specs.EventNames.{isNext}
 use Rattle.plan.specs.PlanWritten.{boundsOf}
 use Rattle.plan.specs.Accepted.{Accepted}
+use Rattle.plan.specs.ListLaws.{All}
 use Rattle.bounds.specs.declared.Event.the-variants.{Start, Finish}
 use Rattle.bounds.specs.Events.{jobAt, shift, earliest, latest, nodeOf, nodes}
 use Rattle.bounds.specs.BuildLaws.{either-true, neither-true}
 use Rattle.rounds.specs.Given.{placeOf, eventAt, meant, hasNext, inOrder, ownBounds, betweenBounds}
 use Rattle.strategy.specs.Histories.{History, turn}
 use Rattle.strategy.specs.Strategies.{ranIn, placeIn, kindIn, boundIn, GivenKept, KeptIn}
-use Rattle.strategy.specs.Keeping.{when, RunsWithin, Timely}
+use Rattle.strategy.specs.Keeping.{when, RunsWithin, RunsInside}
 use Rattle.strategy.specs.SetLaws.{jobAt-turn}
 use Rattle.strategy.specs.EliminationLaws.{below-or-last}
 use Rattle.strategy.specs.GivenLaws.{
   places-listed,
   listed-accepted,
-  All,
   BetweenKept,
   Below,
-  Ranged,
+  RangeBounds,
   OwnAll,
   own-all,
   all-own,
@@ -51,7 +51,7 @@ use Rattle.strategy.specs.GivenLaws.{
 -- the plan's bounds that u can have broken, and each start of its first window leaves room for the longest run
 pub record Held (p : Plan) (u : History) : Type 0 where
   pub kept : KeptIn p u
-  pub punctual : (i : ℕ) → i < p .jobs → i < length u → (ranIn u i .start +ℤ turn p i .max) ≤ℤ turn p i .deadline
+  pub leavesRoom : (i : ℕ) → i < p .jobs → i < length u → (ranIn u i .start +ℤ turn p i .max) ≤ℤ turn p i .deadline
 
 -- ---- the places of named events
 
@@ -144,7 +144,7 @@ module _ (p : Plan) (u : History) (i : ℕ) (low : i < p .jobs) where
   job-this = jobAt-turn p i (omega arith)
 
   ranged-this : turn p i .release ≤ℤ ranIn u i .start → ranIn u i .finish ≤ℤ turn p i .deadline
-      → (ranIn u i .start +ℤ turn p i .max) ≤ℤ turn p i .deadline → RunsWithin (turn p i) (ranIn u i) → Ranged (BetweenKept u) p i
+      → (ranIn u i .start +ℤ turn p i .max) ≤ℤ turn p i .deadline → RunsWithin (turn p i) (ranIn u i) → RangeBounds (BetweenKept u) p i
   unfolding earliest latest
   ranged-this a b c r =
       let m = r .least in
@@ -157,17 +157,17 @@ module _ (p : Plan) (u : History) (i : ℕ) (low : i < p .jobs) where
             (finish-down (ranIn u i .start) (ranIn u i .finish) (turn p i .release) (turn p i .min) a m);
       }
 
-  range-release : Ranged (BetweenKept u) p i → turn p i .release ≤ℤ ranIn u i .start
+  range-release : RangeBounds (BetweenKept u) p i → turn p i .release ≤ℤ ranIn u i .start
   unfolding earliest
   range-release r = start-down-back _ _ (rw (this-shift p i low, job-this) at (r .startDown))
 
-  range-deadline : Ranged (BetweenKept u) p i → ranIn u i .finish ≤ℤ turn p i .deadline
+  range-deadline : RangeBounds (BetweenKept u) p i → ranIn u i .finish ≤ℤ turn p i .deadline
   unfolding latest
   range-deadline r = let h = (rw (this-shift p i low, job-this) at (r .finishUp)) in omega wholes
 
-  range-punctual : Ranged (BetweenKept u) p i → (ranIn u i .start +ℤ turn p i .max) ≤ℤ turn p i .deadline
+  range-leavesRoom : RangeBounds (BetweenKept u) p i → (ranIn u i .start +ℤ turn p i .max) ≤ℤ turn p i .deadline
   unfolding latest
-  range-punctual r = start-up-back (ranIn u i .start) (turn p i .max) (turn p i .deadline) (rw (this-shift p i low, job-this) at (r .startUp))
+  range-leavesRoom r = start-up-back (ranIn u i .start) (turn p i .max) (turn p i .deadline) (rw (this-shift p i low, job-this) at (r .startUp))
 
 -- ---- both ways
 
@@ -186,13 +186,13 @@ module _ (p : Plan) (good : Accepted p) (u : History) where
   of-given d i j h =
       rw (when-named p u (d .a .kind) (placeIn p (d .a)), when-named p u (d .b .kind) (placeIn p (d .b))) (h i j)
 
-  pub held-own : Held p u → Timely p u → p .jobs ≤ length u → All (BetweenKept u) (ownBounds p)
+  pub held-own : Held p u → RunsInside p u → p .jobs ≤ length u → All (BetweenKept u) (ownBounds p)
   held-own h old seen =
       own-all (BetweenKept u) p
       (record {
         ranged =
             λ i a.
-            ranged-this p u i a (h .kept .released i a (omega arith)) (h .kept .inTime i a (omega arith)) (h .punctual i a (omega arith))
+            ranged-this p u i a (h .kept .released i a (omega arith)) (h .kept .inTime i a (omega arith)) (h .leavesRoom i a (omega arith))
             (old i (omega arith));
         ordered = λ i a. of-order i (h .kept .ordered i (omega arith) (omega arith));
         given =
@@ -255,5 +255,5 @@ module _ (p : Plan) (good : Accepted p) (u : History) where
               ordered = λ i h s. ordered-at o a i s (last-or-not i h);
               given = places-listed p good (GivenKept p u) .1 (λ d m. given-at o a d m (hasNext d) refl);
             };
-        punctual = λ i h s. range-punctual p u i h (o .ranged i h);
+        leavesRoom = λ i h s. range-leavesRoom p u i h (o .ranged i h);
       }

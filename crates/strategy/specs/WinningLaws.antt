@@ -20,13 +20,24 @@ use Rattle.runs.specs.declared.Offer.{Offer}
 use Rattle.runs.specs.Offers.{offerOf}
 use Rattle.runs.specs.Steps.{OnOffer}
 use Rattle.strategy.specs.Histories.{History}
-use Rattle.strategy.specs.CellLaws.{present}
+use Rattle.strategy.specs.CellLaws.{bounded-cell}
 use Rattle.strategy.specs.VerdictLaws.{IsSettled}
-use Rattle.strategy.specs.PlaceLaws.{Tidy}
-use Rattle.strategy.specs.StageLaws.{Stages, before-tidy, length-tables}
-use Rattle.strategy.specs.OfferLaws.{Fitting, offer-fitting, fitting-offer}
-use Rattle.strategy.specs.GameLaws.{Settling, Well, Winning, tables, some-winning, AllowedAt, winning-allowed, allowed-winning, later-tidy, later-fits}
-use Rattle.strategy.specs.RunLaws.{Shows, later-fitting, fitting-later, first-fitting, fitting-first}
+use Rattle.strategy.specs.PlaceLaws.{WellFormed}
+use Rattle.strategy.specs.StageLaws.{Stages, before-wellFormed, length-tables}
+use Rattle.strategy.specs.OfferLaws.{StartFits, offer-startFits, startFits-offer}
+use Rattle.strategy.specs.GameLaws.{
+  Settling,
+  Winnable,
+  Winning,
+  tables,
+  some-winning,
+  AllowedAt,
+  winning-allowed,
+  allowed-winning,
+  later-wellFormed,
+  later-fits,
+}
+use Rattle.strategy.specs.RunLaws.{ShowsHistory, later-startFits, startFits-later, first-startFits, startFits-first}
 
 module _ (p : Plan) (good : Accepted p) (m : ℕ) (c : Rows) (s : IsSettled p good m c) (f : Settling p good m c s) where
   abbrev ts : List Rows
@@ -43,48 +54,49 @@ module _ (p : Plan) (good : Accepted p) (m : ℕ) (c : Rows) (s : IsSettled p go
 
   -- ---- the offer
 
-  module _ (r : Run) (h : History) (j i g : ℕ) (w : Well p good m c s f h j i (suc g)) (sh : Shows p r h j i) where
+  module _ (r : Run) (h : History) (j i g : ℕ) (w : Winnable p good m c s f h j i (suc g)) (sh : ShowsHistory p r h j i) where
     low : i < p .jobs
     low = let a = w .ig in omega arith
 
     abbrev st : Stages p c (f .both) (p .jobs) i
     st = tables p good m c s f i low
 
-    before : Tidy p (finishNode (p .jobs + i)) (getD ts i [])
+    before : WellFormed p (finishNode (p .jobs + i)) (getD ts i [])
     before =
-        subst (Tidy p (finishNode (p .jobs + i))) (sym (st .listed))
-        (before-tidy p good (f .both) (p .jobs + i) (st .rest) (later-fits p good m c s f h i g low) (later-tidy p good m c s f h i g low) (st .later))
+        subst (WellFormed p (finishNode (p .jobs + i))) (sym (st .listed))
+        (before-wellFormed p good (f .both) (p .jobs + i) (st .rest) (later-fits p good m c s f h i g low)
+        (later-wellFormed p good m c s f h i g low) (st .later))
 
     lo : (x : ℤ) × (at (getD ts i []) (startNode (p .jobs + i)) 0 ≡ upto x)
-    lo = present _ _ (before .anchored .below (startNode (p .jobs + i)) (omega arith) (omega arith))
+    lo = bounded-cell _ _ (before .originBounded .below (startNode (p .jobs + i)) (omega arith) (omega arith))
 
     hi : (x : ℤ) × (at (getD ts i []) 0 (startNode (p .jobs + i)) ≡ upto x)
-    hi = present _ _ (before .anchored .above (startNode (p .jobs + i)) (omega arith) (omega arith))
+    hi = bounded-cell _ _ (before .originBounded .above (startNode (p .jobs + i)) (omega arith) (omega arith))
 
   module _ (r : Run) (h : History) (i g : ℕ) where
-    fits-allowed : (j : ℕ) (w : Well p good m c s f h j i (suc g)) (sh : Shows p r h j i) (t : ℤ)
-        → Fitting p (good .jobs-most) ts all-tables i (low r h j i g w sh) r j t → AllowedAt p good m c s f j i (low r h j i g w sh) h t
+    fits-allowed : (j : ℕ) (w : Winnable p good m c s f h j i (suc g)) (sh : ShowsHistory p r h j i) (t : ℤ)
+        → StartFits p (good .jobs-most) ts all-tables i (low r h j i g w sh) r j t → AllowedAt p good m c s f j i (low r h j i g w sh) h t
     fits-allowed zero w sh t a =
         let l = low r h zero i g w sh in
         let st = tables p good m c s f i l in
-        fitting-first p (good .jobs-most) ts all-tables i l r h t sh (st .later .before) (st .alone .before) (st .listed) (st .same) a
+        startFits-first p (good .jobs-most) ts all-tables i l r h t sh (st .later .before) (st .alone .before) (st .listed) (st .same) a
     fits-allowed (suc j) w sh t a =
         let l = low r h (suc j) i g w sh in
         let st = tables p good m c s f i l in
-        fitting-later p (good .jobs-most) ts all-tables i l r h t j sh (w .size) (st .later .before) (st .listed) a
+        startFits-later p (good .jobs-most) ts all-tables i l r h t j sh (w .size) (st .later .before) (st .listed) a
 
-    allowed-fits : (j : ℕ) (w : Well p good m c s f h j i (suc g)) (sh : Shows p r h j i) (t : ℤ)
-        → AllowedAt p good m c s f j i (low r h j i g w sh) h t → Fitting p (good .jobs-most) ts all-tables i (low r h j i g w sh) r j t
+    allowed-fits : (j : ℕ) (w : Winnable p good m c s f h j i (suc g)) (sh : ShowsHistory p r h j i) (t : ℤ)
+        → AllowedAt p good m c s f j i (low r h j i g w sh) h t → StartFits p (good .jobs-most) ts all-tables i (low r h j i g w sh) r j t
     allowed-fits zero w sh t a =
         let l = low r h zero i g w sh in
         let st = tables p good m c s f i l in
-        first-fitting p (good .jobs-most) ts all-tables i l r h t sh (st .later .before) (st .alone .before) (st .listed) (st .same) a
+        first-startFits p (good .jobs-most) ts all-tables i l r h t sh (st .later .before) (st .alone .before) (st .listed) (st .same) a
     allowed-fits (suc j) w sh t a =
         let l = low r h (suc j) i g w sh in
         let st = tables p good m c s f i l in
-        later-fitting p (good .jobs-most) ts all-tables i l r h t j sh (w .size) (st .later .before) (st .listed) a
+        later-startFits p (good .jobs-most) ts all-tables i l r h t j sh (w .size) (st .later .before) (st .listed) a
 
-    module _ (j : ℕ) (w : Well p good m c s f h j i (suc g)) (sh : Shows p r h j i) where
+    module _ (j : ℕ) (w : Winnable p good m c s f h j i (suc g)) (sh : ShowsHistory p r h j i) where
       abbrev pub offer : Offer
       offer = offerOf p (calendar p c) r (suc j) (suc i)
 
@@ -96,14 +108,16 @@ module _ (p : Plan) (good : Accepted p) (m : ℕ) (c : Rows) (s : IsSettled p go
           let l = low r h j i g w sh in
           allowed-winning p good m c s f h i g l j w t
           (fits-allowed j w sh t
-          (offer-fitting p (good .jobs-most) ts all-tables i l r j t (lo r h j i g w sh .0) (lo r h j i g w sh .1) (hi r h j i g w sh .0) (hi r h j i g w sh .1)
+          (offer-startFits p (good .jobs-most) ts all-tables i l r j t (lo r h j i g w sh .0) (lo r h j i g w sh .1) (hi r h j i g w sh .0)
+          (hi r h j i g w sh .1)
           (subst (λ o. OnOffer o t) offer-is o)))
 
       pub winning-offer : (t : ℤ) → Winning p good m c s f h j g t → OnOffer offer t
       winning-offer t q =
           let l = low r h j i g w sh in
           subst (λ o. OnOffer o t) (sym offer-is)
-          (fitting-offer p (good .jobs-most) ts all-tables i l r j t (lo r h j i g w sh .0) (lo r h j i g w sh .1) (hi r h j i g w sh .0) (hi r h j i g w sh .1)
+          (startFits-offer p (good .jobs-most) ts all-tables i l r j t (lo r h j i g w sh .0) (lo r h j i g w sh .1) (hi r h j i g w sh .0)
+          (hi r h j i g w sh .1)
           (allowed-fits j w sh t (winning-allowed p good m c s f h i g l j w t q)))
 
       pub offer-some : offer .from .0 ≤ℤ offer .to .0
