@@ -201,11 +201,14 @@ left-most p y z c d a never j m =
     let e : judgement p y z c ≡ judged p (eventOf y) (eventOf z) w = ap (judgement p y z) (m .held) in
     subst (λ d. AtMost d a) (sym (j .left)) (kept-most (judgement p y z c) c a (e ∙ never w (ap isContradiction (sym e) ∙ j .sound)) m)
 
-from-origin : (p : Plan) (y : ℕ) → 0 < y → (w : ℤ) → isContradiction (judged p (eventOf 0) (eventOf y) w) ≡ false → judged p (eventOf 0) (eventOf y) w ≡ Kept
+-- a bound from the origin or to it is kept, where it is no contradiction
+pub from-origin : (p : Plan) (y : ℕ) → 0 < y → (w : ℤ) → isContradiction (judged p (eventOf 0) (eventOf y) w) ≡ false
+    → judged p (eventOf 0) (eventOf y) w ≡ Kept
 unfolding eventOf
 from-origin p y h w e = judged-from-origin p (eventOf y) w (not-origin y h) e
 
-to-origin : (p : Plan) (y : ℕ) → 0 < y → (w : ℤ) → isContradiction (judged p (eventOf y) (eventOf 0) w) ≡ false → judged p (eventOf y) (eventOf 0) w ≡ Kept
+pub to-origin : (p : Plan) (y : ℕ) → 0 < y → (w : ℤ) → isContradiction (judged p (eventOf y) (eventOf 0) w) ≡ false
+    → judged p (eventOf y) (eventOf 0) w ≡ Kept
 unfolding eventOf
 to-origin p y h w e = judged-to-origin p (eventOf y) w (not-origin y h) e
 

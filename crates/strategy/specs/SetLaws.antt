@@ -20,10 +20,11 @@ use Rattle.bounds.specs.declared.Event.{Event}
 use Rattle.bounds.specs.declared.Event.the-variants.{Origin, Start, Finish}
 use Rattle.bounds.specs.declared.Judgement.{Judgement}
 use Rattle.bounds.specs.declared.Judgement.the-variants.{Contradiction, LeftOut, Kept}
-use Rattle.bounds.specs.Events.{isThis, jobAt, earliest, latest, eventOf, startNode, finishNode}
+use Rattle.bounds.specs.Events.{isThis, jobAt, earliest, eventOf, startNode, finishNode}
 use Rattle.bounds.specs.Judgements.{judged}
 use Rattle.bounds.specs.Tables.{Cell, off, upto, Rows, at, build, judgement, isContradiction, keptCell, contradiction, bounds, contradicts, keptRows, judgedSet}
 use Rattle.bounds.specs.BuildLaws.{at-build, at-build-past, anyBelow-some, anyBelow-none, eventOf-start, eventOf-finish, byNode}
+use Rattle.bounds.specs.FitLaws.{from-origin, to-origin}
 use Rattle.strategy.specs.Histories.{History, turn}
 use Rattle.strategy.specs.Keeping.{Holds, gap, Keeps, RunsInside, LongOrShort, EventInRange, OriginBounded, NodesSeen}
 use Rattle.strategy.specs.JudgementLaws.{Fits, FitsAt, judged-left, judged-never}
@@ -128,40 +129,15 @@ abbrev keptOf : Plan → ℕ → ℕ → Cell → Cell
 keptOf p y z c = keptCell (judgement p y z c) c
 
 -- bounds to and from the origin are kept as they are
-origin-stays : (b : Bool) (w : ℤ) → isContradiction (cond b Contradiction Kept) ≡ false
-    → keptCell (cond b Contradiction Kept) (upto w) ≡ upto w
-origin-stays true w h = clash (cc)
-origin-stays false w h = refl
-
-from-origin : (p : Plan) (e : Event) (w : ℤ) → (e ≡ Origin → ⊥) → isContradiction (judged p Origin e w) ≡ false
-    → keptCell (judged p Origin e w) (upto w) ≡ upto w
-unfolding judged
-from-origin p Origin w n h = absurd (n refl)
-from-origin p (Start k) w n h = origin-stays (ltZ w (earliest p (Start k) -ℤ latest p Origin)) w h
-from-origin p (Finish k) w n h = origin-stays (ltZ w (earliest p (Finish k) -ℤ latest p Origin)) w h
-
-to-origin : (p : Plan) (e : Event) (w : ℤ) → (e ≡ Origin → ⊥) → isContradiction (judged p e Origin w) ≡ false
-    → keptCell (judged p e Origin w) (upto w) ≡ upto w
-unfolding judged
-to-origin p Origin w n h = absurd (n refl)
-to-origin p (Start k) w n h = origin-stays (ltZ w (earliest p Origin -ℤ latest p (Start k))) w h
-to-origin p (Finish k) w n h = origin-stays (ltZ w (earliest p Origin -ℤ latest p (Finish k))) w h
-
-not-origin : (y : ℕ) → 0 < y → eventOf y ≡ Origin → ⊥
-not-origin =
-    byNode (λ y. 0 < y → eventOf y ≡ Origin → ⊥) (λ h. absurd (omega arith))
-    (λ k h e. let g = eventOf-start k in clash (cc))
-    (λ k h e. let g = eventOf-finish k in clash (cc))
-
 cell-from-origin : (p : Plan) (y : ℕ) (c : Cell) → 0 < y → isContradiction (judgement p 0 y c) ≡ false → keptOf p 0 y c ≡ c
-unfolding judgement eventOf
+unfolding judgement
 cell-from-origin p y off h s = refl
-cell-from-origin p y (upto w) h s = from-origin p (eventOf y) w (not-origin y h) s
+cell-from-origin p y (upto w) h s = ap (λ j. keptCell j (upto w)) (from-origin p y h w s)
 
 cell-to-origin : (p : Plan) (y : ℕ) (c : Cell) → 0 < y → isContradiction (judgement p y 0 c) ≡ false → keptOf p y 0 c ≡ c
-unfolding judgement eventOf
+unfolding judgement
 cell-to-origin p y off h s = refl
-cell-to-origin p y (upto w) h s = to-origin p (eventOf y) w (not-origin y h) s
+cell-to-origin p y (upto w) h s = ap (λ j. keptCell j (upto w)) (to-origin p y h w s)
 
 -- a bound from an event to itself is never kept
 same-off : (w : ℤ) (b : Bool) → keptCell (cond b Contradiction LeftOut) (upto w) ≡ off
