@@ -89,6 +89,24 @@ numbers =
       input = "window=10\nrounds=100\nlast=1000\njobs=10\nmin=2\nmax=4\nrelease=0\ndeadline=10\nbounds=2\nbound=ns1,ts1,12\nbound=ts1,ns1,-8\n";
       output = "refused=2,4\n";
     }
+    ∷  -- each number up to `deadline=` at its limit, nine jobs among them: no fault before the second job's lines, which are missing
+    record {
+      program = Calendar;
+      input = "window=86400000\nrounds=1000\nlast=1000000000\njobs=9\nmin=86400000\nmax=86400000\nrelease=172800000\ndeadline=172800000\n";
+      output = "refused=1,9\n";
+    }
+    ∷  -- 64 bounds and c at its greatest: no fault before the second bound line, which is missing
+    record {
+      program = Calendar;
+      input = "window=10\nrounds=100\nlast=1000\njobs=1\nmin=2\nmax=4\nrelease=0\ndeadline=10\nbounds=64\nbound=ns1,ts1,1000000000\n";
+      output = "refused=1,11\n";
+    }
+    ∷  -- 65 bounds
+    record {
+      program = Calendar;
+      input = "window=10\nrounds=100\nlast=1000\njobs=1\nmin=2\nmax=4\nrelease=0\ndeadline=10\nbounds=65\nbound=ns1,ts1,1000000000\n";
+      output = "refused=2,9\n";
+    }
     ∷  -- one past the limit of c
     record {
       program = Calendar;
