@@ -1,4 +1,4 @@
--- What a local that holds a plan tells of all its numbers: the arrays have their sizes, and each number fits its type (`plan-fits`).
+-- What is known of all numbers of a plan that a local holds: the arrays have their sizes, and each number fits its type (`plan-fits`).
 use mathlib.Core.Path.{sym, _∙_}
 use mathlib.Core.List.{List, [], _∷_, map}
 use Prim.Native.Nat.{_<_}
@@ -20,7 +20,7 @@ use Rattle.plan.proofs.Job as job
 use Rattle.plan.proofs.Bound as bound
 use Rattle.plan.proofs.Plan as plan
 
--- what is told of each element of an array
+-- what is known of each element of an array
 each-told : (R : RattleType) {A : Type 0} (to : A → R .Denot) (P : A → Type 0) → ((x : A) (u : Val) → shadow (R .own (to x) (u ∷ [])) → P x)
     → (xs : List A) (us : List Val) → shadow (each (R .Denot) (R .own) (map to xs) us) → All P xs
 each-told R to P f [] [] h = tt

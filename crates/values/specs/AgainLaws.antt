@@ -17,16 +17,16 @@ use Rattle.values.specs.JudgedLength.{PlanFits, planText-short}
 use Rattle.values.specs.JudgedLaws.{accepted-byLines, accepted-fits}
 
 -- a refusal without the text that is left
-abbrev bare : Refusal → Reading Plan
-bare r = refused r []
+abbrev bareRefusal : Refusal → Reading Plan
+bareRefusal r = refused r []
 
-abbrev bared : Reading Plan → Reading Plan
-bared (read p s n) = read p s n
-bared (refused r s) = bare r
+abbrev withoutText : Reading Plan → Reading Plan
+withoutText (read p s n) = read p s n
+withoutText (refused r s) = bareRefusal r
 
-bared-read : (m : Reading Plan) {p : Plan} {s : List ℕ} {n : ℕ} → bared m ≡ read p s n → m ≡ read p s n
-bared-read (read q t i) e = e
-bared-read (refused r t) e = clash (cc)
+withoutText-read : (m : Reading Plan) {p : Plan} {s : List ℕ} {n : ℕ} → withoutText m ≡ read p s n → m ≡ read p s n
+withoutText-read (read q t i) e = e
+withoutText-read (refused r t) e = clash (cc)
 
 -- 'A plan written and read again is the same plan'
 pub accepted-again : (p : Plan) → Accepted p → planAlone (planText p) ≡ read (trimmed p) [] (6 + 4 * p .jobs + p .bounds)
@@ -34,8 +34,8 @@ unfolding nothingAfter
 accepted-again p a =
     ap nothingAfter
     (planHead-short (planText p) (planText-short p f)
-    ∙ bared-read (planLines (planText p) 1) (planLines-judged p (f .placed) bare bared (λ r s. refl) ∙ ap
-    (λ (x : TextAnswer). onward bare x (read (trimmed p) [] n)) (accepted-byLines p a)))
+    ∙ withoutText-read (planLines (planText p) 1) (planLines-judged p (f .placed) bareRefusal withoutText (λ r s. refl) ∙ ap
+    (λ (x : TextAnswer). onward bareRefusal x (read (trimmed p) [] n)) (accepted-byLines p a)))
   where
     n : ℕ
     n = 6 + 4 * p .jobs + p .bounds

@@ -1,4 +1,4 @@
--- What is decided of a plan that was handed over as a value: its verdict, its calendar, and the text that tells them.
+-- What is decided of a plan that was handed over as a value: its verdict, its calendar, and the text that reports them.
 use Prim.Native.Nat.{ℕ}
 use mathlib.Core.List.{List}
 use mathlib.Core.Option.{Option, none, some}
@@ -13,7 +13,7 @@ use Rattle.calendars.specs.Calendars.{noCalendar, madeCalendar}
 use Rattle.calendars.specs.CalendarText.{outcomeText}
 
 -- 'A plan handed over as a value is judged as its text would be.' 'The verdict follows'; by the plan's judgement: its verdict, its calendar, and the text that
--- tells them
+-- reports them
 unfoldable pub valueVerdict : Plan → Option Refusal → VerdictTold
 valueVerdict p none = verdictTold (verdict p)
 valueVerdict p (some x) = Refused x

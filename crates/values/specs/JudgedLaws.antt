@@ -143,7 +143,7 @@ judgedByLines-accepted p l e =
           at (AllBounds-at (p .jobs) [] (boundsOf p) i ds (omega (arith, length-take (p .bounds) (p .bound), l .bound-places)) .1);
     }
 
--- the answer tells the refusal, or that there is none
+-- the answer has the refusal, or there is none
 pub judgedAnswer-none : (o : Option Refusal) → judgedAnswer o ≡ answer.Accepted → o ≡ none
 judgedAnswer-none none e = refl
 judgedAnswer-none (some r) e = clash (cc)
@@ -206,7 +206,7 @@ module _ (jobs : ℕ) (few : jobs ≤ mostJobs) where
   accepted-boundsJudged given n [] a = refl
   accepted-boundsJudged given n (d ∷ ds) a = rw (accepted-boundJudged given n d (a .0) (a .1)) (accepted-boundsJudged (given ++ (d ∷ [])) (n + 1) ds (a .2))
 
--- what is told at each place is told of all
+-- what holds at each place holds of all
 AllBounds-of : (jobs : ℕ) (given ds : List Bound) →
     ((i : ℕ) → i < length ds → BoundAccepted jobs (getD ds i noBound) ×
     (isWrongPair (getD ds i noBound .a) (getD ds i noBound .b) (given ++ take i ds) ≡ false)) → AllBounds jobs given ds

@@ -1,6 +1,6 @@
--- The laws by which the judging of a value is right, way by way: of a job (`jobJudged-min`, `-max`, `-release`, `-deadline`), of the loop over the jobs
--- (`JobsHeld`), of a bound (`boundJudged-bare`, `-formed`), of the loop over the bounds (`BoundsHeld`), and of the plan's lines (`planJudged-lines`,
--- `lines-stop`, `lines-pass`). An answer a to a line is what that line was judged, and it refuses or accepts.
+-- The laws by which the judging of a value is right: the answer to a line refuses, and is the answer to all (`lines-stop`), or accepts, and the lines that are
+-- left decide (`lines-pass`). The lines of a job (`jobJudged-lines`), the loop over the jobs (`JobsHeld`), a bound (`boundJudged-bare`, `-formed`), the loop
+-- over the bounds (`BoundsHeld`), and the lines of a plan (`judgedByLines-lines`).
 use mathlib.Core.Path.{_≡_, refl, sym, _∙_, ap}
 use mathlib.Core.Bool.{Bool, true, false, _&&_}
 use mathlib.Core.List.{List, [], _∷_, _++_, map}
@@ -30,40 +30,28 @@ use Rattle.values.specs.PlanJudged.{andThen, numberJudged, jobJudged, jo
 use Rattle.values.specs.JudgedLines.{andThen-stop, andThen-pass, HasPlaces}
 use Rattle.values.specs.JudgedLaws.{boundJudged-accepted}
 
--- ---- a job
+-- ---- one line after another
+
+-- w is the answer to the lines from some line on, and a the answer to the first of them
+module _ {w : TextAnswer} (x y : TextAnswer) (e : w ≡ andThen x y) (a : TextAnswer) (d : a ≡ x) where
+  pub lines-stop : {r : Refusal} → a ≡ Refused r → a ≡ w
+  lines-stop h = andThen-stop x y a d h ∙ sym e
+
+  pub lines-pass : a ≡ Accepted → w ≡ y
+  lines-pass h = e ∙ sym (andThen-pass x y a d h)
+
+-- ---- a job: the lines that are left are judged as the whole
 
 module _ (n : ℕ) (j : Job) where
-  abbrev min-judged : TextAnswer
-  min-judged = numberJudged (pos 0) longestRunning (j .min) n
+  abbrev pub fromRelease : TextAnswer
+  fromRelease = andThen (numberJudged (pos 0) latestDeadline (j .release) (n + 2)) (numberJudged (pos 0) latestDeadline (j .deadline) (n + 3))
 
-  abbrev max-judged : TextAnswer
-  max-judged = numberJudged (j .min) longestRunning (j .max) (n + 1)
+  abbrev pub fromMax : TextAnswer
+  fromMax = andThen (numberJudged (j .min) longestRunning (j .max) (n + 1)) fromRelease
 
-  abbrev release-judged : TextAnswer
-  release-judged = numberJudged (pos 0) latestDeadline (j .release) (n + 2)
-
-  abbrev deadline-judged : TextAnswer
-  deadline-judged = numberJudged (pos 0) latestDeadline (j .deadline) (n + 3)
-
-  module _ (a : TextAnswer) (e : a ≡ numberJudged (pos 0) longestRunning (j .min) n) where
-    pub jobJudged-min : {r : Refusal} → a ≡ Refused r → a ≡ jobJudged n j
-    unfolding jobJudged
-    jobJudged-min = andThen-stop min-judged _ a e
-
-    module _ (d : a ≡ Accepted) (b : TextAnswer) (e₂ : b ≡ numberJudged (j .min) longestRunning (j .max) (n + 1)) where
-      pub jobJudged-max : {r : Refusal} → b ≡ Refused r → b ≡ jobJudged n j
-      unfolding jobJudged
-      jobJudged-max h = andThen-stop max-judged _ b e₂ h ∙ andThen-pass min-judged _ a e d
-
-      module _ (d₂ : b ≡ Accepted) (c : TextAnswer) (e₃ : c ≡ numberJudged (pos 0) latestDeadline (j .release) (n + 2)) where
-        pub jobJudged-release : {r : Refusal} → c ≡ Refused r → c ≡ jobJudged n j
-        unfolding jobJudged
-        jobJudged-release h = andThen-stop release-judged deadline-judged c e₃ h ∙ andThen-pass max-judged _ b e₂ d₂ ∙ andThen-pass min-judged _ a e d
-
-        pub jobJudged-deadline : c ≡ Accepted → (x : TextAnswer) → x ≡ numberJudged (pos 0) latestDeadline (j .deadline) (n + 3) → x ≡ jobJudged n j
-        unfolding jobJudged
-        jobJudged-deadline d₃ x e₄ = e₄ ∙ andThen-pass release-judged deadline-judged c e₃ d₃ ∙ andThen-pass max-judged _ b e₂ d₂
-            ∙ andThen-pass min-judged _ a e d
+  pub jobJudged-lines : jobJudged n j ≡ andThen (numberJudged (pos 0) longestRunning (j .min) n) fromMax
+  unfolding jobJudged
+  jobJudged-lines = refl
 
 -- ---- the loop over the jobs: what is left is judged as the whole
 
@@ -201,14 +189,6 @@ module _ (p : Plan) where
   abbrev pub fromRounds : TextAnswer
   fromRounds = andThen (numberJudged (pos 1) (pos mostRounds) (pos (p .rounds)) 2) (andThen (numberJudged (pos 1) (pos mostWindows) (pos (p .last)) 3) fromJobs)
 
-  pub planJudged-lines : judgedByLines p ≡ andThen (numberJudged (pos 1) longestWindow (p .window) 1) fromRounds
+  pub judgedByLines-lines : judgedByLines p ≡ andThen (numberJudged (pos 1) longestWindow (p .window) 1) fromRounds
   unfolding judgedByLines
-  planJudged-lines = refl
-
--- w is the answer to the lines from some line on, and a the answer to the first of them
-module _ {w : TextAnswer} (x y : TextAnswer) (e : w ≡ andThen x y) (a : TextAnswer) (d : a ≡ x) where
-  pub lines-stop : {r : Refusal} → a ≡ Refused r → a ≡ w
-  lines-stop h = andThen-stop x y a d h ∙ sym e
-
-  pub lines-pass : a ≡ Accepted → w ≡ y
-  lines-pass h = e ∙ sym (andThen-pass x y a d h)
+  judgedByLines-lines = refl

@@ -23,6 +23,6 @@ bytesWhere (some x) t out = out
 unfoldable pub writtenPlan : Plan → List ℕ → Written
 writtenPlan p out = writtenWhere (judgedPlan p) (planText p) out
 
--- the lent slice: the plan's text and what stood behind it, or all bytes as they were
+-- the lent slice: the plan's text and what stood after it, or all bytes as they were
 unfoldable pub planBytes : Plan → List ℕ → List ℕ
 planBytes p out = bytesWhere (judgedPlan p) (planText p) out

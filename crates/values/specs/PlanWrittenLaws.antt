@@ -1,6 +1,6 @@
 -- The laws by which the writer of a plan is right.
 -- The lines of jobs (`jobsText-more`) and of bounds (`boundsText-more`) stand before what follows them. What writers did: a name, a bound's line
--- (`stored-name`, `stored-bound`), the jobs, and the lines behind them (`stored-jobs`).
+-- (`stored-name`, `stored-bound`), the jobs, and the lines after them (`stored-jobs`).
 use Prim.Native.Nat.{ℕ, _+_, _-_}
 use mathlib.Core.Path.{_≡_, refl}
 use mathlib.Core.List.{List, [], _∷_, _++_, append-assoc}
@@ -45,7 +45,7 @@ boundsText-more d ds = simp append-assoc
 
 -- ---- what writers did
 
--- a name by its parts, and the byte behind it
+-- a name by its parts, and the byte after it
 pub stored-name : {out o o′ o″ : List ℕ} {at j j′ j″ letter kind : ℕ} (e : EventName) (b : ℕ) → letter ≡ letterByte (e .letter) → kind ≡ kindByte (e .kind)
     → Stored out at (letter ∷ []) o j → Stored o j (kind ∷ []) o′ j′ → Stored o′ j′ (digits (e .job) ++ (b ∷ [])) o″ j″
     → Stored out at (nameBytes e ++ (b ∷ [])) o″ j″
@@ -64,7 +64,7 @@ module _ {out o₁ o₂ o₃ o₄ : List ℕ} {at j₁ j₂ j₃ j₄ : ℕ} whe
       (stored-behind (nameBytes (d .b)) comma b
       (stored-narrow (λ (z : ℤ). decimal z ++ (LF ∷ [])) f c)))
 
--- the lines of the jobs, and the lines behind them
+-- the lines of the jobs, and the lines after them
 pub stored-jobs : {out s o o′ : List ℕ} {at j j′ : ℕ} (js : List Job)
     → Stored out at (jobsText js []) o j → Stored o j s o′ j′ → Stored out at (jobsText js s) o′ j′
 stored-jobs {s = s} js p q = rw (jobsText-more js s) (stored-append p q)

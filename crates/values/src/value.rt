@@ -1,4 +1,4 @@
-// A plan handed over as a value: what is decided of it, and the text that tells it.
+// A plan handed over as a value: what is decided of it, and the text that reports it.
 use crate::ValueDecision;
 use crate::plan_value::judge_plan;
 use calendars::decide;
@@ -41,7 +41,7 @@ pub fn decide_value(p: Plan) -> ValueDecision
     }
 }
 
-// The text that tells what is decided of a plan: its calendar, or the line of its refusal; 12 and not one byte changed, where it has no room.
+// The text that reports what is decided of a plan: its calendar, or the line of its refusal; 12 and not one byte changed, where it has no room.
 pub fn answer_value(p: Plan, out: &mut [u8]) -> Written
     ensures { λ r. ⌜ r ≡ writtenAs (valueText p (judgedPlan p)) (now (out .entry)) ⌝ }
     ensures { λ _. ⌜ now (out .exit) ≡ written (valueText p (judgedPlan p)) (now (out .entry)) ⌝ }

@@ -77,7 +77,7 @@ fn kind_byte(k: Kind) -> u8
     }
 }
 
-// The name of an event, and the byte behind it.
+// The name of an event, and the byte after it.
 fn put_name(out: &mut [u8], at: usize, e: EventName, end: u8) -> usize
     requires { ⌜ at ≤ 2 ^ 60 ⌝ }
     ensures { λ r. ⌜ Stored (now (out .entry)) at (nameBytes e ++ (end ∷ [])) (now (out .exit)) r ⌝ }
@@ -125,7 +125,7 @@ fn put_bounds(out: &mut [u8], at: usize, bounds: usize, bound: [Bound; MOST_BOUN
     end
 }
 
-// A plan's text, from a place on, as far as there is room; answers the place behind it.
+// A plan's text, from a place on, as far as there is room; answers the place after it.
 fn put_plan(out: &mut [u8], at: usize, p: Plan) -> usize
     requires { ⌜ at ≤ 2 ^ 57 ⌝ }
     ensures { λ r. ⌜ Stored (now (out .entry)) at (planText p) (now (out .exit)) r ⌝ }

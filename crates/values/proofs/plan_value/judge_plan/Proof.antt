@@ -1,4 +1,4 @@
--- `judge_plan`: the types tell that the text is not too long (`plan-fits`), so that the lines decide (`judgedPlan-is`). After each line `left₁` to `left₆`
+-- `judge_plan`: by the types the text is not too long (`plan-fits`), so that the lines decide (`judgedPlan-is`). After each line `left₁` to `left₆`
 -- say that the lines that are left are judged as the whole: one that is refused is the answer (`lines-stop`), and after one that is not the next decides
 -- (`lines-pass`).
 use mathlib.Core.Path.{_≡_, sym, _∙_}
@@ -7,6 +7,7 @@ use Prim.Native.Nat.{_+_, _*_, _≤_}
 use lib.IntN.{pos}
 use mir.Facts.{toZ-ofZ}
 use mir.Syntax.{w32}
+use mir.Val.{SFits}
 use Rattle.whole.specs.Rules.{whole}
 use native.Mathlib.Omega.{arith}
 use Rattle.plan.specs.declared.Plan.{Plan}
@@ -19,7 +20,7 @@ use Rattle.values.specs.PlanJudged.{judgedAnswer, andThen, numberJudged,
 use Rattle.values.specs.JudgedLines.{numberJudged-range, judgedPlan-is}
 use Rattle.values.specs.JudgedLength.{PlanFits, planText-short}
 use Rattle.values.specs.JudgedLaws.{judgedAnswer-accepted}
-use Rattle.values.specs.JudgedWays.{fromCount, fromJobs, fromRounds, planJudged-lines, lines-stop, lines-pass}
+use Rattle.values.specs.JudgedWays.{fromCount, fromJobs, fromRounds, judgedByLines-lines, lines-stop, lines-pass}
 use borrow.Author.Needs.{needs}
 use Rattle.values.proofs.Told.{plan-fits}
 use Rattle.values.proofs.plan_value.judge_plan.Statement.{statement}
@@ -34,17 +35,18 @@ fits₀ : (c : tie.After-struct-told) → PlanFits (p₀ c)
 fits₀ c = plan-fits (p₀ c) _ (c .struct-told .given)
 
 left₀ : (c : tie.After-struct-told) → judgedAnswer (judgedPlan (p₀ c)) ≡ andThen (numberJudged (pos 1) longestWindow (p₀ c .window) 1) (fromRounds (p₀ c))
-left₀ c = judgedPlan-is (p₀ c) (fits₀ c .placed) (planText-short (p₀ c) (fits₀ c)) ∙ planJudged-lines (p₀ c)
+left₀ c = judgedPlan-is (p₀ c) (fits₀ c .placed) (planText-short (p₀ c) (fits₀ c)) ∙ judgedByLines-lines (p₀ c)
 
--- the two promises of an answer a, of which the first tells the second
+-- the two promises of an answer a, of which the second follows from the first
 abbrev Promised : Plan → TextAnswer → Type 0
 Promised p a = (a ≡ judgedAnswer (judgedPlan p)) × (a ≡ answer.Accepted → Accepted p)
 
 promised : (p : Plan) (a : TextAnswer) → PlanFits p → a ≡ judgedAnswer (judgedPlan p) → Promised p a
 promised p a f e = (e, judgedAnswer-accepted p (f .placed) a e)
 
-window-line : (c : tie.After-judge-number) → c .judge-number .result ≡ numberJudged (pos 1) longestWindow (p₀ (c .before) .window) 1
-window-line c = rw (toZ-ofZ {w = w32} {z = p₀ (c .before) .window} (record { sfits = c .before .struct-told .given .0 .1 })) at (c .judge-number .ensures)
+-- the window, at its width
+window-fits : (c : tie.After-struct-told) → SFits w32 (p₀ c .window)
+window-fits c = record { sfits = c .struct-told .given .0 .1 }
 
 judge-number-requires : tie.Need-judge-number-requires
 judge-number-requires c κs = tt
@@ -60,7 +62,8 @@ returns c =
     let d = c .before .before in
     let p = p₀ (d .before) in
     promised p (d .judge-number .result) (fits₀ (d .before))
-    (lines-stop (numberJudged (pos 1) longestWindow (p .window) 1) (fromRounds p) (left₀ (d .before)) (d .judge-number .result) (window-line d)
+    (lines-stop (numberJudged (pos 1) longestWindow (p .window) 1) (fromRounds p) (left₀ (d .before)) (d .judge-number .result)
+    (rw (toZ-ofZ (window-fits (d .before))) at (d .judge-number .ensures))
     (c .enum-told2 .given .1))
 
 -- ---- the rounds
@@ -74,7 +77,8 @@ fits₁ c = fits₀ (c .before .before .before)
 left₁ : (c : tie.After-enum-told) → judgedAnswer (judgedPlan (p₁ c)) ≡ fromRounds (p₁ c)
 left₁ c =
     let d = c .before .before in
-    lines-pass (numberJudged (pos 1) longestWindow (p₁ c .window) 1) (fromRounds (p₁ c)) (left₀ (d .before)) (d .judge-number .result) (window-line d)
+    lines-pass (numberJudged (pos 1) longestWindow (p₁ c .window) 1) (fromRounds (p₁ c)) (left₀ (d .before)) (d .judge-number .result)
+    (rw (toZ-ofZ (window-fits (d .before))) at (d .judge-number .ensures))
     (c .enum-told .given .1)
 
 judge-count-requires : tie.Need-judge-count-requires

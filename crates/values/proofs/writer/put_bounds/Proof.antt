@@ -1,7 +1,7 @@
 -- `put_bounds`: the bounds from place i on are left. One law a turn, `left-next`; the loop ends after so many bounds (`left-stop`) or places (`left-out`).
 use Prim.Native.Nat.{_+_, _*_, _-_, _≤_}
 use mathlib.Core.Path.{_≡_, refl, _∙_}
-use mathlib.Core.List.{List, []}
+use mathlib.Core.List.{List}
 use native.Mathlib.Omega.{arith}
 use lib.ListN.{length, take}
 use Rattle.plan.specs.Limits.{mostBounds}

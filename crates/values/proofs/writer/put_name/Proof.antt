@@ -1,4 +1,4 @@
--- `put_name`: the letter, the kind and the job with the byte behind it in a row, by `stored-name`.
+-- `put_name`: the letter, the kind and the job with the byte after it in a row, by `stored-name`.
 use native.Mathlib.Omega.{arith}
 use Rattle.values.specs.PlanWrittenLaws.{stored-name}
 use borrow.Author.Needs.{needs}
