@@ -5,9 +5,8 @@ use mathlib.Core.Path.{_≡_, refl, subst}
 use mathlib.Core.Bool.{Bool, true, false, cond, _||_}
 use mathlib.Core.List.{List, [], _∷_}
 use native.Mathlib.Omega.{arith}
-use lib.IntN.{ℤ, pos, negℤ}
+use lib.IntN.{ℤ, negℤ}
 use lib.Signed.{_≤ℤ_, _<ℤ_}
-use lib.ListN.{length, take, getD}
 use Rattle.whole.specs.Clash.{clash}
 use Rattle.whole.specs.SplitLaws.{split-neg}
 use Rattle.whole.specs.Rules.{wholes}
