@@ -1,7 +1,8 @@
 -- The laws of a whole text in a lent slice: one that has room is written, with its length as the answer (`stored-whole`); one that has none is refused by 12
 -- and leaves every byte (`stored-none`). A text that was measured first, on a part without places, which leaves every byte too, is refused or written by its
 -- measure (`measured-none`, `measured-whole`); and it is no longer than where its writer ended (`wrote-within`). A text is stored, and written, as any text
--- that equals it (`stored-as`, `wrote-as`). A length that a writer answers counts bytes of its slice (`written-counts`).
+-- that equals it (`stored-as`, `wrote-as`). A length is answered where there was room (`written-room`), and counts bytes of
+-- its slice (`written-counts`).
 -- Where the slice has room for the text, whatever the text is: the writer answers its length and leaves the text and the bytes past it (`answered-whole`), and
 -- it does not refuse (`answered-never`). A text that equals it was written so too (`whole-as`): what is printed for the first bytes of what was read is what is
 -- printed for all of it, where these are all (`whole-cut`).
@@ -87,6 +88,15 @@ wrote-as out h e w = (
 )
 
 -- ---- the length that was answered counts bytes of the slice
+
+-- where a length is answered there was room
+pub written-room : (t out : List ℕ) {r : Written} {n : ℕ} → r ≡ writtenAs t out → r ≡ Length n → length t ≤ length out
+unfolding writtenAs
+written-room t out {n = n} e f = of (hasRoom t out) refl (sym f ∙ e)
+  where
+    of : (b : Bool) → hasRoom t out ≡ b → Length n ≡ cond b (Length (length t)) (Refused refusal.NoRoom) → length t ≤ length out
+    of true h d = leb-true (length t) (length out) h
+    of false h d = clash (cc)
 
 pub written-counts : (t out out′ : List ℕ) {r : Written} {m : ℕ} → r ≡ writtenAs t out → length out′ ≡ length out → r ≡ Length m
     → (m ≤ length out′) × (m ≡ length (take m out′))
