@@ -13,7 +13,7 @@ use Rattle.calendars.specs.declared.Terms.{Terms}
 use Rattle.calendars.specs.declared.Calendar.{Calendar}
 use Rattle.rounds.specs.Rounds.{C0, joined, Outcome, settled, noStrategy, unsettled}
 use Rattle.events.specs.Bits.{eventsOf, eventSet}
-pub use Rattle.events.specs.Bits.{mostEvents}
+use Rattle.events.specs.Bits.{mostEvents}
 
 -- ---- 'the bounds on each start just before it is eliminated'
 

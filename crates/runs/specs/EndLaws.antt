@@ -10,8 +10,8 @@ use mir.Val.{SFits, toZ, ofZ}
 use mir.Facts.{toZ-ofZ}
 use Rattle.clock.specs.declared.RunTime.{RunTime}
 use Rattle.clock.specs.Clock.{onRun, movedBy}
-use Rattle.events.specs.Bits.{bitsOf, membersFrom}
-use Rattle.calendars.specs.Calendars.{eventsAhead, mostEvents}
+use Rattle.events.specs.Bits.{bitsOf, membersFrom, mostEvents}
+use Rattle.calendars.specs.Calendars.{eventsAhead}
 use Rattle.runs.specs.declared.Turn.{Turn}
 use Rattle.runs.specs.declared.Run.{Run}
 use Rattle.runs.specs.declared.Offer.{Offer}

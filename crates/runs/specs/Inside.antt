@@ -17,8 +17,8 @@ use Rattle.lines.specs.declared.Refusal.{Refusal}
 use Rattle.plan.specs.Limits.{mostJobs, mostWindows}
 use Rattle.plan.specs.Accepted.{Accepted}
 use Rattle.calendars.specs.declared.Calendar.{Calendar}
-use Rattle.events.specs.Bits.{bitsOf, hasEvent}
-use Rattle.calendars.specs.Calendars.{eventsAhead, mostEvents}
+use Rattle.events.specs.Bits.{bitsOf, hasEvent, mostEvents}
+use Rattle.calendars.specs.Calendars.{eventsAhead}
 use Rattle.runs.specs.declared.Before.{Before}
 use Rattle.runs.specs.declared.Turn.{Turn}
 use Rattle.runs.specs.declared.Phase.{Phase}

@@ -22,8 +22,8 @@ use Rattle.plan.specs.Limits.{leastC, greatestC, mostJobs}
 use Rattle.bounds.specs.BuildLaws.{anyBelow-none}
 use Rattle.calendars.specs.declared.Terms.{Terms}
 use Rattle.calendars.specs.declared.Calendar.{Calendar}
-use Rattle.events.specs.Bits.{bitsOf, hasEvent, isBelow}
-use Rattle.calendars.specs.Calendars.{eventsBefore, mostEvents}
+use Rattle.events.specs.Bits.{bitsOf, hasEvent, isBelow, mostEvents}
+use Rattle.calendars.specs.Calendars.{eventsBefore}
 use Rattle.runs.specs.declared.Turn.{Turn}
 use Rattle.runs.specs.declared.Phase.{Phase}
 use Rattle.runs.specs.declared.Phase.the-variants.{Waiting, Running}

@@ -18,8 +18,8 @@ use Rattle.plan.specs.declared.Plan.{Plan}
 use Rattle.plan.specs.Limits.{leastC, greatestC}
 use Rattle.calendars.specs.declared.Terms.{Terms}
 use Rattle.calendars.specs.declared.Calendar.{Calendar}
-use Rattle.events.specs.Bits.{bitsOf, isBelow}
-use Rattle.calendars.specs.Calendars.{eventsAhead, eventsBefore, mostEvents, noTerms}
+use Rattle.events.specs.Bits.{bitsOf, isBelow, mostEvents}
+use Rattle.calendars.specs.Calendars.{eventsAhead, eventsBefore, noTerms}
 use Rattle.runs.specs.declared.Phase.{Phase}
 use Rattle.runs.specs.declared.Phase.the-variants.{Waiting, Running}
 use Rattle.runs.specs.declared.Run.{Run}

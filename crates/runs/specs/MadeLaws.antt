@@ -26,7 +26,7 @@ use Rattle.bounds.specs.FitLaws.{least-weight, most-weight, withoutFinish-fit, 
 use Rattle.rounds.specs.Rounds.{C0, joined, round, sameRows, Outcome, settled, decided, roundsFrom, outcomeFrom, outcome}
 use Rattle.rounds.specs.CarriedLaws.{C0-fit, joined-fit, eliminated-fit}
 use Rattle.calendars.specs.declared.Terms.{Terms}
-use Rattle.events.specs.Bits.{bitsOf, hasEvent, isBelow}
+use Rattle.events.specs.Bits.{bitsOf, hasEvent, isBelow, mostEvents}
 use Rattle.events.specs.BitsLaws.{isBelow-fits}
 use Rattle.bounds.specs.BuildLaws.{eventSet-listed-fits}
 use Rattle.calendars.specs.Calendars.{
@@ -38,7 +38,6 @@ use Rattle.calendars.specs.Calendars.{
   termsOf,
   leastCs,
   mostCs,
-  mostEvents,
   noTerms,
   allTerms,
   allCs,

@@ -11,8 +11,8 @@ use lib.IntN.{ℤ}
 use lib.Signed.{_≤ℤ_, ltZ}
 use Rattle.whole.specs.Rules.{whole}
 use Rattle.clock.specs.Clock.{onRun}
-use Rattle.events.specs.Bits.{bitsOf, hasEvent, membersFrom}
-use Rattle.calendars.specs.Calendars.{eventsAhead, mostEvents}
+use Rattle.events.specs.Bits.{bitsOf, hasEvent, membersFrom, mostEvents}
+use Rattle.calendars.specs.Calendars.{eventsAhead}
 use Rattle.runs.specs.declared.Turn.{Turn}
 use Rattle.runs.specs.declared.Run.{Run}
 use Rattle.runs.specs.TestLaws.{true-not-false, here-or-later}

@@ -11,8 +11,8 @@ use Rattle.plan.specs.declared.Plan.{Plan}
 use Rattle.lines.specs.declared.Refusal.the-variants as refusal
 use Rattle.plan.specs.PlanLines.{noJob}
 use Rattle.calendars.specs.declared.Calendar.{Calendar}
-use Rattle.events.specs.Bits.{bitsOf, membersFrom}
-use Rattle.calendars.specs.Calendars.{eventsAhead, mostEvents, noTerms}
+use Rattle.events.specs.Bits.{bitsOf, membersFrom, mostEvents}
+use Rattle.calendars.specs.Calendars.{eventsAhead, noTerms}
 use Rattle.runs.specs.declared.Turn.{Turn}
 use Rattle.runs.specs.declared.Phase.{Phase}
 use Rattle.runs.specs.declared.Phase.the-variants.{Waiting, Running}

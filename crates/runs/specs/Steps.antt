@@ -17,7 +17,7 @@ use Rattle.lines.specs.declared.Refusal.the-variants as refusal
 use Rattle.lines.specs.Refusals.{outsideLimits}
 use Rattle.plan.specs.PlanWritten.{judgedPlan}
 use Rattle.calendars.specs.declared.Calendar.{Calendar}
-use Rattle.calendars.specs.Calendars.{mostEvents}
+use Rattle.events.specs.Bits.{mostEvents}
 use Rattle.runs.specs.declared.Before.the-variants.{Nothing, Window}
 use Rattle.runs.specs.declared.Turn.{Turn}
 use Rattle.runs.specs.declared.Phase.{Phase}

@@ -14,8 +14,8 @@ use Rattle.plan.specs.PlanLines.{isJob}
 use Rattle.bounds.specs.Tables.{anyBelow}
 use Rattle.calendars.specs.declared.Terms.{Terms}
 use Rattle.calendars.specs.declared.Calendar.{Calendar}
-use Rattle.events.specs.Bits.{bitsOf, hasEvent, isBelow}
-use Rattle.calendars.specs.Calendars.{eventsAhead, eventsBefore, mostEvents, noTerms}
+use Rattle.events.specs.Bits.{bitsOf, hasEvent, isBelow, mostEvents}
+use Rattle.calendars.specs.Calendars.{eventsAhead, eventsBefore, noTerms}
 use Rattle.runs.specs.declared.Phase.{Phase}
 use Rattle.runs.specs.declared.Phase.the-variants.{Waiting, Running}
 use Rattle.runs.specs.declared.Run.{Run}

@@ -17,8 +17,7 @@ use plan::is_c;
 ghost use mathlib.Core.Path.{_≡_};
 ghost use Prim.Native.Nat.{_+_, _-_, _≤_, _<_};
 ghost use Rattle.plan.specs.Limits.{mostJobs};
-ghost use Rattle.events.specs.Bits.{bitsOf};
-ghost use Rattle.calendars.specs.Calendars.{mostEvents};
+ghost use Rattle.events.specs.Bits.{bitsOf, mostEvents};
 ghost use Rattle.runs.specs.ValueLimits.{isTime, areTimes, isTurn, isPhase, jobOfPhase, isRun, isOut, isSide, areTermsOf, isCalendar};
 ghost use Rattle.runs.specs.Steps.{isStep};
 

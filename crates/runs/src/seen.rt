@@ -6,7 +6,7 @@ use events::MOST_EVENTS;
 ghost use mathlib.Core.Path.{_≡_};
 ghost use Prim.Native.Nat.{_+_, _*_, _≤_, _<_};
 ghost use Rattle.plan.specs.Limits.{mostJobs};
-ghost use Rattle.calendars.specs.Calendars.{mostEvents};
+ghost use Rattle.events.specs.Bits.{mostEvents};
 ghost use Rattle.runs.specs.Seen as seen;
 
 // The time of event e.

@@ -23,7 +23,7 @@ use Rattle.bounds.specs.Events.{startNode}
 use Rattle.bounds.specs.Tables.{Cell, off, upto, Rows, at, listed}
 use Rattle.bounds.specs.BuildLaws.{getD-listed, length-listed}
 use Rattle.calendars.specs.declared.Terms.{Terms}
-use Rattle.events.specs.Bits.{hasEvent, eventSet}
+use Rattle.events.specs.Bits.{hasEvent, eventSet, mostEvents}
 use Rattle.events.specs.BitsLaws.{hasEvent-set}
 use Rattle.calendars.specs.Calendars.{
   isOn,
@@ -34,7 +34,6 @@ use Rattle.calendars.specs.Calendars.{
   termsOf,
   leastCs,
   mostCs,
-  mostEvents,
   noTerms,
   allTerms,
   allCs,

@@ -11,7 +11,8 @@ use borrow.Author.Tests.{lt-ltb, le-ltb}
 use Rattle.clock.specs.declared.RunTime.{RunTime}
 use Rattle.plan.specs.declared.Plan.{Plan}
 use Rattle.plan.specs.Limits.{mostJobs}
-use Rattle.calendars.specs.Calendars.{eventsAhead, mostEvents}
+use Rattle.events.specs.Bits.{mostEvents}
+use Rattle.calendars.specs.Calendars.{eventsAhead}
 use Rattle.runs.specs.declared.Phase.the-variants.{Waiting}
 use Rattle.runs.specs.declared.Phase.{Phase}
 use Rattle.runs.specs.declared.Run.{Run}

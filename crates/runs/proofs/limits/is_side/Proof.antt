@@ -12,8 +12,7 @@ use mir.Val.{SFits}
 use mir.Facts.{toZ-ofZ}
 use borrow.Author.Tests.{not-true, not-false}
 use borrow.Author.Needs.{needs}
-use Rattle.events.specs.Bits.{bitsOf}
-use Rattle.calendars.specs.Calendars.{mostEvents}
+use Rattle.events.specs.Bits.{bitsOf, mostEvents}
 use Rattle.runs.specs.ValueLimits.{isOut}
 use Rattle.runs.specs.LimitLaws.{anyFrom, anyFrom-more, anyFrom-found, anyFrom-none, outAt, isSide-past, isSide-walk}
 use Rattle.runs.proofs.limits.is_side.Statement.{statement}

@@ -10,8 +10,8 @@ use mir.Val.{SFits}
 use mir.Facts.{toZ-ofZ}
 use Rattle.clock.specs.Clock.{onRun}
 use Rattle.plan.specs.Limits.{mostJobs}
-use Rattle.events.specs.Bits.{bitsOf}
-use Rattle.calendars.specs.Calendars.{eventsAhead, mostEvents}
+use Rattle.events.specs.Bits.{bitsOf, mostEvents}
+use Rattle.calendars.specs.Calendars.{eventsAhead}
 use Rattle.runs.specs.declared.Phase.the-variants.{Waiting}
 use Rattle.runs.specs.declared.Run.{Run}
 use Rattle.runs.specs.Inside.{runOf, TermsFit}
