@@ -2,7 +2,7 @@
 -- has the events that the list holds true (`hasEvent-listed`), a bit for each place (`eventSet-listed-fits`), and with one place more one event more, or none
 -- (`eventSet-listed`). What stands in a table that was built: `at (build k f) y z` is f y z below k, and nothing past it. What two tests joined say of each. A
 -- test of `anyBelow` that holds, holds somewhere; one that does not, holds nowhere. Events and nodes are one to one, and a node is the origin, a start or a
--- finish (`byNode`).
+-- finish (`byNode`); past the first it is not the origin (`not-origin`).
 use Prim.Native.Nat.{ℕ, zero, suc, _+_, _*_, _/_, _%_, _^_, _≤_, _<_}
 use mathlib.Core.Path.{_≡_, refl, ap, subst, _∙_}
 use mathlib.Core.Logic.{_⊎_, inl, inr, ⊎-elim}
@@ -158,3 +158,10 @@ byNode-after P m (suc (suc r)) p e s f = absurd (omega arith)
 pub byNode : (P : ℕ → Type 0) → P 0 → ((k : ℕ) → P (startNode k)) → ((k : ℕ) → P (finishNode k)) → (y : ℕ) → P y
 byNode P o s f zero = o
 byNode P o s f (suc m) = byNode-after P m (m % 2) (omega arith) refl s f
+
+-- a node past the first is no origin
+pub not-origin : (y : ℕ) → 0 < y → eventOf y ≡ Origin → ⊥
+not-origin =
+    byNode (λ y. 0 < y → eventOf y ≡ Origin → ⊥) (λ h. absurd (omega arith))
+    (λ k h e. let g = eventOf-start k in clash (cc))
+    (λ k h e. let g = eventOf-finish k in clash (cc))

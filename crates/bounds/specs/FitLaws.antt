@@ -9,7 +9,6 @@ use lib.IntN.{ℤ, pos, negℤ, _+ℤ_, _-ℤ_}
 use lib.Signed.{_≤ℤ_, leZ}
 use lib.ListN.{getD}
 use borrow.Author.Tests.{ltb-true, ltb-false}
-use Rattle.whole.specs.Clash.{clash}
 use Rattle.whole.specs.SplitLaws.{split-add, split-neg}
 use Rattle.whole.specs.Rules.{whole, wholes}
 use Rattle.plan.specs.declared.Plan.{Plan}
@@ -24,7 +23,7 @@ use Rattle.bounds.specs.Events.{isThis, jobAt, shift, earliest, latest, 
 use Rattle.bounds.specs.Judgements.{judged}
 use Rattle.bounds.specs.Tables.{Cell, off, upto, least, Rows, at, judgement, isContradiction, keptCell, bounds, judgedSet}
 use Rattle.bounds.specs.Elimination.{startCell, withoutStart, finishCell, withoutFinish}
-use Rattle.bounds.specs.BuildLaws.{at-build, byNode, eventOf-start, eventOf-finish}
+use Rattle.bounds.specs.BuildLaws.{at-build, byNode, eventOf-start, eventOf-finish, not-origin}
 use Rattle.bounds.specs.TablesLaws.{JudgedCell, KeptCell, judged-kept, judgedSet-back}
 use Rattle.bounds.specs.Spans.{farthestTime}
 use Rattle.bounds.specs.Flat.{weightAt, cellAt, rowsOf, greatestWeight, Weighed}
@@ -119,12 +118,6 @@ module _ (p : Plan) (a : Accepted p) where
 
 -- ---- the weights of a fit table
 
-not-origin : (y : ℕ) → 0 < y → eventOf y ≡ Origin → ⊥
-not-origin =
-    byNode (λ y. 0 < y → eventOf y ≡ Origin → ⊥) (λ h. absurd (omega arith))
-    (λ k h e. let g = eventOf-start k in clash (cc))
-    (λ k h e. let g = eventOf-finish k in clash (cc))
-
 origin-node : eventOf 0 ≡ Origin
 unfolding eventOf
 origin-node = refl
@@ -201,14 +194,11 @@ left-most p y z c d a never j m =
     let e : judgement p y z c ≡ judged p (eventOf y) (eventOf z) w = ap (judgement p y z) (m .held) in
     subst (λ d. AtMost d a) (sym (j .left)) (kept-most (judgement p y z c) c a (e ∙ never w (ap isContradiction (sym e) ∙ j .sound)) m)
 
--- a bound from the origin or to it is kept, where it is no contradiction
-pub from-origin : (p : Plan) (y : ℕ) → 0 < y → (w : ℤ) → isContradiction (judged p (eventOf 0) (eventOf y) w) ≡ false
-    → judged p (eventOf 0) (eventOf y) w ≡ Kept
+from-origin : (p : Plan) (y : ℕ) → 0 < y → (w : ℤ) → isContradiction (judged p (eventOf 0) (eventOf y) w) ≡ false → judged p (eventOf 0) (eventOf y) w ≡ Kept
 unfolding eventOf
 from-origin p y h w e = judged-from-origin p (eventOf y) w (not-origin y h) e
 
-pub to-origin : (p : Plan) (y : ℕ) → 0 < y → (w : ℤ) → isContradiction (judged p (eventOf y) (eventOf 0) w) ≡ false
-    → judged p (eventOf y) (eventOf 0) w ≡ Kept
+to-origin : (p : Plan) (y : ℕ) → 0 < y → (w : ℤ) → isContradiction (judged p (eventOf y) (eventOf 0) w) ≡ false → judged p (eventOf y) (eventOf 0) w ≡ Kept
 unfolding eventOf
 to-origin p y h w e = judged-to-origin p (eventOf y) w (not-origin y h) e
 

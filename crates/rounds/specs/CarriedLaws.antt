@@ -29,7 +29,7 @@ use Rattle.bounds.specs.PlacesLaws.{thenSet-some, withoutPlace-fit}
 use Rattle.bounds.specs.StartLaws.{less-or-same}
 use Rattle.rounds.specs.Given.{upTo, downTo, ranges, ownBounds, betweenBounds}
 use Rattle.rounds.specs.Rounds.{C0, ownNodes, onNext, joined}
-use Rattle.rounds.specs.NextLaws.{onto-origin, onto-event, movedBy-origin, movedBy-event, onNext-onto}
+use Rattle.rounds.specs.OnNextLaws.{onto-origin, onto-event, movedBy-origin, movedBy-event, onNext-onto}
 
 -- ---- a bound of a list
 

@@ -20,5 +20,6 @@ pub mod JoinedLaws
 pub mod CarriedLaws
 pub mod SettleLaws
 pub mod PutGivenLaws
+pub mod OnNextLaws
 pub mod NextLaws
 pub mod TrimmedLaws

@@ -24,6 +24,7 @@ use Rattle.bounds.specs.Tables.{Cell, off, upto, least, plus, join, Rows, at, j
 use Rattle.bounds.specs.Elimination.{onlyIf, finishCell, startCell, withoutFinish, withoutStart, thenSet, withoutPlace, eliminated}
 use Rattle.bounds.specs.BuildLaws.{eventOf-start, eventOf-finish, byNode}
 use Rattle.rounds.specs.Rounds.{ownNodes, moved}
+use Rattle.rounds.specs.Next.{onto}
 use Rattle.strategy.specs.SetLaws.{judgedSet-at, judgedSet-agrees, judgedSet-some}
 use Rattle.strategy.specs.PlaceLaws.{thenSet-bounds}
 use Rattle.strategy.specs.WindowLaws.{this-shift}
@@ -150,7 +151,7 @@ module _ (p : Plan) where
     pub inside : InWindow (eventOf y)
 
   moves : (y : ℕ) → y < nodes (p .jobs) → Moves y
-  unfolding eventOf
+  unfolding eventOf onto
   moves =
       byNode (λ y. y < nodes (p .jobs) → Moves y)
       (λ h. record { event = refl; by = refl; inside = tt })
@@ -234,6 +235,7 @@ module _ (p : Plan) where
   MovedCells k f g = (y z : ℕ) → y < k → z < k → g (nextNode p y) (nextNode p z) ≡ shifted p y z (f y z)
 
   pub next-below : (k y : ℕ) → y < k → nextNode p y < k + ownNodes p
+  unfolding onto
   next-below k zero h = omega arith
   next-below k (suc y) h = rw (next-later p (suc y) (omega arith)) (omega arith)
 
@@ -272,6 +274,7 @@ module _ (p : Plan) where
 
   -- two nodes that are the same moved were the same
   next-eqb : (y z : ℕ) → eqb (nextNode p y) (nextNode p z) ≡ eqb y z
+  unfolding onto
   next-eqb zero zero = refl
   next-eqb zero (suc z) = rw (next-later p (suc z) (omega arith)) (ne-eqb 0 (suc z + ownNodes p) (omega arith) ∙ sym (ne-eqb 0 (suc z) (omega arith)))
   next-eqb (suc y) zero = rw (next-later p (suc y) (omega arith)) (ne-eqb (suc y + ownNodes p) 0 (omega arith) ∙ sym (ne-eqb (suc y) 0 (omega arith)))

@@ -25,11 +25,13 @@ use Rattle.bounds.specs.BuildLaws.{both-true}
 use Rattle.bounds.specs.Elimination.{startCell, withoutFinish, withoutStart, withoutPlace, eliminated}
 use Rattle.rounds.specs.Given.{placeOf, eventAt, betweenBounds}
 use Rattle.rounds.specs.Rounds.{C0, ownNodes, moved, onNext, joined}
+use Rattle.rounds.specs.OnNextLaws.{onNext-onto}
+use Rattle.rounds.specs.Next.{onto}
 use Rattle.strategy.specs.SetLaws.{judgedSet-at}
 use Rattle.strategy.specs.PlaceLaws.{thenSet-bounds}
 use Rattle.strategy.specs.GivenLaws.{listed-accepted, listed-one-this, across-all}
 use Rattle.strategy.specs.WindowLaws.{place-this}
-use Rattle.strategy.specs.JoinedLaws.{C0-wellFormed, C0-past, nextNode, next-later, onNext-next, joinedCell}
+use Rattle.strategy.specs.JoinedLaws.{C0-wellFormed, C0-past, nextNode, next-later, joinedCell}
 use Rattle.strategy.specs.RoundLaws.{C, Round, round-parts}
 use Rattle.strategy.specs.AloneLaws.{MovedCells, shifted, next-below, judgement-next, kept-plus, elim-shifted}
 
@@ -54,6 +56,7 @@ leastOf-off y z (b ∷ bs) h =
 
 module _ (p : Plan) (good : Accepted p) where
   next-far : (y k : ℕ) → k ≡ nextNode p y → 0 < k → k ≤ ownNodes p → ⊥
+  unfolding onto
   next-far zero k e lo hi = omega arith
   next-far (suc y) k e lo hi = let n = next-later p (suc y) (omega arith) in omega arith
 
@@ -124,6 +127,7 @@ module _ (p : Plan) (good : Accepted p) where
 
   module _ (c0 c : Rows) (c0-is : C0 p ≡ bounds c0) (c-judged : JudgedAlready (nodes (p .jobs)) c) (t : Rows) (t-is : joined p c0 c ≡ bounds t) where
     own-off : (y z : ℕ) → at c0 (nextNode p y) (nextNode p z) ≡ off
+    unfolding onto
     own-off zero zero = C0-wellFormed p good c0 c0-is .diagonal 0 (omega arith)
     own-off zero (suc z) = let n = next-later p (suc z) (omega arith) in C0-past p good c0 c0-is 0 (nextNode p (suc z)) (inr (omega arith))
     own-off (suc y) z = let n = next-later p (suc y) (omega arith) in C0-past p good c0 c0-is (nextNode p (suc y)) (nextNode p z) (inl (omega arith))
@@ -137,7 +141,7 @@ module _ (p : Plan) (good : Accepted p) where
     cell-next y z =
         ap₂ (λ a b. least a (least (onNext p c (nextNode p y) (nextNode p z)) b)) (own-off y z) (between-off y z)
         ∙ alone-cell _
-        ∙ onNext-next p c y z
+        ∙ onNext-onto p c y z
 
     pub joined-shifted : MovedCells p (nodes (p .jobs)) (at c) (at t)
     unfolding joined

@@ -3,13 +3,12 @@
 use Prim.Native.Nat.{ℕ, zero, suc, _+_, _*_, _-_, _≤_, _<_}
 use mathlib.Core.Path.{_≡_, refl, sym, ap, ap₂, subst, _∙_}
 use mathlib.Core.Logic.{_⊎_, inl, inr, ⊎-elim}
-use mathlib.Core.Bool.{true, false, cond, or-true}
+use mathlib.Core.Bool.{true}
 use native.Mathlib.Omega.{arith}
-use lib.Dec.{eqb}
 use lib.IntN.{ℤ, pos, negℤ, _+ℤ_, _-ℤ_, _*ℤ_}
 use lib.Signed.{_≤ℤ_}
 use lib.ListN.{length}
-use borrow.Author.Tests.{ne-eqb, le-leb, lt-leb, le-ltb}
+use borrow.Author.Tests.{le-ltb}
 use Rattle.whole.specs.SplitLaws.{split-mul, split-neg, split-add}
 use Rattle.whole.specs.Rules.{wholes}
 use Rattle.whole.specs.Shape.{any, _⊕_, _⊖_, le, eq}
@@ -23,6 +22,9 @@ use Rattle.bounds.specs.Tables.{Cell, off, least, plus, Rows, at, leastOf, cont
 use Rattle.bounds.specs.BuildLaws.{eventOf-start, eventOf-finish, byNode}
 use Rattle.rounds.specs.Given.{ownBounds, betweenBounds}
 use Rattle.rounds.specs.Rounds.{C0, ownNodes, isOwn, moved, onNext, joined}
+use Rattle.rounds.specs.Next.{onto}
+use Rattle.rounds.specs.OnNextLaws as on-next
+use Rattle.rounds.specs.OnNextLaws.{onto-event, movedBy-event, onNext-onto}
 use Rattle.strategy.specs.Histories.{History, onWindow, seenFrom, turn}
 use Rattle.strategy.specs.Strategies.{ranIn}
 use Rattle.strategy.specs.Keeping.{Holds, when, gap, Keeps, RunsInside, OriginBounded, NodesSeen}
@@ -90,14 +92,14 @@ module _ (p : Plan) (good : Accepted p) where
 
 -- where a node stands when its set is put on the next window
 abbrev pub nextNode : Plan → ℕ → ℕ
-nextNode p y = cond (eqb y 0) 0 (y + ownNodes p)
+nextNode p y = onto (p .jobs) y
 
 module _ (p : Plan) where
   pub next-later : (y : ℕ) → 0 < y → nextNode p y ≡ y + ownNodes p
-  next-later y h = rw (ne-eqb y 0 (omega arith))
+  next-later y h = sym (onto-event (p .jobs) y (λ e. omega arith))
 
   pub moved-later : (y : ℕ) → 0 < y → moved p y ≡ p .window
-  moved-later y h = rw (ne-eqb y 0 (omega arith))
+  moved-later y h = sym (movedBy-event (p .window) y (λ e. omega arith))
 
   pub event-next-start : (k : ℕ) → eventOf (nextNode p (startNode k)) ≡ Start (p .jobs + k)
   event-next-start k =
@@ -112,41 +114,7 @@ module _ (p : Plan) where
   -- a node of two windows is one of this window's, or one of the next window's or the origin
   own-or-next : (y : ℕ) → y < nodes (p .jobs + p .jobs)
       → (isOwn p y ≡ true) ⊎ ((x : ℕ) × (x < nodes (p .jobs)) × (y ≡ nextNode p x))
-  own-or-next zero h = inr (0, omega arith, refl)
-  own-or-next (suc y) h =
-      ⊎-elim
-      (λ (a : suc y ≤ ownNodes p). inl (rw (le-leb 1 (suc y) (omega arith), le-leb (suc y) (ownNodes p) a)))
-      (λ (a : ownNodes p < suc y).
-      let e : suc y ≡ (suc y - ownNodes p) + ownNodes p = omega arith in
-      inr (suc y - ownNodes p, omega arith, e ∙ sym (next-later (suc y - ownNodes p) (omega arith))))
-      (at-most-or-above (suc y) (ownNodes p))
-
-  next-not-own : (y : ℕ) → isOwn p (nextNode p y) ≡ false
-  next-not-own zero = refl
-  next-not-own (suc y) =
-      rw (next-later (suc y) (omega arith), le-leb 1 (suc y + ownNodes p) (omega arith), lt-leb (suc y + ownNodes p) (ownNodes p) (omega arith))
-
-  next-back : (y : ℕ) → nextNode p y - ownNodes p ≡ y
-  next-back zero = omega arith
-  next-back (suc y) = rw (next-later (suc y) (omega arith)) (omega arith)
-
-  moved-next : (y : ℕ) → moved p (nextNode p y) ≡ moved p y
-  moved-next zero = refl
-  moved-next (suc y) =
-      let e = next-later (suc y) (omega arith) in
-      moved-later (nextNode p (suc y)) (omega arith) ∙ sym (moved-later (suc y) (omega arith))
-
-  pub onNext-next : (t : Rows) (y z : ℕ) → onNext p t (nextNode p y) (nextNode p z) ≡ plus (at t y z) (moved p z -ℤ moved p y)
-  unfolding onNext
-  onNext-next t y z =
-      rw (next-not-own y, next-not-own z)
-      (ap₂ (λ a b. plus (at t a b) (moved p (nextNode p z) -ℤ moved p (nextNode p y))) (next-back y) (next-back z)
-      ∙ ap₂ (λ a b. plus (at t y z) (a -ℤ b)) (moved-next z) (moved-next y))
-
-  onNext-own : (t : Rows) (y z : ℕ) → (isOwn p y ≡ true) ⊎ (isOwn p z ≡ true) → onNext p t y z ≡ off
-  unfolding onNext
-  onNext-own t y z (inl h) = rw h
-  onNext-own t y z (inr h) = rw (h, or-true (isOwn p y))
+  own-or-next y h = ⊎-elim inl (λ e. inr (y - ownNodes p, omega arith, e)) (on-next.own-or-next p y)
 
 -- ---- times of the next window
 
@@ -160,7 +128,7 @@ module _ (p : Plan) (u : History) (two : p .jobs + p .jobs ≤ length u) where
       ran-seen p 1 u k (omega arith) ∙ ap₂ (λ w i. onWindow w (ranIn u i)) (one-window (p .window)) e
 
   when-next : (y : ℕ) → y < nodes (p .jobs) → when (seenFrom p 1 u) (eventOf y) ≡ when u (eventOf (nextNode p y)) -ℤ moved p y
-  unfolding eventOf
+  unfolding eventOf onto
   when-next =
       byNode (λ y. y < nodes (p .jobs) → when (seenFrom p 1 u) (eventOf y) ≡ when u (eventOf (nextNode p y)) -ℤ moved p y)
       (λ h. refl)
@@ -223,14 +191,16 @@ back-below x e w h = omega (reads le (any ⊖ (any ⊖ any)) any, wholes, split-
 
 module _ (p : Plan) (good : Accepted p) (c0 c : Rows) (t0 : WellFormed p (nodes (p .jobs)) c0) (tc : OriginBounded p (nodes (p .jobs)) (at c)) where
   above-next : (y : ℕ) → y < nodes (p .jobs) → 0 < y → (x : ℤ) → Holds (onNext p c 0 (nextNode p y)) x → x ≤ℤ latest p (eventOf (nextNode p y))
+  unfolding onto
   above-next y h i x g =
-      let a : Holds (plus (at c 0 y) (moved p y -ℤ moved p 0)) x = rw (onNext-next p c 0 y) at g in
+      let a : Holds (plus (at c 0 y) (moved p y -ℤ moved p 0)) x = rw (onNext-onto p c 0 y) at g in
       let b = tc .above y h i _ (plus-iff (at c 0 y) (moved p y -ℤ moved p 0) x .0 a) in
       rw (latest-next p y h i) (back-above x (latest p (eventOf y)) (p .window) (rw (moved-later p y i) at b))
 
   below-next : (y : ℕ) → y < nodes (p .jobs) → 0 < y → (x : ℤ) → Holds (onNext p c (nextNode p y) 0) x → x ≤ℤ negℤ (earliest p (eventOf (nextNode p y)))
+  unfolding onto
   below-next y h i x g =
-      let a : Holds (plus (at c y 0) (moved p 0 -ℤ moved p y)) x = rw (onNext-next p c y 0) at g in
+      let a : Holds (plus (at c y 0) (moved p 0 -ℤ moved p y)) x = rw (onNext-onto p c y 0) at g in
       let b = tc .below y h i _ (plus-iff (at c y 0) (moved p 0 -ℤ moved p y) x .0 a) in
       rw (earliest-next p y h i) (back-below x (earliest p (eventOf y)) (p .window) (rw (moved-later p y i) at b))
 
@@ -272,10 +242,11 @@ module _ (p : Plan) (c : Rows) (u : History) (two : p .jobs + p .jobs ≤ length
       ∙ gap-moved (when u (eventOf (nextNode p z))) (when u (eventOf (nextNode p y))) (moved p z) (moved p y)
 
   next-keeps : Keeps (nodes (p .jobs + p .jobs)) (onNext p c) u → Keeps (nodes (p .jobs)) (at c) (seenFrom p 1 u)
+  unfolding onto
   next-keeps kept y z a b =
       rw (gap-next y z a b)
       (plus-iff (at c y z) (moved p z -ℤ moved p y) (gap u (nextNode p y) (nextNode p z)) .0
-      (rw (onNext-next p c y z) at (kept (nextNode p y) (nextNode p z) (low y a) (low z b))))
+      (rw (onNext-onto p c y z) at (kept (nextNode p y) (nextNode p z) (low y a) (low z b))))
     where
       low : (y : ℕ) → y < nodes (p .jobs) → nextNode p y < nodes (p .jobs + p .jobs)
       low zero h = omega arith
@@ -284,15 +255,16 @@ module _ (p : Plan) (c : Rows) (u : History) (two : p .jobs + p .jobs ≤ length
   keeps-next-at : Keeps (nodes (p .jobs)) (at c) (seenFrom p 1 u) → (y z : ℕ) → y < nodes (p .jobs) → z < nodes (p .jobs)
       → Holds (onNext p c (nextNode p y) (nextNode p z)) (gap u (nextNode p y) (nextNode p z))
   keeps-next-at kept y z a b =
-      rw (onNext-next p c y z)
+      rw (onNext-onto p c y z)
       (plus-iff (at c y z) (moved p z -ℤ moved p y) (gap u (nextNode p y) (nextNode p z)) .1
       (rw (gap-next y z a b) at (kept y z a b)))
 
   keeps-next : Keeps (nodes (p .jobs)) (at c) (seenFrom p 1 u) → Keeps (nodes (p .jobs + p .jobs)) (onNext p c) u
+  unfolding onto
   keeps-next kept y z a b =
-      ⊎-elim (λ (h : isOwn p y ≡ true). rw (onNext-own p c y z (inl h)) tt)
+      ⊎-elim (λ (h : isOwn p y ≡ true). rw (on-next.onNext-own p c y z (inl h)) tt)
       (λ (h : (x : ℕ) × (x < nodes (p .jobs)) × (y ≡ nextNode p x)).
-      ⊎-elim (λ (g : isOwn p z ≡ true). rw (onNext-own p c y z (inr g)) tt)
+      ⊎-elim (λ (g : isOwn p z ≡ true). rw (on-next.onNext-own p c y z (inr g)) tt)
       (λ (g : (x : ℕ) × (x < nodes (p .jobs)) × (z ≡ nextNode p x)).
       subst (λ y. Holds (onNext p c y z) (gap u y z)) (sym (h .2))
       (subst (λ z. Holds (onNext p c (nextNode p (h .0)) z) (gap u (nextNode p (h .0)) z)) (sym (g .2))

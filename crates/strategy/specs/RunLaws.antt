@@ -16,11 +16,12 @@ use Rattle.bounds.specs.Events.{eventOf, startNode, finishNode}
 use Rattle.bounds.specs.Tables.{plus, Rows, at}
 use Rattle.bounds.specs.BuildLaws.{eventOf-start, eventOf-finish, byNode}
 use Rattle.rounds.specs.Rounds.{ownNodes, moved}
-use Rattle.calendars.specs.Calendars.{mostEvents}
+use Rattle.events.specs.Bits.{mostEvents}
 use Rattle.runs.specs.declared.Before.the-variants.{Nothing, Window}
 use Rattle.runs.specs.declared.Run.{Run}
 use Rattle.runs.specs.Seen.{timeAt}
 use Rattle.runs.specs.SeenLaws.{firstSeen-most}
+use Rattle.rounds.specs.Next.{onto}
 use Rattle.strategy.specs.Histories.{Ran, History, seenFrom}
 use Rattle.strategy.specs.Strategies.{ranIn}
 use Rattle.strategy.specs.Keeping.{Holds, when}
@@ -61,6 +62,7 @@ module _ (p : Plan) (r : Run) where
   all-force h (suc k) = rw h (omega arith)
 
   next-force : (y : ℕ) → InForce p r (nextNode p y)
+  unfolding onto
   next-force zero = tt
   next-force (suc y) = rw (next-later p (suc y) (omega arith), suc-of y (ownNodes p)) (omega (arith, firstSeen-most (p .jobs) (r .before)))
     where
@@ -69,6 +71,7 @@ module _ (p : Plan) (r : Run) where
 
   -- in the first window only the present window's events are in force
   force-next : r .before ≡ Nothing → (y : ℕ) → InForce p r y → (x : ℕ) × (y ≡ nextNode p x) × ((x ≡ 0) ⊎ (x + ownNodes p ≡ y))
+  unfolding onto
   force-next h zero f = (0, refl, inl refl)
   force-next h (suc k) f =
       let b : 2 * p .jobs ≤ k = rw h at f in
@@ -124,7 +127,7 @@ module _ (p : Plan) (r : Run) where
     window-later a w = let m = split-mul 0 w in omega (shows eq (any ⊖ (any ⊖ any)) (any ⊕ any), wholes)
 
     first-time : (y : ℕ) → y < startNode i → nodeTime p r 0 (nextNode p y) ≡ when h (eventOf y) +ℤ moved p y
-    unfolding eventOf
+    unfolding eventOf onto
     first-time =
         byNode (λ y. y < startNode i → nodeTime p r 0 (nextNode p y) ≡ when h (eventOf y) +ℤ moved p y)
         (λ l. refl)
@@ -218,6 +221,7 @@ module _ (p : Plan) (few : p .jobs ≤ mostJobs) (ts : List Rows) (all : length 
         ∙ gap-column (when h (eventOf y)) (moved p y) t (moved p (startNode i))
 
     next-low : (y : ℕ) → y < startNode i → nextNode p y < s
+    unfolding onto
     next-low zero l = omega arith
     next-low (suc y) l = rw (next-later p (suc y) (omega arith)) (omega arith)
 

@@ -23,8 +23,8 @@ use Rattle.bounds.specs.declared.Judgement.the-variants.{Contradiction, LeftOut
 use Rattle.bounds.specs.Events.{isThis, jobAt, earliest, eventOf, startNode, finishNode}
 use Rattle.bounds.specs.Judgements.{judged}
 use Rattle.bounds.specs.Tables.{Cell, off, upto, Rows, at, build, judgement, isContradiction, keptCell, contradiction, bounds, contradicts, keptRows, judgedSet}
-use Rattle.bounds.specs.BuildLaws.{at-build, at-build-past, anyBelow-some, anyBelow-none, eventOf-start, eventOf-finish, byNode}
-use Rattle.bounds.specs.FitLaws.{from-origin, to-origin}
+use Rattle.bounds.specs.BuildLaws.{at-build, at-build-past, anyBelow-some, anyBelow-none, eventOf-start, eventOf-finish, byNode, not-origin}
+use Rattle.bounds.specs.JudgementsLaws.{judged-from-origin, judged-to-origin}
 use Rattle.strategy.specs.Histories.{History, turn}
 use Rattle.strategy.specs.Keeping.{Holds, gap, Keeps, RunsInside, LongOrShort, EventInRange, OriginBounded, NodesSeen}
 use Rattle.strategy.specs.JudgementLaws.{Fits, FitsAt, judged-left, judged-never}
@@ -130,14 +130,14 @@ keptOf p y z c = keptCell (judgement p y z c) c
 
 -- bounds to and from the origin are kept as they are
 cell-from-origin : (p : Plan) (y : ℕ) (c : Cell) → 0 < y → isContradiction (judgement p 0 y c) ≡ false → keptOf p 0 y c ≡ c
-unfolding judgement
+unfolding judgement eventOf
 cell-from-origin p y off h s = refl
-cell-from-origin p y (upto w) h s = ap (λ j. keptCell j (upto w)) (from-origin p y h w s)
+cell-from-origin p y (upto w) h s = ap (λ j. keptCell j (upto w)) (judged-from-origin p (eventOf y) w (not-origin y h) s)
 
 cell-to-origin : (p : Plan) (y : ℕ) (c : Cell) → 0 < y → isContradiction (judgement p y 0 c) ≡ false → keptOf p y 0 c ≡ c
-unfolding judgement
+unfolding judgement eventOf
 cell-to-origin p y off h s = refl
-cell-to-origin p y (upto w) h s = ap (λ j. keptCell j (upto w)) (to-origin p y h w s)
+cell-to-origin p y (upto w) h s = ap (λ j. keptCell j (upto w)) (judged-to-origin p (eventOf y) w (not-origin y h) s)
 
 -- a bound from an event to itself is never kept
 same-off : (w : ℤ) (b : Bool) → keptCell (cond b Contradiction LeftOut) (upto w) ≡ off

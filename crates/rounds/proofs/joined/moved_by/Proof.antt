@@ -1,7 +1,7 @@
 -- `rounds::joined::moved_by` meets its contract: the two cases of `movedBy`.
 use mathlib.Core.Path.{_∙_}
 use mir.Facts.{toZ-ofZ}
-use Rattle.rounds.specs.NextLaws.{movedBy-origin, movedBy-event}
+use Rattle.rounds.specs.OnNextLaws.{movedBy-origin, movedBy-event}
 use Rattle.rounds.proofs.joined.moved_by.Statement.{statement}
 use Rattle.rounds.proofs.joined.moved_by.Tie as tie
 

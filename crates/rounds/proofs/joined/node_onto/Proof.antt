@@ -1,6 +1,6 @@
 -- `rounds::joined::node_onto` meets its contract: the two cases of `onto`.
 use native.Mathlib.Omega.{arith}
-use Rattle.rounds.specs.NextLaws.{onto-origin, onto-event}
+use Rattle.rounds.specs.OnNextLaws.{onto-origin, onto-event}
 use Rattle.rounds.proofs.joined.node_onto.Statement.{statement}
 use Rattle.rounds.proofs.joined.node_onto.Tie as tie
 

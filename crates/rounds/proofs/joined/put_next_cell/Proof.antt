@@ -13,7 +13,8 @@ use Rattle.bounds.specs.Events.{mostNodes}
 use Rattle.bounds.specs.FitLaws.{ShiftIn}
 use Rattle.rounds.specs.Rounds.{movedBy}
 use Rattle.rounds.specs.Next.{onto}
-use Rattle.rounds.specs.NextLaws.{onto-below, movedBy-in, shift-moving}
+use Rattle.rounds.specs.OnNextLaws.{onto-below}
+use Rattle.rounds.specs.NextLaws.{movedBy-in, shift-moving}
 use Rattle.rounds.proofs.Moved.{shift-back, apart-fits, apart-back, moved-putting}
 use Rattle.rounds.proofs.joined.put_next_cell.Statement.{statement}
 use Rattle.rounds.proofs.joined.put_next_cell.Tie as tie
