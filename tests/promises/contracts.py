@@ -19,13 +19,13 @@ FORMS = (
     # whether there is a contradiction, and else the weights of the nodes that remain
     ('setIn T R (now (X .exit)) ≡ D', None),
     # the times of the nodes of two windows
-    ('Clocked T (R .early) (R .late)', None),
+    ('TimesHeld T (R .early) (R .late)', None),
     # the joined table where a plan is settled
     ('SettledOn T (rowsOf T (now (X .exit)))', None),
 )
 
 # A premise that may stand before a form, and what the function's `requires` must then say: that there is such a plan.
-GIVEN = {'StandingOf': 'Standing'}
+GIVEN = {'TableHeldFor': 'TableHeld'}
 
 # Words of a term that are no names: what is counted, joined or put in front of a list. Every other sign could make an equation a part of something weaker.
 SIGNS = {'+', '-', '*', '^', '++', '∷', '[]', '+ℤ', '&&'}

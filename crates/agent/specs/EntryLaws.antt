@@ -20,12 +20,12 @@ use Rattle.session.specs.Sessions.{dispatchOutput, sessionAnswer}
 use Rattle.agent.specs.Entry.{entryAnswer}
 
 -- a length that the entry returns
-pub record EntryTold (s out : List ℕ) (n : ℕ) : Type 0 where
+pub record EntryAnswered (s out : List ℕ) (n : ℕ) : Type 0 where
   pub room : n ≤ length out
   pub answer : pos n ≡ entryAnswer s out
 
 -- the refusal that it returns
-pub record NoRoomTold (s out : List ℕ) (n : ℕ) : Type 0 where
+pub record EntryNoRoom (s out : List ℕ) (n : ℕ) : Type 0 where
   pub is : n ≡ number NoRoom
   pub answer : negℤ (pos n) ≡ entryAnswer s out
 
@@ -36,22 +36,22 @@ module _ (s out : List ℕ) {r : Written} (d : r ≡ sessionAnswer s out) where
   abbrev by-room : Bool → ℤ
   by-room b = cond b (pos whole) (negℤ (pos (number NoRoom)))
 
-  pub entry-length : (n : ℕ) → r ≡ Length n → EntryTold s out n
+  pub entry-length : (n : ℕ) → r ≡ Length n → EntryAnswered s out n
   unfolding writtenAs entryAnswer
   entry-length n e = of (hasRoom (dispatchOutput s) out) refl (sym e ∙ d)
     where
-      of : (b : Bool) → hasRoom (dispatchOutput s) out ≡ b → Length n ≡ cond b (Length whole) (Refused NoRoom) → EntryTold s out n
+      of : (b : Bool) → hasRoom (dispatchOutput s) out ≡ b → Length n ≡ cond b (Length whole) (Refused NoRoom) → EntryAnswered s out n
       of true h f =
           let is : n ≡ whole = cc in
           let room = leb-true whole (length out) h in
           record { room = omega arith; answer = ap pos is ∙ sym (ap by-room h) }
       of false h f = clash (cc)
 
-  pub entry-refused : (x : Refusal) (n : ℕ) → r ≡ Refused x → n ≡ number x → NoRoomTold s out n
+  pub entry-refused : (x : Refusal) (n : ℕ) → r ≡ Refused x → n ≡ number x → EntryNoRoom s out n
   unfolding writtenAs entryAnswer
   entry-refused x n e q = of (hasRoom (dispatchOutput s) out) refl (sym e ∙ d)
     where
-      of : (b : Bool) → hasRoom (dispatchOutput s) out ≡ b → Refused x ≡ cond b (Length whole) (Refused NoRoom) → NoRoomTold s out n
+      of : (b : Bool) → hasRoom (dispatchOutput s) out ≡ b → Refused x ≡ cond b (Length whole) (Refused NoRoom) → EntryNoRoom s out n
       of true h f = clash (cc)
       of false h f =
           let is : x ≡ NoRoom = cc in

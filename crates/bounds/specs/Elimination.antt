@@ -6,7 +6,7 @@ use lib.Dec.{eqb}
 use lib.IntN.{negℤ}
 use Rattle.plan.specs.declared.Plan.{Plan}
 use Rattle.bounds.specs.Events.{jobAt, startNode, finishNode}
-use Rattle.bounds.specs.Tables.{Cell, off, least, plus, join, Rows, at, Set, contradiction, bounds, judgedSet}
+use Rattle.bounds.specs.Tables.{Cell, off, lesserCell, plus, join, Rows, at, Set, contradiction, bounds, judgedSet}
 
 -- a made bound, where its pair is the one asked for
 abbrev pub onlyIf : Bool → Cell → Cell
@@ -18,8 +18,8 @@ unfoldable pub finishCell : Plan → ℕ → Rows → ℕ → ℕ → Cell
 finishCell p k t y z =
     let s = startNode k in
     let f = finishNode k in
-    least (at t y z)
-    (least (onlyIf (eqb z s) (plus (at t y f) (negℤ (jobAt p k .max))))
+    lesserCell (at t y z)
+    (lesserCell (onlyIf (eqb z s) (plus (at t y f) (negℤ (jobAt p k .max))))
     (onlyIf (eqb y s) (plus (at t f z) (jobAt p k .min))))
 
 abbrev pub withoutFinish : Plan → ℕ → Rows → Set
@@ -29,7 +29,7 @@ withoutFinish p k t = judgedSet p (finishNode k) (finishCell p k t)
 unfoldable pub startCell : ℕ → Rows → ℕ → ℕ → Cell
 startCell k t y z =
     let s = startNode k in
-    least (at t y z) (join (at t y s) (at t s z))
+    lesserCell (at t y z) (join (at t y s) (at t s z))
 
 abbrev pub withoutStart : Plan → ℕ → Rows → Set
 withoutStart p k t = judgedSet p (startNode k) (startCell k t)

@@ -10,7 +10,7 @@ use Rattle.plan.specs.Limits.{longestRunning, latestDeadline}
 use Rattle.plan.specs.Accepted.{Accepted}
 use Rattle.bounds.specs.Events.{jobAt, shift}
 use Rattle.bounds.specs.Spans.{InRange}
-use Rattle.bounds.specs.FitLaws.{jobAt-accepted, ShiftIn, shift-in, running-least, running-most}
+use Rattle.bounds.specs.JudgedTableLaws.{jobAt-accepted, ShiftInRange, shift-in, running-least, running-most}
 
 sum-in : (a b : ℤ) → pos 0 ≤ℤ a → a ≤ℤ latestDeadline → pos 0 ≤ℤ b → b ≤ℤ longestRunning → InRange (a +ℤ b)
 sum-in a b h k l m = record { least = omega wholes; greatest = omega (wholes, split-add a b) }
@@ -19,7 +19,7 @@ gap-in : (a b : ℤ) → pos 0 ≤ℤ a → a ≤ℤ latestDeadline → pos 0 �
 gap-in a b h k l m = record { least = omega wholes; greatest = omega wholes }
 
 -- the numbers of one job of an accepted plan, and the window's shift
-pub record JobIn (j : Job) (h : ℤ) : Type 0 where
+pub record JobInRange (j : Job) (h : ℤ) : Type 0 where
   pub min : InRange (j .min)
   pub max : InRange (j .max)
   pub release : InRange (j .release)
@@ -31,13 +31,13 @@ pub record JobIn (j : Job) (h : ℤ) : Type 0 where
 small : (t : ℤ) → pos 0 ≤ℤ t → t ≤ℤ latestDeadline → InRange t
 small t a b = record { least = omega wholes; greatest = omega wholes }
 
-shift-small : (h : ℤ) → ShiftIn h → InRange h
+shift-small : (h : ℤ) → ShiftInRange h → InRange h
 shift-small h s = record { least = omega wholes; greatest = omega wholes }
 
 most-small : (t : ℤ) → t ≤ℤ longestRunning → t ≤ℤ latestDeadline
 most-small t h = omega wholes
 
-pub job-in : (p : Plan) → Accepted p → (k : ℕ) → k < p .jobs + p .jobs → JobIn (jobAt p k) (shift p k)
+pub job-in : (p : Plan) → Accepted p → (k : ℕ) → k < p .jobs + p .jobs → JobInRange (jobAt p k) (shift p k)
 job-in p a k h =
     let j = jobAt-accepted p a k h in
     let t = jobAt p k in

@@ -17,16 +17,16 @@ use Rattle.bounds.specs.declared.Event.{Event}
 use Rattle.bounds.specs.declared.Event.the-variants.{Origin, Start, Finish}
 use Rattle.bounds.specs.Events.{earliest, latest, eventOf, startNode, finishNode, nodes, mostNodes}
 use Rattle.bounds.specs.BuildLaws.{eventOf-start, eventOf-finish}
-use Rattle.bounds.specs.Spans.{timeAt, InRange}
-use Rattle.bounds.specs.Fit.{Clocked}
-use Rattle.bounds.specs.FitLaws.{earliest-in, latest-in}
+use Rattle.bounds.specs.Spans.{timeOfNode, InRange}
+use Rattle.bounds.specs.Held.{TimesHeld}
+use Rattle.bounds.specs.JudgedTableLaws.{earliest-in, latest-in}
 use Rattle.bounds.specs.StartLaws.{less-or-same}
 
 -- the first n nodes have their times
 pub record Filled (t : Event → ℤ) (n : ℕ) (ts : List ℤ) : Type 0 where
   pub len : length ts ≡ mostNodes
-  pub done : (y : ℕ) → y < n → timeAt ts y ≡ t (eventOf y)
-  pub rest : (y : ℕ) → n ≤ y → y < mostNodes → timeAt ts y ≡ pos 0
+  pub done : (y : ℕ) → y < n → timeOfNode ts y ≡ t (eventOf y)
+  pub rest : (y : ℕ) → n ≤ y → y < mostNodes → timeOfNode ts y ≡ pos 0
 
 filled-more : (t : Event → ℤ) (n : ℕ) (ts : List ℤ) (a : ℤ) → n < mostNodes → a ≡ t (eventOf n) → Filled t n ts → Filled t (n + 1) (set ts n a)
 filled-more t n ts a h e f =
@@ -34,7 +34,7 @@ filled-more t n ts a h e f =
       len = length-set ts n a ∙ f .len;
       done = λ y l.
           ⊎-elim (λ q. getD-set-other ts n y a (pos 0) (λ g. omega arith) ∙ f .done y q)
-          (λ q. subst (λ y. timeAt (set ts n a) y ≡ t (eventOf y)) (sym q) (getD-set-same ts n a (pos 0) (omega (arith, f .len)) ∙ e))
+          (λ q. subst (λ y. timeOfNode (set ts n a) y ≡ t (eventOf y)) (sym q) (getD-set-same ts n a (pos 0) (omega (arith, f .len)) ∙ e))
           (less-or-same y n l);
       rest = λ y l m. getD-set-other ts n y a (pos 0) (λ g. omega arith) ∙ f .rest y (omega arith) m;
     }
@@ -47,7 +47,8 @@ filled-origin t e =
       len = length-replicate mostNodes (pos 0);
       done = λ y h.
           let first : y ≡ 0 = omega arith in
-          subst (λ y. timeAt (replicate mostNodes (pos 0)) y ≡ t (eventOf y)) (sym first) (getD-replicate mostNodes 0 (pos 0) (pos 0) (omega arith) ∙ sym e);
+          subst (λ y. timeOfNode (replicate mostNodes (pos 0)) y ≡ t (eventOf y)) (sym first)
+          (getD-replicate mostNodes 0 (pos 0) (pos 0) (omega arith) ∙ sym e);
       rest = λ y h l. getD-replicate mostNodes y (pos 0) (pos 0) l;
     }
 
@@ -65,10 +66,10 @@ filled-place t k ts a b h d e f =
 -- ---- both arrays
 
 module _ (t : Event → ℤ) (n : ℕ) (ts : List ℤ) (f : Filled t n ts) (known : (y : ℕ) → y < n → InRange (t (eventOf y))) where
-  filled-in : (y : ℕ) → y < mostNodes → InRange (timeAt ts y)
+  filled-in : (y : ℕ) → y < mostNodes → InRange (timeOfNode ts y)
   filled-in y h = by (ltb y n) refl
     where
-      by : (b : Bool) → ltb y n ≡ b → InRange (timeAt ts y)
+      by : (b : Bool) → ltb y n ≡ b → InRange (timeOfNode ts y)
       by true q = let low = ltb-true y n q in subst InRange (sym (f .done y low)) (known y low)
       by false q = subst InRange (sym (f .rest y (ltb-false y n q) h)) (record { least = omega wholes; greatest = omega wholes })
 
@@ -80,8 +81,8 @@ module _ (p : Plan) (a : Accepted p) (early late : List ℤ)
   late-known : (y : ℕ) → y < nodes (p .jobs + p .jobs) → InRange (latest p (eventOf y))
   late-known y h = let r = latest-in p a y h in let low = r .least in let high = r .greatest in record { least = omega wholes; greatest = omega wholes }
 
-  pub filled-clocked : Clocked p early late
-  filled-clocked =
+  pub filled-times-held : TimesHeld p early late
+  filled-times-held =
       record {
         accepted = a;
         times = record { earliest-at = λ y h. e .done y h; latest-at = λ y h. l .done y h };

@@ -21,14 +21,29 @@ use Rattle.bounds.specs.declared.Judgement.the-variants.{Kept}
 use Rattle.bounds.specs.Events.{startNode, finishNode, eventOf, jobAt, mostNodes}
 use Rattle.bounds.specs.Judgements.{judged}
 use Rattle.bounds.specs.JudgementsLaws.{judged-running, judged-reverse}
-use Rattle.bounds.specs.Tables.{Cell, off, upto, least, plus, at, contradiction, bounds, judgement, isContradiction, judgedSet}
+use Rattle.bounds.specs.Tables.{Cell, off, upto, lesserCell, plus, at, contradiction, bounds, judgement, isContradiction, judgedSet}
 use Rattle.bounds.specs.Elimination.{onlyIf, finishCell, withoutFinish}
 use Rattle.bounds.specs.BuildLaws.{at-build, eventOf-start, eventOf-finish}
-use Rattle.bounds.specs.TablesLaws.{least-off, off-least, plus-off, JudgedCell, KeptCell, judged-again, Contradicted, judgedSet-ext}
+use Rattle.bounds.specs.TablesLaws.{lesserCell-off, off-least, plus-off, JudgedCell, KeptCell, judged-again, Contradicted, judgedSet-ext}
 use Rattle.bounds.specs.Spans.{Times}
 use Rattle.bounds.specs.SpansLaws.{judgedAt-is}
-use Rattle.bounds.specs.Flat.{noBound, place, weightAt, cellOf, cellAt, rowsOf, Weighed, Moving, flat, putAt, thenFlat, movedAt, movedRows, cells}
-use Rattle.bounds.specs.FlatLaws.{putAt-none, putAt-same, putAt-length, Outcome, thenFlat-outcome, eachNode-outcome}
+use Rattle.bounds.specs.Flat.{
+  noBoundMark,
+  place,
+  weightAt,
+  cellOf,
+  cellAt,
+  rowsOf,
+  WeightInRange,
+  MoveInRange,
+  flat,
+  putAt,
+  thenFlat,
+  movedAt,
+  movedRows,
+  cells,
+}
+use Rattle.bounds.specs.FlatLaws.{putAt-none, putAt-same, putAt-length, FlatOutcome, thenFlat-outcome, eachNode-outcome}
 use Rattle.bounds.specs.PutLaws.{mark-of-off, putAt-left}
 use Rattle.bounds.specs.StartLaws.{place-one, less-or-same, answer-is}
 
@@ -51,11 +66,11 @@ reverse-off p k c h =
 -- ---- sums
 
 -- a weight that is moved stays below the mark, and fits
-pub moved-low : (v a : ℤ) → Weighed v → Moving a → eqZ v noBound ≡ false → (v +ℤ a) <ℤ noBound
+pub moved-low : (v a : ℤ) → WeightInRange v → MoveInRange a → eqZ v noBoundMark ≡ false → (v +ℤ a) <ℤ noBoundMark
 moved-low v a h m e = let most = h .greatest e in omega wholes
 
-pub moved-sum : (v a : ℤ) → Weighed v → Moving a → eqZ v noBound ≡ false → SFits w32 (v +ℤ a)
-moved-sum v a h m e = let least = h .least e in let most = h .greatest e in omega wholes
+pub moved-sum : (v a : ℤ) → WeightInRange v → MoveInRange a → eqZ v noBoundMark ≡ false → SFits w32 (v +ℤ a)
+moved-sum v a h m e = let lesserCell = h .least e in let most = h .greatest e in omega wholes
 
 -- ---- places of two rows, or of two columns
 
@@ -73,29 +88,30 @@ module _ (p : Plan) (early late : List ℤ) (s f : ℕ) (less more : ℤ) (ws : 
     (order : s < f)
     (size : length ws ≡ cells)
     (kept : (y z : ℕ) → y < suc f → z < suc f → KeptCell p y z (cellAt ws y z))
-    (weighed : (y z : ℕ) → y < suc f → z < suc f → Weighed (weightAt ws y z))
+    (weighed : (y z : ℕ) → y < suc f → z < suc f → WeightInRange (weightAt ws y z))
     (running : cellAt ws s f ≡ off)
     (reverse : cellAt ws f s ≡ off)
-    (less-moves : Moving less)
-    (more-moves : Moving more) where
+    (less-moves : MoveInRange less)
+    (more-moves : MoveInRange more) where
   -- the made cell
   abbrev made : ℕ → ℕ → Cell
   made y z =
-      least (cellAt ws y z) (least (onlyIf (eqb z s) (plus (cellAt ws y f) less)) (onlyIf (eqb y s) (plus (cellAt ws f z) more)))
+      lesserCell (cellAt ws y z) (lesserCell (onlyIf (eqb z s) (plus (cellAt ws y f) less)) (onlyIf (eqb y s) (plus (cellAt ws f z) more)))
 
-  made-column : (y : ℕ) → (y ≡ s → ⊥) → made y s ≡ least (cellAt ws y s) (plus (cellAt ws y f) less)
-  made-column y n = rw (eq-eqb s s refl, ne-eqb y s n) (ap (least (cellAt ws y s)) (least-off (plus (cellAt ws y f) less)))
+  made-column : (y : ℕ) → (y ≡ s → ⊥) → made y s ≡ lesserCell (cellAt ws y s) (plus (cellAt ws y f) less)
+  made-column y n = rw (eq-eqb s s refl, ne-eqb y s n) (ap (lesserCell (cellAt ws y s)) (lesserCell-off (plus (cellAt ws y f) less)))
 
-  made-row : (z : ℕ) → (z ≡ s → ⊥) → made s z ≡ least (cellAt ws s z) (plus (cellAt ws f z) more)
-  made-row z n = rw (eq-eqb s s refl, ne-eqb z s n) (ap (least (cellAt ws s z)) (off-least (plus (cellAt ws f z) more)))
+  made-row : (z : ℕ) → (z ≡ s → ⊥) → made s z ≡ lesserCell (cellAt ws s z) (plus (cellAt ws f z) more)
+  made-row z n = rw (eq-eqb s s refl, ne-eqb z s n) (ap (lesserCell (cellAt ws s z)) (off-least (plus (cellAt ws f z) more)))
 
   made-start : made s s ≡ cellAt ws s s
   made-start =
       rw (eq-eqb s s refl, running, reverse)
-      (ap₂ (λ c d. least (cellAt ws s s) (least c d)) (plus-off less) (plus-off more) ∙ ap (least (cellAt ws s s)) (off-least off) ∙ least-off (cellAt ws s s))
+      (ap₂ (λ c d. lesserCell (cellAt ws s s) (lesserCell c d)) (plus-off less) (plus-off more) ∙ ap (lesserCell (cellAt ws s s)) (off-least off)
+      ∙ lesserCell-off (cellAt ws s s))
 
   made-other : (y z : ℕ) → (y ≡ s → ⊥) → (z ≡ s → ⊥) → made y z ≡ cellAt ws y z
-  made-other y z m n = rw (ne-eqb y s m, ne-eqb z s n) (ap (least (cellAt ws y z)) (off-least off) ∙ least-off (cellAt ws y z))
+  made-other y z m n = rw (ne-eqb y s m, ne-eqb z s n) (ap (lesserCell (cellAt ws y z)) (off-least off) ∙ lesserCell-off (cellAt ws y z))
 
   record Stage (y : ℕ) (us : List ℤ) : Type 0 where
     len : length us ≡ cells
@@ -126,24 +142,24 @@ module _ (p : Plan) (early late : List ℤ) (s f : ℕ) (less more : ℤ) (ws : 
       → z < f
       → a < suc f
       → b < suc f
-      → Moving m
+      → MoveInRange m
       → length us ≡ cells
       → cellAt us y z ≡ cellAt ws y z
       → weightAt us a b ≡ weightAt ws a b
-      → made y z ≡ least (cellAt ws y z) (plus (cellAt ws a b) m)
-      → Outcome (λ vs. JudgedCell p y z (made y z) (cellAt vs y z)) (isContradiction (judgement p y z (made y z)) ≡ true)
+      → made y z ≡ lesserCell (cellAt ws y z) (plus (cellAt ws a b) m)
+      → FlatOutcome (λ vs. JudgedCell p y z (made y z) (cellAt vs y z)) (isContradiction (judgement p y z (made y z)) ≡ true)
       (putAt early late y z (weightAt us a b) m us)
   put-moved y z a b m us i j k l moves len here there cell =
       subst
       (λ c.
-      Outcome (λ vs. JudgedCell p y z c (cellAt vs y z)) (isContradiction (judgement p y z c) ≡ true) (putAt early late y z (weightAt us a b) m us))
-      (ap₂ least here (ap (λ v. plus (cellOf v) m) there) ∙ sym cell)
+      FlatOutcome (λ vs. JudgedCell p y z c (cellAt vs y z)) (isContradiction (judgement p y z c) ≡ true) (putAt early late y z (weightAt us a b) m us))
+      (ap₂ lesserCell here (ap (λ v. plus (cellOf v) m) there) ∙ sym cell)
       (putAt-left p early late y z us (judgedAt-is p (suc f) early late times y z (omega arith) (omega arith))
       (omega (arith, len))
       (subst (λ c. KeptCell p y z c) (sym here) (kept y z (omega arith) (omega arith)))
       (weightAt us a b)
       m
-      (moved-low (weightAt us a b) m (subst Weighed (sym there) (weighed a b k l)) moves))
+      (moved-low (weightAt us a b) m (subst WeightInRange (sym there) (weighed a b k l)) moves))
 
   -- between the two cells of node y: the first is written
   record Half (y : ℕ) (us vs : List ℤ) : Type 0 where
@@ -152,7 +168,7 @@ module _ (p : Plan) (early late : List ℤ) (s f : ℕ) (less more : ℤ) (ws : 
     same : (u x : ℕ) → x < mostNodes → (place u x ≡ place y s → ⊥) → weightAt vs u x ≡ weightAt us u x
 
   first-half : (y : ℕ) (us : List ℤ) → y < f → (y ≡ s → ⊥) → Stage y us
-      → Outcome (Half y us) (Contradicted p f made) (putAt early late y s (weightAt us y f) less us)
+      → FlatOutcome (Half y us) (Contradicted p f made) (putAt early late y s (weightAt us y f) less us)
   first-half y us l n g =
       let o =
       put-moved y s y f less us l order (omega arith) (omega arith) less-moves (g .len)
@@ -170,7 +186,7 @@ module _ (p : Plan) (early late : List ℤ) (s f : ℕ) (less more : ℤ) (ws : 
       }
 
   second-half : (y : ℕ) (us vs : List ℤ) → y < f → (y ≡ s → ⊥) → Stage y us → Half y us vs
-      → Outcome (Stage (y + 1)) (Contradicted p f made) (putAt early late s y (weightAt vs f y) more vs)
+      → FlatOutcome (Stage (y + 1)) (Contradicted p f made) (putAt early late s y (weightAt vs f y) more vs)
   second-half y us vs l n g h =
       let low : y < mostNodes = omega arith in
       let start-low : s < mostNodes = omega arith in
@@ -222,21 +238,21 @@ module _ (p : Plan) (early late : List ℤ) (s f : ℕ) (less more : ℤ) (ws : 
   nothing-moved : (us : List ℤ) → Stage s us → movedAt early late s f less more s us ≡ flat false us
   unfolding movedAt
   nothing-moved us g =
-      let ahead : eqZ (weightAt us s f) noBound ≡ true
-      = ap (λ w. eqZ w noBound) (g .rest-row f (omega arith) (omega arith)) ∙ mark-of-off (weightAt ws s f) running in
-      let back : eqZ (weightAt us f s) noBound ≡ true
-      = ap (λ w. eqZ w noBound) (g .rest-column f (omega arith) (omega arith)) ∙ mark-of-off (weightAt ws f s) reverse in
+      let ahead : eqZ (weightAt us s f) noBoundMark ≡ true
+      = ap (λ w. eqZ w noBoundMark) (g .rest-row f (omega arith) (omega arith)) ∙ mark-of-off (weightAt ws s f) running in
+      let back : eqZ (weightAt us f s) noBoundMark ≡ true
+      = ap (λ w. eqZ w noBoundMark) (g .rest-column f (omega arith) (omega arith)) ∙ mark-of-off (weightAt ws f s) reverse in
       ap (λ r. thenFlat r (λ us. putAt early late s s (weightAt us f s) more us)) (sym (putAt-none early late s s (weightAt us s f) less us ahead))
       ∙ sym (putAt-none early late s s (weightAt us f s) more us back)
 
   node-by : (y : ℕ) (us : List ℤ) → y < f → Stage y us → (b : Bool) → eqb y s ≡ b
-      → Outcome (Stage (y + 1)) (Contradicted p f made) (movedAt early late s f less more y us)
+      → FlatOutcome (Stage (y + 1)) (Contradicted p f made) (movedAt early late s f less more y us)
   unfolding movedAt
   node-by y us l g true e =
       let same : y ≡ s = eqb-true y s e in
-      subst (λ y. Stage y us → Outcome (Stage (y + 1)) (Contradicted p f made) (movedAt early late s f less more y us)) (sym same)
+      subst (λ y. Stage y us → FlatOutcome (Stage (y + 1)) (Contradicted p f made) (movedAt early late s f less more y us)) (sym same)
       (λ g.
-      subst (λ r. Outcome (Stage (s + 1)) (Contradicted p f made) r) (sym (nothing-moved us g))
+      subst (λ r. FlatOutcome (Stage (s + 1)) (Contradicted p f made) r) (sym (nothing-moved us g))
       (record { fails = λ q. clash (cc); keeps = λ q. stage-start us g }))
       g
   node-by y us l g false e =
@@ -246,7 +262,7 @@ module _ (p : Plan) (early late : List ℤ) (s f : ℕ) (less more : ℤ) (ws : 
       (first-half y us l n g)
       (λ vs h. second-half y us vs l n g h)
 
-  rows-outcome : Outcome (Stage f) (Contradicted p f made) (movedRows early late s f less more ws)
+  rows-outcome : FlatOutcome (Stage f) (Contradicted p f made) (movedRows early late s f less more ws)
   rows-outcome =
       eachNode-outcome (movedAt early late s f less more) f Stage (Contradicted p f made) (λ y us l g. node-by y us l g (eqb y s) refl) 0 f (omega arith) ws
       (record {
@@ -283,9 +299,9 @@ pub withoutFinish-is : (p : Plan) (early late : List ℤ) (k : ℕ) (ws : List �
     → finishNode k < mostNodes
     → length ws ≡ cells
     → ((y z : ℕ) → y < suc (finishNode k) → z < suc (finishNode k) → KeptCell p y z (cellAt ws y z))
-    → ((y z : ℕ) → y < suc (finishNode k) → z < suc (finishNode k) → Weighed (weightAt ws y z))
-    → Moving (negℤ (jobAt p k .max))
-    → Moving (jobAt p k .min)
+    → ((y z : ℕ) → y < suc (finishNode k) → z < suc (finishNode k) → WeightInRange (weightAt ws y z))
+    → MoveInRange (negℤ (jobAt p k .max))
+    → MoveInRange (jobAt p k .min)
     → let r = movedRows early late (startNode k) (finishNode k) (negℤ (jobAt p k .max)) (jobAt p k .min) ws in
     cond (r .found) contradiction (bounds (rowsOf (finishNode k) (r .weights))) ≡ withoutFinish p k (rowsOf (suc (finishNode k)) ws)
 unfolding finishCell
@@ -301,7 +317,7 @@ withoutFinish-is p early late k ws times node size kept weighed less-moves more-
     ∙ judgedSet-ext p f _ _
     (λ y z a b.
     sym
-    (ap₂ least (same y z (omega arith) (omega arith))
-    (ap₂ (λ c d. least (onlyIf (eqb z s) (plus c (negℤ (jobAt p k .max)))) (onlyIf (eqb y s) (plus d (jobAt p k .min))))
+    (ap₂ lesserCell (same y z (omega arith) (omega arith))
+    (ap₂ (λ c d. lesserCell (onlyIf (eqb z s) (plus c (negℤ (jobAt p k .max)))) (onlyIf (eqb y s) (plus d (jobAt p k .min))))
     (same y f (omega arith) (omega arith))
     (same f z (omega arith) (omega arith)))))

@@ -17,7 +17,7 @@ use Rattle.bounds.specs.declared.Judgement.{Judgement}
 use Rattle.bounds.specs.declared.Judgement.the-variants.{Contradiction, LeftOut, Kept}
 use Rattle.bounds.specs.Events.{nodeOf, mostNodes}
 use Rattle.bounds.specs.Tables.{Cell, off, upto, Rows, listed, build, Between, Set, contradiction, bounds}
-use Rattle.bounds.specs.Spans.{judgedAt, Timed}
+use Rattle.bounds.specs.Spans.{judgedAt, TimesInRange}
 
 -- ---- the rows that an array holds
 
@@ -32,8 +32,8 @@ cells = side * side
 abbrev pub markNumber : ℕ
 markNumber = 2147483647
 
-abbrev pub noBound : ℤ
-noBound = pos markNumber
+abbrev pub noBoundMark : ℤ
+noBoundMark = pos markNumber
 
 abbrev pub place : ℕ → ℕ → ℕ
 place y z = y * side + z
@@ -42,7 +42,7 @@ abbrev pub weightAt : List ℤ → ℕ → ℕ → ℤ
 weightAt ws y z = getD ws (place y z) (pos 0)
 
 unfoldable pub cellOf : ℤ → Cell
-cellOf w = cond (eqZ w noBound) off (upto w)
+cellOf w = cond (eqZ w noBoundMark) off (upto w)
 
 abbrev pub cellAt : List ℤ → ℕ → ℕ → Cell
 cellAt ws y z = cellOf (weightAt ws y z)
@@ -67,7 +67,7 @@ flat found ws = record { found = found; weights = ws }
 
 abbrev pub stored : Judgement → ℕ → ℤ → List ℤ → Flat
 stored Contradiction i w ws = flat true ws
-stored LeftOut i w ws = flat false (set ws i noBound)
+stored LeftOut i w ws = flat false (set ws i noBoundMark)
 stored Kept i w ws = flat false (set ws i w)
 
 -- z - y <= w, where that is less than what stands there
@@ -76,11 +76,11 @@ keptAt early late y z w ws = cond (leZ (weightAt ws y z) w) (flat false ws) (sto
 
 -- a bound v, where there is one, moved by a and put at z - y
 unfoldable pub putAt : List ℤ → List ℤ → ℕ → ℕ → ℤ → ℤ → List ℤ → Flat
-putAt early late y z v a ws = cond (eqZ v noBound) (flat false ws) (keptAt early late y z (v +ℤ a) ws)
+putAt early late y z v a ws = cond (eqZ v noBoundMark) (flat false ws) (keptAt early late y z (v +ℤ a) ws)
 
 -- what it takes to put a bound: a sum that fits
-abbrev pub Putting : ℤ → ℤ → Type 0
-Putting v a = eqZ v noBound ≡ false → SFits w32 (v +ℤ a)
+abbrev pub SumFits : ℤ → ℤ → Type 0
+SumFits v a = eqZ v noBoundMark ≡ false → SFits w32 (v +ℤ a)
 
 -- what follows an array in which no contradiction was found
 abbrev pub thenFlat : Flat → (List ℤ → Flat) → Flat
@@ -99,7 +99,7 @@ putBounds early late (b ∷ bs) ws =
 
 -- the array without a bound
 abbrev pub noBounds : List ℤ
-noBounds = replicate cells noBound
+noBounds = replicate cells noBoundMark
 
 -- ---- a start s eliminated
 
@@ -111,7 +111,7 @@ abbrev pub joinedCells : List ℤ → List ℤ → ℕ → ℕ → ℤ → List 
 joinedCells early late s y w = eachNode (joinedAt early late s y w) 0 s
 
 abbrev pub isBound : ℤ → Bool
-isBound w = not (eqZ w noBound)
+isBound w = not (eqZ w noBoundMark)
 
 abbrev pub isBounded : List ℤ → ℕ → ℕ → Bool
 isBounded ws s z = isBound (weightAt ws s z)
@@ -127,7 +127,7 @@ HasBounded ws s set = (z : ℕ) → z < s → hasEvent z (bitsOf set) ≡ isBoun
 unfoldable pub joinedRow : List ℤ → List ℤ → ℕ → ℕ → List ℤ → Flat
 joinedRow early late s y ws =
     let w = weightAt ws y s in
-    cond (eqZ w noBound) (flat false ws) (joinedCells early late s y w ws)
+    cond (eqZ w noBoundMark) (flat false ws) (joinedCells early late s y w ws)
 
 abbrev pub joinedRows : List ℤ → List ℤ → ℕ → List ℤ → Flat
 joinedRows early late s = eachNode (joinedRow early late s) 0 s
@@ -149,58 +149,58 @@ abbrev pub greatestWeight : ℤ
 greatestWeight = latestDeadline +ℤ longestWindow
 
 -- a weight is the mark, or lies in this range
-pub record Weighed (w : ℤ) : Type 0 where
-  pub least : eqZ w noBound ≡ false → negℤ greatestWeight ≤ℤ w
-  pub greatest : eqZ w noBound ≡ false → w ≤ℤ greatestWeight
+pub record WeightInRange (w : ℤ) : Type 0 where
+  pub least : eqZ w noBoundMark ≡ false → negℤ greatestWeight ≤ℤ w
+  pub greatest : eqZ w noBoundMark ≡ false → w ≤ℤ greatestWeight
 
 -- by how much bounds move: those of a finish by a running time, and those that are put on the next window by a window, which is at most as long
-pub record Moving (a : ℤ) : Type 0 where
+pub record MoveInRange (a : ℤ) : Type 0 where
   pub least : negℤ longestRunning ≤ℤ a
   pub greatest : a ≤ℤ longestRunning
 
-abbrev pub AllTimed : List ℤ → List ℤ → Type 0
-AllTimed early late = (y : ℕ) → y < mostNodes → Timed early late y
+abbrev pub AllTimesInRange : List ℤ → List ℤ → Type 0
+AllTimesInRange early late = (y : ℕ) → y < mostNodes → TimesInRange early late y
 
 -- what each function of the elimination of the start s rests on: times in range, and weights in range in row s and in column s
 pub record JoinsCells (early late : List ℤ) (s : ℕ) (set : Events) (y : ℕ) (w : ℤ) (ws : List ℤ) : Type 0 where
-  pub times : AllTimed early late
+  pub times : AllTimesInRange early late
   pub node : s < mostNodes
   pub before : y < s
   pub bounded : HasBounded ws s set
-  pub on : eqZ w noBound ≡ false
-  pub weighed : Weighed w
-  pub row : (z : ℕ) → z < s → Weighed (weightAt ws s z)
+  pub on : eqZ w noBoundMark ≡ false
+  pub weighed : WeightInRange w
+  pub row : (z : ℕ) → z < s → WeightInRange (weightAt ws s z)
 
 pub record JoinsRow (early late : List ℤ) (s : ℕ) (set : Events) (y : ℕ) (ws : List ℤ) : Type 0 where
-  pub times : AllTimed early late
+  pub times : AllTimesInRange early late
   pub node : s < mostNodes
   pub before : y < s
   pub bounded : HasBounded ws s set
-  pub weighed : Weighed (weightAt ws y s)
-  pub row : (z : ℕ) → z < s → Weighed (weightAt ws s z)
+  pub weighed : WeightInRange (weightAt ws y s)
+  pub row : (z : ℕ) → z < s → WeightInRange (weightAt ws s z)
 
 pub record JoinsRows (early late : List ℤ) (s : ℕ) (ws : List ℤ) : Type 0 where
-  pub times : AllTimed early late
+  pub times : AllTimesInRange early late
   pub node : s < mostNodes
-  pub column : (y : ℕ) → y < s → Weighed (weightAt ws y s)
-  pub row : (z : ℕ) → z < s → Weighed (weightAt ws s z)
+  pub column : (y : ℕ) → y < s → WeightInRange (weightAt ws y s)
+  pub row : (z : ℕ) → z < s → WeightInRange (weightAt ws s z)
 
 -- and the same of the finish f of the start s
 pub record MovesAt (early late : List ℤ) (s f : ℕ) (less more : ℤ) (y : ℕ) (ws : List ℤ) : Type 0 where
-  pub times : AllTimed early late
+  pub times : AllTimesInRange early late
   pub node : f < mostNodes
   pub order : s < f
   pub before : y < f
-  pub less-moves : Moving less
-  pub more-moves : Moving more
-  pub column : Weighed (weightAt ws y f)
-  pub row : Weighed (weightAt ws f y)
+  pub less-moves : MoveInRange less
+  pub more-moves : MoveInRange more
+  pub column : WeightInRange (weightAt ws y f)
+  pub row : WeightInRange (weightAt ws f y)
 
 pub record MovesRows (early late : List ℤ) (s f : ℕ) (less more : ℤ) (ws : List ℤ) : Type 0 where
-  pub times : AllTimed early late
+  pub times : AllTimesInRange early late
   pub node : f < mostNodes
   pub order : s < f
-  pub less-moves : Moving less
-  pub more-moves : Moving more
-  pub column : (y : ℕ) → y < f → Weighed (weightAt ws y f)
-  pub row : (z : ℕ) → z < f → Weighed (weightAt ws f z)
+  pub less-moves : MoveInRange less
+  pub more-moves : MoveInRange more
+  pub column : (y : ℕ) → y < f → WeightInRange (weightAt ws y f)
+  pub row : (z : ℕ) → z < f → WeightInRange (weightAt ws f z)

@@ -28,7 +28,7 @@ use Rattle.bounds.specs.Tables.{listed, Between}
 use Rattle.bounds.specs.Spans.{judgedAt}
 use Rattle.bounds.specs.Flat.{
   markNumber,
-  noBound,
+  noBoundMark,
   place,
   weightAt,
   Flat,
@@ -54,15 +54,15 @@ use Rattle.bounds.specs.BuildLaws.{length-listed, hasEvent-listed}
 use Rattle.bounds.specs.TablesLaws.{listed-ext}
 
 module _ (early late : List ℤ) (y z : ℕ) (v a : ℤ) (ws : List ℤ) where
-  pub putAt-none : eqZ v noBound ≡ true → flat false ws ≡ putAt early late y z v a ws
+  pub putAt-none : eqZ v noBoundMark ≡ true → flat false ws ≡ putAt early late y z v a ws
   unfolding putAt
   putAt-none e = rw e
 
-  pub putAt-more : eqZ v noBound ≡ false → leZ (weightAt ws y z) (v +ℤ a) ≡ true → flat false ws ≡ putAt early late y z v a ws
+  pub putAt-more : eqZ v noBoundMark ≡ false → leZ (weightAt ws y z) (v +ℤ a) ≡ true → flat false ws ≡ putAt early late y z v a ws
   unfolding putAt keptAt
   putAt-more e l = rw (e, l)
 
-  pub putAt-judged : (j : Judgement) → eqZ v noBound ≡ false → leZ (weightAt ws y z) (v +ℤ a) ≡ false
+  pub putAt-judged : (j : Judgement) → eqZ v noBoundMark ≡ false → leZ (weightAt ws y z) (v +ℤ a) ≡ false
       → judgedAt early late y z (v +ℤ a) ≡ j → stored j (place y z) (v +ℤ a) ws ≡ putAt early late y z v a ws
   unfolding putAt keptAt
   putAt-judged j e l h = rw (e, l, h)
@@ -71,7 +71,7 @@ module _ (early late : List ℤ) (y z : ℕ) (v a : ℤ) (ws : List ℤ) where
 
 stored-same : (j : Judgement) (at : ℕ) (w : ℤ) (ws : List ℤ) (i : ℕ) (d : ℤ) → (i ≡ at → ⊥) → getD (stored j at w ws .weights) i d ≡ getD ws i d
 stored-same Contradiction at w ws i d n = refl
-stored-same LeftOut at w ws i d n = getD-set-other ws at i noBound d n
+stored-same LeftOut at w ws i d n = getD-set-other ws at i noBoundMark d n
 stored-same Kept at w ws i d n = getD-set-other ws at i w d n
 
 either : (b : Bool) (r : Flat) (ws : List ℤ) (i : ℕ) (d : ℤ) → getD (r .weights) i d ≡ getD ws i d
@@ -83,13 +83,13 @@ pub putAt-same : (early late : List ℤ) (y z : ℕ) (v a : ℤ) (ws : List ℤ)
     → getD (putAt early late y z v a ws .weights) i d ≡ getD ws i d
 unfolding putAt keptAt
 putAt-same early late y z v a ws i d n =
-    either (eqZ v noBound) _ ws i d
+    either (eqZ v noBoundMark) _ ws i d
     (either (leZ (weightAt ws y z) (v +ℤ a)) _ ws i d
     (stored-same (judgedAt early late y z (v +ℤ a)) (place y z) (v +ℤ a) ws i d n))
 
 storedCell-length : (j : Judgement) (at : ℕ) (w : ℤ) (ws : List ℤ) → length (stored j at w ws .weights) ≡ length ws
 storedCell-length Contradiction at w ws = refl
-storedCell-length LeftOut at w ws = length-set ws at noBound
+storedCell-length LeftOut at w ws = length-set ws at noBoundMark
 storedCell-length Kept at w ws = length-set ws at w
 
 either-length : (b : Bool) (r : Flat) (ws : List ℤ) → length (r .weights) ≡ length ws → length (cond b (flat false ws) r .weights) ≡ length ws
@@ -99,7 +99,7 @@ either-length false r ws h = h
 pub putAt-length : (early late : List ℤ) (y z : ℕ) (v a : ℤ) (ws : List ℤ) → length (putAt early late y z v a ws .weights) ≡ length ws
 unfolding putAt keptAt
 putAt-length early late y z v a ws =
-    either-length (eqZ v noBound) _ ws
+    either-length (eqZ v noBoundMark) _ ws
     (either-length (leZ (weightAt ws y z) (v +ℤ a)) _ ws
     (storedCell-length (judgedAt early late y z (v +ℤ a)) (place y z) (v +ℤ a) ws))
 
@@ -138,7 +138,7 @@ module _ (step : ℕ → List ℤ → Flat) (n y : ℕ) (ws : List ℤ) where
 -- ---- what every step keeps, the loop keeps
 
 -- what holds of an array where no contradiction was found, and what holds where one was
-pub record Outcome (P : List ℤ → Type 0) (F : Type 0) (r : Flat) : Type 0 where
+pub record FlatOutcome (P : List ℤ → Type 0) (F : Type 0) (r : Flat) : Type 0 where
   pub fails : r .found ≡ true → F
   pub keeps : r .found ≡ false → P (r .weights)
 
@@ -151,13 +151,13 @@ pub thenFlat-keeps : (P : List ℤ → Type 0) (r : Flat) (f : List ℤ → Flat
     → P (thenFlat r f .weights)
 thenFlat-keeps P r f h g = kept-then P r f (r .found) refl h g
 
-outcome-then : (P Q : List ℤ → Type 0) (F : Type 0) (r : Flat) (f : List ℤ → Flat) (b : Bool) → r .found ≡ b → Outcome P F r
-    → ((us : List ℤ) → P us → Outcome Q F (f us)) → Outcome Q F (cond b r (f (r .weights)))
+outcome-then : (P Q : List ℤ → Type 0) (F : Type 0) (r : Flat) (f : List ℤ → Flat) (b : Bool) → r .found ≡ b → FlatOutcome P F r
+    → ((us : List ℤ) → P us → FlatOutcome Q F (f us)) → FlatOutcome Q F (cond b r (f (r .weights)))
 outcome-then P Q F r f true e o g = record { fails = λ h. o .fails e; keeps = λ h. clash (cc) }
 outcome-then P Q F r f false e o g = g (r .weights) (o .keeps e)
 
-pub thenFlat-outcome : (P Q : List ℤ → Type 0) (F : Type 0) (r : Flat) (f : List ℤ → Flat) → Outcome P F r
-    → ((us : List ℤ) → P us → Outcome Q F (f us)) → Outcome Q F (thenFlat r f)
+pub thenFlat-outcome : (P Q : List ℤ → Type 0) (F : Type 0) (r : Flat) (f : List ℤ → Flat) → FlatOutcome P F r
+    → ((us : List ℤ) → P us → FlatOutcome Q F (f us)) → FlatOutcome Q F (thenFlat r f)
 thenFlat-outcome P Q F r f o g = outcome-then P Q F r f (r .found) refl o g
 
 eachNode-keeps : (step : ℕ → List ℤ → Flat) (n : ℕ) (P : List ℤ → Type 0)
@@ -177,8 +177,8 @@ eachNode-length step each z count ws =
 
 -- a stage for each node: each step leads from one to the next, or fails
 pub eachNode-outcome : (step : ℕ → List ℤ → Flat) (n : ℕ) (P : ℕ → List ℤ → Type 0) (F : Type 0)
-    → ((z : ℕ) (ws : List ℤ) → z < n → P z ws → Outcome (P (z + 1)) F (step z ws))
-    → (z count : ℕ) → z + count ≡ n → (ws : List ℤ) → P z ws → Outcome (P n) F (eachNode step z count ws)
+    → ((z : ℕ) (ws : List ℤ) → z < n → P z ws → FlatOutcome (P (z + 1)) F (step z ws))
+    → (z count : ℕ) → z + count ≡ n → (ws : List ℤ) → P z ws → FlatOutcome (P n) F (eachNode step z count ws)
 unfolding eachNode
 eachNode-outcome step n P F each z zero e ws h =
     record {
@@ -202,10 +202,10 @@ putBounds-length early late (b ∷ bs) ws =
 
 -- whether a weight is the mark or a bound, as the machine tests it
 module _ {w : ℤ} (f : SFits w32 w) where
-  pub is-mark : ofZ w32 w ≡ markNumber → eqZ w noBound ≡ true
+  pub is-mark : ofZ w32 w ≡ markNumber → eqZ w noBoundMark ≡ true
   is-mark e = sym (bits-eqb f (sfits-lit tt)) ∙ eq-eqb (ofZ w32 w) markNumber e
 
-  pub no-mark : (ofZ w32 w ≡ markNumber → ⊥) → eqZ w noBound ≡ false
+  pub no-mark : (ofZ w32 w ≡ markNumber → ⊥) → eqZ w noBoundMark ≡ false
   no-mark d = sym (bits-eqb f (sfits-lit tt)) ∙ ne-eqb (ofZ w32 w) markNumber d
 
   pub isBound-read : not (eqb (ofZ w32 w) markNumber) ≡ isBound w
@@ -255,7 +255,7 @@ module _ (early late : List ℤ) (s y : ℕ) (w : ℤ) (ws : List ℤ) (set : Ev
   joinedCells-past : (e n : ℕ) → e < s → hasEvent e (bitsOf set) ≡ false → eachNode step e (suc n) ws ≡ eachNode step (suc e) n ws
   unfolding eachNode
   joinedCells-past e n h none =
-      let off = not-false (eqZ (weightAt ws s e) noBound) (sym (has e h) ∙ none) in
+      let off = not-false (eqZ (weightAt ws s e) noBoundMark) (sym (has e h) ∙ none) in
       ap (λ (r : Flat). thenFlat r (eachNode step (e + 1) n)) (sym (putAt-none early late y e (weightAt ws s e) w ws off))
       ∙ ap (λ (k : ℕ). eachNode step k n ws) (add-one e)
 
@@ -266,11 +266,11 @@ module _ (early late : List ℤ) (s y : ℕ) (w : ℤ) (ws : List ℤ) (set : Ev
       ∙ ap (λ (k : ℕ). eachNode step k (s - k) ws) (sym next)
 
 module _ (early late : List ℤ) (s y : ℕ) (ws : List ℤ) where
-  pub joinedRow-none : eqZ (weightAt ws y s) noBound ≡ true → flat false ws ≡ joinedRow early late s y ws
+  pub joinedRow-none : eqZ (weightAt ws y s) noBoundMark ≡ true → flat false ws ≡ joinedRow early late s y ws
   unfolding joinedRow
   joinedRow-none e = rw e
 
-  pub joinedRow-on : eqZ (weightAt ws y s) noBound ≡ false → joinedCells early late s y (weightAt ws y s) ws ≡ joinedRow early late s y ws
+  pub joinedRow-on : eqZ (weightAt ws y s) noBoundMark ≡ false → joinedCells early late s y (weightAt ws y s) ws ≡ joinedRow early late s y ws
   unfolding joinedRow
   joinedRow-on e = rw e
 
@@ -278,7 +278,7 @@ module _ (early late : List ℤ) (s y : ℕ) (ws : List ℤ) where
   pub joinedRow-same : (i : ℕ) (d : ℤ) → place y s ≤ i → getD (joinedRow early late s y ws .weights) i d ≡ getD ws i d
   unfolding joinedRow
   joinedRow-same i d h =
-      either (eqZ (weightAt ws y s) noBound) _ ws i d
+      either (eqZ (weightAt ws y s) noBoundMark) _ ws i d
       (eachNode-keeps (joinedAt early late s y (weightAt ws y s)) s (λ us. getD us i d ≡ getD ws i d)
       (λ z us k e. putAt-same early late y z (weightAt us s z) (weightAt ws y s) us i d (λ q. omega arith) ∙ e)
       0
@@ -290,7 +290,7 @@ module _ (early late : List ℤ) (s y : ℕ) (ws : List ℤ) where
   joinedRow-length : length (joinedRow early late s y ws .weights) ≡ length ws
   unfolding joinedRow
   joinedRow-length =
-      either-length (eqZ (weightAt ws y s) noBound) _ ws
+      either-length (eqZ (weightAt ws y s) noBoundMark) _ ws
       (eachNode-length (joinedAt early late s y (weightAt ws y s)) (λ z us. putAt-length early late y z (weightAt us s z) (weightAt ws y s) us) 0 s ws)
 
 pub joinedRows-length : (early late : List ℤ) (s : ℕ) (ws : List ℤ) → length (joinedRows early late s ws .weights) ≡ length ws

@@ -8,7 +8,7 @@ pub mod Elimination
 -- ---- what the code works with
 pub mod Spans
 pub mod Flat
-pub mod Fit
+pub mod Held
 -- ---- laws
 pub mod BuildLaws
 pub mod EventsLaws
@@ -19,11 +19,11 @@ pub mod FlatLaws
 pub mod PutLaws
 pub mod StartLaws
 pub mod FinishLaws
-pub mod FitLaws
-pub mod ClockedLaws
+pub mod JudgedTableLaws
+pub mod TimesHeldLaws
 pub mod PlacesLaws
-pub mod StandingLaws
-pub mod TowardsLaws
+pub mod TableHeldLaws
+pub mod LeadsToLaws
 pub mod BoundsLaws
 pub mod FillLaws
 pub mod EventTimesLaws

@@ -12,8 +12,8 @@ use Rattle.bounds.specs.Events.{startNode, finishNode, nodes}
 use Rattle.bounds.specs.Tables.{Rows, Set, contradiction, bounds}
 use Rattle.bounds.specs.Elimination.{withoutStart, withoutFinish, thenSet, withoutPlace, eliminated}
 use Rattle.bounds.specs.Flat.{rowsOf, setIn}
-use Rattle.bounds.specs.Fit.{Fit}
-use Rattle.bounds.specs.FitLaws.{withoutStart-fit, withoutFinish-fit}
+use Rattle.bounds.specs.Held.{JudgedTable}
+use Rattle.bounds.specs.JudgedTableLaws.{withoutStart-judged-table, withoutFinish-judged-table}
 
 -- ---- answers
 
@@ -48,13 +48,13 @@ module _ (p : Plan) (k : ℕ) (t : Rows) where
   unfolding withoutPlace thenSet
   withoutPlace-some u e = ap (λ s. thenSet s (withoutStart p k)) e
 
-pub withoutPlace-fit : (p : Plan) (k : ℕ) (t u : Rows) → Fit p (nodes (k + 1)) t → withoutPlace p k t ≡ bounds u → Fit p (nodes k) u
+pub withoutPlace-judged-table : (p : Plan) (k : ℕ) (t u : Rows) → JudgedTable p (nodes (k + 1)) t → withoutPlace p k t ≡ bounds u → JudgedTable p (nodes k) u
 unfolding withoutPlace
-withoutPlace-fit p k t u fit e =
+withoutPlace-judged-table p k t u fit e =
     thenSet-some (withoutFinish p k t) (withoutStart p k) u
     (λ v h q.
-    let left = withoutFinish-fit p k t v (subst (λ n. Fit p n t) (sym (place-next k)) fit) h in
-    withoutStart-fit p k v u (subst (λ n. Fit p n v) (finish-next k) left) q)
+    let left = withoutFinish-judged-table p k t v (subst (λ n. JudgedTable p n t) (sym (place-next k)) fit) h in
+    withoutStart-judged-table p k v u (subst (λ n. JudgedTable p n v) (finish-next k) left) q)
     e
 
 -- ---- several places

@@ -30,25 +30,25 @@ judgedBy low high late early (Finish j) (Start k) w = cond (eqb j k) (atLeast ea
 judgedBy low high late early (Finish j) (Finish k) w = cond (eqb j k) (judgedSame w) (apart low high w)
 
 -- the time of a node in an array
-abbrev pub timeAt : List ℤ → ℕ → ℤ
-timeAt ts y = getD ts y (pos 0)
+abbrev pub timeOfNode : List ℤ → ℕ → ℤ
+timeOfNode ts y = getD ts y (pos 0)
 
 -- the judgement of the bound z - y <= w between two nodes, by the arrays of earliest and latest
 unfoldable pub judgedAt : List ℤ → List ℤ → ℕ → ℕ → ℤ → Judgement
 judgedAt early late y z w =
     judgedBy
-    (timeAt early z -ℤ timeAt late y)
-    (timeAt late z -ℤ timeAt early y)
-    (timeAt late z -ℤ timeAt late y)
-    (timeAt early z -ℤ timeAt early y)
+    (timeOfNode early z -ℤ timeOfNode late y)
+    (timeOfNode late z -ℤ timeOfNode early y)
+    (timeOfNode late z -ℤ timeOfNode late y)
+    (timeOfNode early z -ℤ timeOfNode early y)
     (eventOf y)
     (eventOf z)
     w
 
 -- the arrays hold a plan's times, of the first k nodes
 pub record Times (p : Plan) (k : ℕ) (early late : List ℤ) : Type 0 where
-  pub earliest-at : (y : ℕ) → y < k → timeAt early y ≡ earliest p (eventOf y)
-  pub latest-at : (y : ℕ) → y < k → timeAt late y ≡ latest p (eventOf y)
+  pub earliest-at : (y : ℕ) → y < k → timeOfNode early y ≡ earliest p (eventOf y)
+  pub latest-at : (y : ℕ) → y < k → timeOfNode late y ≡ latest p (eventOf y)
 
 -- no earliest and no latest is farther from 0: the sums that make them have a release or a deadline, a running time, and the window of the next window's events
 abbrev pub farthestTime : ℤ
@@ -60,7 +60,7 @@ pub record InRange (t : ℤ) : Type 0 where
   pub greatest : t ≤ℤ farthestTime
 
 -- what it takes to judge a bound between two nodes
-pub record Timed (early late : List ℤ) (y : ℕ) : Type 0 where
+pub record TimesInRange (early late : List ℤ) (y : ℕ) : Type 0 where
   pub node : y < mostNodes
-  pub early-in : InRange (timeAt early y)
-  pub late-in : InRange (timeAt late y)
+  pub early-in : InRange (timeOfNode early y)
+  pub late-in : InRange (timeOfNode late y)

@@ -18,16 +18,16 @@ use Rattle.bounds.specs.declared.Event.the-variants.{Origin, Start, Fini
 use Rattle.bounds.specs.declared.Judgement.{Judgement}
 use Rattle.bounds.specs.Events.{earliest, latest, eventOf, jobAt, shift}
 use Rattle.bounds.specs.Judgements.{judged, atLeast}
-use Rattle.bounds.specs.Spans.{judgedBy, judgedAt, timeAt, Times, InRange}
+use Rattle.bounds.specs.Spans.{judgedBy, judgedAt, timeOfNode, Times, InRange}
 
 pub inRange-fits : {t : ℤ} → InRange t → SFits w32 t
 inRange-fits h = omega wholes
 
 pub judgedAt-by : (early late : List ℤ) (y z : ℕ) (w : ℤ) {low high later sooner : ℤ} {a b : Event}
-    → low ≡ timeAt early z -ℤ timeAt late y
-    → high ≡ timeAt late z -ℤ timeAt early y
-    → later ≡ timeAt late z -ℤ timeAt late y
-    → sooner ≡ timeAt early z -ℤ timeAt early y
+    → low ≡ timeOfNode early z -ℤ timeOfNode late y
+    → high ≡ timeOfNode late z -ℤ timeOfNode early y
+    → later ≡ timeOfNode late z -ℤ timeOfNode late y
+    → sooner ≡ timeOfNode early z -ℤ timeOfNode early y
     → a ≡ eventOf y
     → b ≡ eventOf z
     → judgedBy low high later sooner a b w ≡ judgedAt early late y z w

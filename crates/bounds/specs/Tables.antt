@@ -21,10 +21,10 @@ pub data Cell : Type 0 where
   upto : ℤ → Cell
 
 -- 'only the least w is kept'
-unfoldable pub least : Cell → Cell → Cell
-least off d = d
-least (upto w) off = upto w
-least (upto w) (upto v) = cond (leZ w v) (upto w) (upto v)
+unfoldable pub lesserCell : Cell → Cell → Cell
+lesserCell off d = d
+lesserCell (upto w) off = upto w
+lesserCell (upto w) (upto v) = cond (leZ w v) (upto w) (upto v)
 
 -- a bound moved by a number
 unfoldable pub plus : Cell → ℤ → Cell
@@ -68,7 +68,7 @@ unfoldable pub leastOf : List Between → ℕ → ℕ → Cell
 leastOf [] y z = off
 leastOf (b ∷ bs) y z =
     let others = leastOf bs y z in
-    cond (eqb (nodeOf (b .y)) y && eqb (nodeOf (b .z)) z) (least (upto (b .w)) others) others
+    cond (eqb (nodeOf (b .y)) y && eqb (nodeOf (b .z)) z) (lesserCell (upto (b .w)) others) others
 
 -- ---- judging: 'Every bound, given or made, is judged'
 

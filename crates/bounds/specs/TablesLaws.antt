@@ -17,7 +17,7 @@ use Rattle.bounds.specs.Tables.{
   Cell,
   off,
   upto,
-  least,
+  lesserCell,
   plus,
   join,
   Rows,
@@ -39,13 +39,13 @@ use Rattle.bounds.specs.BuildLaws.{at-build, anyBelow-none}
 
 -- ---- cells
 
-pub least-off : (c : Cell) → least c off ≡ c
-unfolding least
-least-off off = refl
-least-off (upto w) = refl
+pub lesserCell-off : (c : Cell) → lesserCell c off ≡ c
+unfolding lesserCell
+lesserCell-off off = refl
+lesserCell-off (upto w) = refl
 
-pub off-least : (d : Cell) → least off d ≡ d
-unfolding least
+pub off-least : (d : Cell) → lesserCell off d ≡ d
+unfolding lesserCell
 off-least d = refl
 
 pub plus-off : (a : ℤ) → plus off a ≡ off

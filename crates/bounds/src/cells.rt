@@ -4,8 +4,8 @@ use super::Judgement;
 use super::Table;
 use super::judging::judge;
 ghost use mathlib.Core.Path.{_≡_};
-ghost use Rattle.bounds.specs.Spans.{Timed, judgedAt};
-ghost use Rattle.bounds.specs.Flat.{Putting, flat, putAt};
+ghost use Rattle.bounds.specs.Spans.{TimesInRange, judgedAt};
+ghost use Rattle.bounds.specs.Flat.{SumFits, flat, putAt};
 
 // The judgement of z - y <= w between two nodes, whose earliest and latest are in two arrays.
 fn judge_nodes<'a>(
@@ -15,7 +15,7 @@ fn judge_nodes<'a>(
     z: usize,
     w: i32,
 ) -> Judgement
-    requires { ⌜ (Timed (now early) (now late) y) × (Timed (now early) (now late) z) ⌝ }
+    requires { ⌜ (TimesInRange (now early) (now late) y) × (TimesInRange (now early) (now late) z) ⌝ }
     ensures { λ r. ⌜ r ≡ judgedAt (now (early .entry)) (now (late .entry)) y z w ⌝ }
 {
     let earliest_y = early[y];
@@ -40,7 +40,7 @@ pub fn put<'a>(
     v: i32,
     a: i32,
 ) -> bool
-    requires { ⌜ (Timed (now early) (now late) y) × (Timed (now early) (now late) z) × (Putting v a) ⌝ }
+    requires { ⌜ (TimesInRange (now early) (now late) y) × (TimesInRange (now early) (now late) z) × (SumFits v a) ⌝ }
     ensures { λ r. ⌜ flat r (now (weights .exit)) ≡ putAt (now (early .entry)) (now (late .entry)) y z v a (now (weights .entry)) ⌝ }
 {
     if v == Table::NO_BOUND {

@@ -9,7 +9,7 @@ ghost use Rattle.plan.specs.declared.Plan.{Plan};
 ghost use Rattle.bounds.specs.Events.{startNode, finishNode, nodes};
 ghost use Rattle.bounds.specs.Elimination.{withoutStart, withoutFinish, withoutPlace, eliminated};
 ghost use Rattle.bounds.specs.Flat.{rowsOf, setIn};
-ghost use Rattle.bounds.specs.Fit.{Standing, StandingOf};
+ghost use Rattle.bounds.specs.Held.{TableHeld, TableHeldFor};
 
 // 'Eliminating a start s': the start at place k, which is the last node.
 pub fn drop_start<'a>(
@@ -18,8 +18,8 @@ pub fn drop_start<'a>(
     late: &'a [i32; Table::SIDE],
     k: usize,
 ) -> bool
-    requires { ⌜ Standing (now early) (now late) (suc (startNode k)) (now weights) ⌝ }
-    ensures { λ r. ⌜ ((p : Plan) → StandingOf p (now (early .entry)) (now (late .entry)) (suc (startNode k)) (now (weights .entry))
+    requires { ⌜ TableHeld (now early) (now late) (suc (startNode k)) (now weights) ⌝ }
+    ensures { λ r. ⌜ ((p : Plan) → TableHeldFor p (now (early .entry)) (now (late .entry)) (suc (startNode k)) (now (weights .entry))
         → setIn (startNode k) r (now (weights .exit)) ≡ withoutStart p k (rowsOf (suc (startNode k)) (now (weights .entry)))) ⌝ }
     ensures { λ r. ⌜ length (now (weights .exit)) ≡ length (now (weights .entry)) ⌝ }
 {
@@ -35,8 +35,8 @@ pub fn drop_finish<'a>(
     late: &'a [i32; Table::SIDE],
     k: usize,
 ) -> bool
-    requires { ⌜ Standing (now early) (now late) (suc (finishNode k)) (now weights) ⌝ }
-    ensures { λ r. ⌜ ((p : Plan) → StandingOf p (now (early .entry)) (now (late .entry)) (suc (finishNode k)) (now (weights .entry))
+    requires { ⌜ TableHeld (now early) (now late) (suc (finishNode k)) (now weights) ⌝ }
+    ensures { λ r. ⌜ ((p : Plan) → TableHeldFor p (now (early .entry)) (now (late .entry)) (suc (finishNode k)) (now (weights .entry))
         → setIn (finishNode k) r (now (weights .exit)) ≡ withoutFinish p k (rowsOf (suc (finishNode k)) (now (weights .entry)))) ⌝ }
     ensures { λ r. ⌜ length (now (weights .exit)) ≡ length (now (weights .entry)) ⌝ }
 {
@@ -58,8 +58,8 @@ fn drop_place<'a>(
     late: &'a [i32; Table::SIDE],
     k: usize,
 ) -> bool
-    requires { ⌜ Standing (now early) (now late) (nodes (k + 1)) (now weights) ⌝ }
-    ensures { λ r. ⌜ ((p : Plan) → StandingOf p (now (early .entry)) (now (late .entry)) (nodes (k + 1)) (now (weights .entry))
+    requires { ⌜ TableHeld (now early) (now late) (nodes (k + 1)) (now weights) ⌝ }
+    ensures { λ r. ⌜ ((p : Plan) → TableHeldFor p (now (early .entry)) (now (late .entry)) (nodes (k + 1)) (now (weights .entry))
         → setIn (nodes k) r (now (weights .exit)) ≡ withoutPlace p k (rowsOf (nodes (k + 1)) (now (weights .entry)))) ⌝ }
     ensures { λ r. ⌜ length (now (weights .exit)) ≡ length (now (weights .entry)) ⌝ }
 {
@@ -77,8 +77,8 @@ pub fn drop_places<'a>(
     low: usize,
     count: usize,
 ) -> bool
-    requires { ⌜ Standing (now early) (now late) (nodes (low + count)) (now weights) ⌝ }
-    ensures { λ r. ⌜ ((p : Plan) → StandingOf p (now (early .entry)) (now (late .entry)) (nodes (low + count)) (now (weights .entry))
+    requires { ⌜ TableHeld (now early) (now late) (nodes (low + count)) (now weights) ⌝ }
+    ensures { λ r. ⌜ ((p : Plan) → TableHeldFor p (now (early .entry)) (now (late .entry)) (nodes (low + count)) (now (weights .entry))
         → setIn (nodes low) r (now (weights .exit)) ≡ eliminated p low count (rowsOf (nodes (low + count)) (now (weights .entry)))) ⌝ }
     ensures { λ r. ⌜ length (now (weights .exit)) ≡ length (now (weights .entry)) ⌝ }
 {

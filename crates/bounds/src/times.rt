@@ -7,7 +7,7 @@ ghost use mathlib.Core.Path.{_≡_};
 ghost use Prim.Native.Nat.{_+_, _<_};
 ghost use Rattle.plan.specs.Accepted.{Accepted};
 ghost use Rattle.bounds.specs.Events.{jobAt, shift};
-ghost use Rattle.bounds.specs.Fit.{Clocked};
+ghost use Rattle.bounds.specs.Held.{TimesHeld};
 
 // The job at a place.
 fn job_at(p: Plan, k: usize) -> Job
@@ -34,7 +34,7 @@ fn shift_at(p: Plan, k: usize) -> i32
 // The times of all events of two windows.
 pub fn times_of(p: Plan) -> Spans
     requires { ⌜ Accepted p ⌝ }
-    ensures { λ r. ⌜ Clocked p (r .early) (r .late) ⌝ }
+    ensures { λ r. ⌜ TimesHeld p (r .early) (r .late) ⌝ }
 {
     let mut early = [0; Table::SIDE];
     let mut late = [0; Table::SIDE];

@@ -27,7 +27,7 @@ use Rattle.events.specs.Bits.{hasEvent, mostBits, nextEvent}
 use Rattle.events.specs.BitsLaws.{nextEvent-has, nextEvent-skips}
 use Rattle.calendars.specs.declared.Calendar.{Calendar}
 use Rattle.calendars.specs.Calendars.{noTerms}
-use Rattle.text.specs.LeftLaws.{Left, left-past, left-end}
+use Rattle.text.specs.LeftLaws.{LeftToWrite, left-past, left-end}
 use Rattle.calendars.specs.CalendarText.{
   eventLetter,
   eventKind,
@@ -97,17 +97,17 @@ module _ (jobs : ℕ) (key : List ℕ) (set : ℕ) (cs : List ℤ) (row : ℕ) w
     termLines-stop h = let none : count - k ≡ 0 = omega arith in skipped ∙ ap (termLines jobs key set cs row k) none
 
     -- what is left of a text, before and after the next term
-    module _ {out s o : List ℕ} {at j : ℕ} (l : Left out at s o j (termLines jobs key set cs row e (count - e))) where
+    module _ {out s o : List ℕ} {at j : ℕ} (l : LeftToWrite out at s o j (termLines jobs key set cs row e (count - e))) where
       pub left-term : {o′ : List ℕ} {j′ : ℕ} → k < count → count ≤ mostBits → SFits w32 (getD cs (row + k) (pos 0))
           → Stored o j (termLine jobs key k (toZ w32 (ofZ w32 (getD cs (row + k) (pos 0))))) o′ j′
-          → Left out at s o′ j′ (termLines jobs key set cs row (k + 1) (count - (k + 1)))
+          → LeftToWrite out at s o′ j′ (termLines jobs key set cs row (k + 1) (count - (k + 1)))
       left-term {o′} {j′} b m f d =
           left-past
-          (subst (λ (t : List ℕ). Left out at s o j t) (termLines-next b m) l)
+          (subst (λ (t : List ℕ). LeftToWrite out at s o j t) (termLines-next b m) l)
           (subst (λ (z : ℤ). Stored o j (termLine jobs key k z) o′ j′) (toZ-ofZ f) d)
 
       pub left-terms : count ≤ k → Stored out at s o j
-      left-terms b = left-end (subst (λ (t : List ℕ). Left out at s o j t) (termLines-stop b) l)
+      left-terms b = left-end (subst (λ (t : List ℕ). LeftToWrite out at s o j t) (termLines-stop b) l)
 
 -- ---- the jobs
 
@@ -123,13 +123,13 @@ module _ (jobs : ℕ) (c : Calendar) (i count : ℕ) where
   jobTexts-end h = let left : count - i ≡ 0 = omega arith in rw left
 
   -- what is left of a text, before and after the job at place i
-  module _ {out s o : List ℕ} {at j : ℕ} (l : Left out at s o j (jobTexts jobs c i (count - i))) where
+  module _ {out s o : List ℕ} {at j : ℕ} (l : LeftToWrite out at s o j (jobTexts jobs c i (count - i))) where
     pub left-job : {o′ : List ℕ} {j′ : ℕ} → i < count → Stored o j (jobText jobs i (getD (c .terms) i noTerms) (c .«at_least») (c .«at_most»)) o′ j′
-        → Left out at s o′ j′ (jobTexts jobs c (i + 1) (count - (i + 1)))
-    left-job h d = left-past (subst (λ (t : List ℕ). Left out at s o j t) (jobTexts-next h) l) d
+        → LeftToWrite out at s o′ j′ (jobTexts jobs c (i + 1) (count - (i + 1)))
+    left-job h d = left-past (subst (λ (t : List ℕ). LeftToWrite out at s o j t) (jobTexts-next h) l) d
 
     pub left-jobs : count ≤ i → Stored out at s o j
-    left-jobs h = left-end (subst (λ (t : List ℕ). Left out at s o j t) (jobTexts-end h) l)
+    left-jobs h = left-end (subst (λ (t : List ℕ). LeftToWrite out at s o j t) (jobTexts-end h) l)
 
 -- ---- for writers
 

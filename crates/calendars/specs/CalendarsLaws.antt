@@ -25,9 +25,9 @@ use Rattle.bounds.specs.Events.{startNode, finishNode, nodes}
 use Rattle.bounds.specs.Tables.{Rows, Set, contradiction, bounds}
 use Rattle.bounds.specs.Elimination.{withoutFinish, withoutStart, withoutPlace, thenSet, eliminated}
 use Rattle.bounds.specs.Flat.{rowsOf, setIn}
-use Rattle.bounds.specs.Fit.{Fit}
+use Rattle.bounds.specs.Held.{JudgedTable}
 use Rattle.bounds.specs.BuildLaws.{length-listed}
-use Rattle.bounds.specs.FitLaws.{withoutStart-fit, withoutFinish-fit}
+use Rattle.bounds.specs.JudgedTableLaws.{withoutStart-judged-table, withoutFinish-judged-table}
 use Rattle.bounds.specs.PlacesLaws.{setIn-left, finish-next, withoutPlace-some}
 use Rattle.calendars.specs.declared.Terms.{Terms}
 use Rattle.calendars.specs.declared.Calendar.{Calendar}
@@ -146,7 +146,7 @@ pub record Walked (p : Plan) (t : Rows) (left : ℕ) (ws : List ℤ) (terms : Li
   pub recorded : List Rows
   pub places : left + length recorded ≡ p .jobs
   pub tables : beforeStarts p (p .jobs) t ≡ beforeStarts p left (rowsOf (nodes (p .jobs + left)) ws) ++ recorded
-  pub fit : Fit p (nodes (p .jobs + left)) (rowsOf (nodes (p .jobs + left)) ws)
+  pub fit : JudgedTable p (nodes (p .jobs + left)) (rowsOf (nodes (p .jobs + left)) ws)
   pub sound : isContradictory (eliminated p (p .jobs) left (rowsOf (nodes (p .jobs + left)) ws)) ≡ false
   pub terms-are : terms ≡ replicate left noTerms ++ (allTerms p left recorded ++ replicate (mostJobs - p .jobs) noTerms)
   pub least-are : least ≡ replicate (rowAt left) (pos 0) ++ (allCs (leastCs p) left recorded ++ replicate (rowAt (mostJobs - p .jobs)) (pos 0))
@@ -216,7 +216,7 @@ module _ (p : Plan) (a : Accepted p) where
 
   pub Walked-start : (ws : List ℤ) (c : Calendar)
       → let t = rowsOf (nodes (p .jobs + p .jobs)) ws in
-      Fit p (nodes (p .jobs + p .jobs)) t
+      JudgedTable p (nodes (p .jobs + p .jobs)) t
       → isContradictory (eliminated p (p .jobs) (p .jobs) t) ≡ false
       → c ≡ noCalendar p
       → Walked p t (p .jobs) ws (c .terms) (c .«at_least») (c .«at_most»)
@@ -255,8 +255,8 @@ module _ (p : Plan) (a : Accepted p) where
     last-node : nodes (p .jobs + suc left) ≡ suc (finishNode k)
     last-node = omega arith
 
-    pub Walked-finish : Fit p (suc (finishNode k)) (rowsOf (suc (finishNode k)) ws)
-    Walked-finish = subst (λ (n : ℕ). Fit p n (rowsOf n ws)) last-node (w .fit)
+    pub Walked-finish : JudgedTable p (suc (finishNode k)) (rowsOf (suc (finishNode k)) ws)
+    Walked-finish = subst (λ (n : ℕ). JudgedTable p n (rowsOf n ws)) last-node (w .fit)
 
     turn : isContradictory (thenSet (withoutPlace p k before) (eliminated p (p .jobs) left)) ≡ false
     unfolding eliminated
@@ -274,13 +274,14 @@ module _ (p : Plan) (a : Accepted p) where
       finish-sound =
           set-sound (finishNode k) found us (ap isContradictory finish-is ∙ then-sound (withoutFinish p k before) (withoutStart p k) place-sound)
 
-      fit-before : Fit p (suc (finishNode k)) before
-      fit-before = subst (λ (n : ℕ). Fit p n before) last-node (w .fit)
+      judged-table-before : JudgedTable p (suc (finishNode k)) before
+      judged-table-before = subst (λ (n : ℕ). JudgedTable p n before) last-node (w .fit)
 
-      pub Walked-last : Fit p (suc (startNode k)) (rowsOf (suc (startNode k)) us)
+      pub Walked-last : JudgedTable p (suc (startNode k)) (rowsOf (suc (startNode k)) us)
       Walked-last =
-          subst (λ (n : ℕ). Fit p n (rowsOf n us)) (finish-next k)
-          (withoutFinish-fit p k before (rowsOf (finishNode k) us) fit-before (sym finish-is ∙ setIn-left (finishNode k) found us finish-sound))
+          subst (λ (n : ℕ). JudgedTable p n (rowsOf n us)) (finish-next k)
+          (withoutFinish-judged-table p k before (rowsOf (finishNode k) us) judged-table-before
+          (sym finish-is ∙ setIn-left (finishNode k) found us finish-sound))
 
       abbrev u : Rows
       u = rowsOf (suc (startNode k)) us
@@ -319,7 +320,7 @@ module _ (p : Plan) (a : Accepted p) where
               tables =
                   w .tables ∙ ap (λ (ts : List Rows). ts ++ w .recorded) (beforeStarts-more p left before u v finish-left start-left)
                   ∙ append-assoc (beforeStarts p left v) (u ∷ []) (w .recorded);
-              fit = withoutStart-fit p k u v Walked-last start-left;
+              fit = withoutStart-judged-table p k u v Walked-last start-left;
               sound = next-sound;
               terms-are = allTerms-more p left u (w .recorded) (replicate (mostJobs - p .jobs) noTerms) terms x (w .terms-are) x-is;
               least-are =

@@ -20,12 +20,12 @@ use Rattle.plan.specs.declared.Plan.{Plan}
 use Rattle.plan.specs.Accepted.{Accepted}
 use Rattle.bounds.specs.Events.{startNode}
 use Rattle.bounds.specs.Tables.{upto, Rows, at, listed}
-use Rattle.bounds.specs.Flat.{noBound, isBound, weightAt, cellOf, cellAt, rowsOf, Weighed}
-use Rattle.bounds.specs.Fit.{Fit, AtMost}
+use Rattle.bounds.specs.Flat.{noBoundMark, isBound, weightAt, cellOf, cellAt, rowsOf, WeightInRange}
+use Rattle.bounds.specs.Held.{JudgedTable, CellAtMost}
 use Rattle.bounds.specs.BuildLaws.{length-listed, listed-more, eventSet-listed, at-build}
 use Rattle.bounds.specs.TablesLaws.{listed-ext}
 use Rattle.bounds.specs.PutLaws.{cellOf-mark, cellOf-on}
-use Rattle.bounds.specs.FitLaws.{fit-weighed}
+use Rattle.bounds.specs.JudgedTableLaws.{judged-table-weights}
 use Rattle.events.specs.declared.Events.{Events}
 use Rattle.calendars.specs.declared.Terms.{Terms}
 use Rattle.calendars.specs.declared.Side.{Side}
@@ -45,14 +45,14 @@ sets-more l i (x ∷ xs) a =
 
 -- ---- cells
 
-pub cOn-mark : (side : Side) (w : ℤ) → eqZ w noBound ≡ true → pos 0 ≡ cOn side (cellOf w)
+pub cOn-mark : (side : Side) (w : ℤ) → eqZ w noBoundMark ≡ true → pos 0 ≡ cOn side (cellOf w)
 cOn-mark Below w e = sym (ap (cOn Below) (cellOf-mark w e))
 cOn-mark Above w e = sym (ap (cOn Above) (cellOf-mark w e))
 
-pub cOn-below : (side : Side) (w : ℤ) → side ≡ Below → eqZ w noBound ≡ false → negℤ w ≡ cOn side (cellOf w)
+pub cOn-below : (side : Side) (w : ℤ) → side ≡ Below → eqZ w noBoundMark ≡ false → negℤ w ≡ cOn side (cellOf w)
 cOn-below side w s e = sym (ap (λ (s : Side). cOn s (cellOf w)) s ∙ ap (cOn Below) (cellOf-on w e))
 
-pub cOn-above : (side : Side) (w : ℤ) → side ≡ Above → eqZ w noBound ≡ false → w ≡ cOn side (cellOf w)
+pub cOn-above : (side : Side) (w : ℤ) → side ≡ Above → eqZ w noBoundMark ≡ false → w ≡ cOn side (cellOf w)
 cOn-above side w s e = sym (ap (λ (s : Side). cOn s (cellOf w)) s ∙ ap (cOn Above) (cellOf-on w e))
 
 pub weightOn-below : (side : Side) (ws : List ℤ) (s e : ℕ) → side ≡ Below → weightAt ws s (e + 1) ≡ weightOn side ws s e
@@ -63,7 +63,7 @@ weightOn-above side ws s e h = ap (λ (y : ℕ). weightAt ws y s) (add-one e) �
 
 -- ---- one turn of the walk over the events
 
-isOn-read : (w : ℤ) (b : Bool) → eqZ w noBound ≡ b → not b ≡ isOn (cellOf w)
+isOn-read : (w : ℤ) (b : Bool) → eqZ w noBoundMark ≡ b → not b ≡ isOn (cellOf w)
 isOn-read w true e = sym (ap isOn (cellOf-mark w e))
 isOn-read w false e = sym (ap isOn (cellOf-on w e))
 
@@ -76,7 +76,7 @@ module _ (side : Side) (ws : List ℤ) (count e : ℕ) (w : ℤ) (read : w ≡ w
   pub eventsOn-more : (s r : ℕ) → s ≡ eventSet (listed e (isOnSide side ws count)) → r ≡ withIf (isBound w) e s
       → r ≡ eventSet (listed (e + 1) (isOnSide side ws count))
   eventsOn-more s r h did =
-      did ∙ ap₂ (λ (b : Bool) (s : ℕ). withIf b e s) (isOn-read w (eqZ w noBound) refl ∙ ap (λ (w : ℤ). isOn (cellOf w)) read) h
+      did ∙ ap₂ (λ (b : Bool) (s : ℕ). withIf b e s) (isOn-read w (eqZ w noBoundMark) refl ∙ ap (λ (w : ℤ). isOn (cellOf w)) read) h
       ∙ sym (eventSet-listed e (isOnSide side ws count))
 
   pub csOn-more : (cs us : List ℤ) (row : ℕ) (c : ℤ) → us ≡ sets cs row (listed e (cOnSide side ws count)) → c ≡ cOn side (cellOf w)
@@ -88,12 +88,12 @@ module _ (side : Side) (ws : List ℤ) (count e : ℕ) (w : ℤ) (read : w ≡ w
 -- ---- the terms of a start, from the table whose last node it is
 
 -- a cell with a bound has that bound's weight
-held-weight : (w : ℤ) (b : Bool) → eqZ w noBound ≡ b → (v : ℤ) → cellOf w ≡ upto v → weight (cellOf w) ≡ w
+held-weight : (w : ℤ) (b : Bool) → eqZ w noBoundMark ≡ b → (v : ℤ) → cellOf w ≡ upto v → weight (cellOf w) ≡ w
 held-weight w true e v h = absurd (let none = cellOf-mark w e in clash (cc))
 held-weight w false e v h = ap weight (cellOf-on w e)
 
 module _ (p : Plan) (a : Accepted p) (i : ℕ) (job : i < p .jobs) (ws : List ℤ)
-    (fit : Fit p (suc (startNode (p .jobs + i))) (rowsOf (suc (startNode (p .jobs + i))) ws)) where
+    (fit : JudgedTable p (suc (startNode (p .jobs + i))) (rowsOf (suc (startNode (p .jobs + i))) ws)) where
   abbrev s : ℕ
   s = startNode (p .jobs + i)
 
@@ -106,11 +106,13 @@ module _ (p : Plan) (a : Accepted p) (i : ℕ) (job : i < p .jobs) (ws : List �
   start-last : suc count ≡ s
   start-last = omega arith
 
-  pub weightOn-fits : (side : Side) (e : ℕ) → e < count → Weighed (weightOn side ws (suc count) e)
+  pub weightOn-fits : (side : Side) (e : ℕ) → e < count → WeightInRange (weightOn side ws (suc count) e)
   weightOn-fits Below e h =
-      subst (λ (s : ℕ). Weighed (weightAt ws s (suc e))) (sym start-last) (fit-weighed p (suc s) ws fit a (omega arith) s (suc e) (omega arith) (omega arith))
+      subst (λ (s : ℕ). WeightInRange (weightAt ws s (suc e))) (sym start-last)
+      (judged-table-weights p (suc s) ws fit a (omega arith) s (suc e) (omega arith) (omega arith))
   weightOn-fits Above e h =
-      subst (λ (s : ℕ). Weighed (weightAt ws (suc e) s)) (sym start-last) (fit-weighed p (suc s) ws fit a (omega arith) (suc e) s (omega arith) (omega arith))
+      subst (λ (s : ℕ). WeightInRange (weightAt ws (suc e) s)) (sym start-last)
+      (judged-table-weights p (suc s) ws fit a (omega arith) (suc e) s (omega arith) (omega arith))
 
   cell-below : (e : ℕ) → e < count → cellOf (weightOn Below ws (suc count) e) ≡ fromBelow t s e
   cell-below e h = ap (λ (s : ℕ). cellAt ws s (suc e)) start-last ∙ sym (at-build (suc s) (cellAt ws) s (suc e) (omega arith) (omega arith))
@@ -133,10 +135,10 @@ module _ (p : Plan) (a : Accepted p) (i : ℕ) (job : i < p .jobs) (ws : List �
   events-above = ap eventSet (listed-ext count (isOnSide Above ws count) (λ e. isOn (fromAbove t s e)) (λ e h. ap isOn (cell-above e h)))
 
   -- the origin's two bounds are always there
-  origin-weight : (y z : ℕ) (v : ℤ) → y < suc s → z < suc s → AtMost (at t y z) v → weightAt ws y z ≡ weight (at t y z)
+  origin-weight : (y z : ℕ) (v : ℤ) → y < suc s → z < suc s → CellAtMost (at t y z) v → weightAt ws y z ≡ weight (at t y z)
   origin-weight y z v h l m =
       let built : at t y z ≡ cellAt ws y z = at-build (suc s) (cellAt ws) y z h l in
-      sym (ap weight built ∙ held-weight (weightAt ws y z) (eqZ (weightAt ws y z) noBound) refl (m .weight) (sym built ∙ m .held))
+      sym (ap weight built ∙ held-weight (weightAt ws y z) (eqZ (weightAt ws y z) noBoundMark) refl (m .weight) (sym built ∙ m .held))
 
   pub termsOf-is : (low high : WindowTime) (below above : Events)
       → low .0 ≡ negℤ (weightAt ws s 0) -ℤ p .window

@@ -8,7 +8,7 @@ use Rattle.lines.specs.declared.TextAnswer.{TextAnswer}
 use Rattle.lines.specs.declared.TextAnswer.the-variants as planAnswer
 use Rattle.lines.specs.declared.Refusal.{Refusal}
 use Rattle.lines.specs.Reading.{Reading, refused}
-use Rattle.lines.specs.Answers.{answerNumber, answerValue, partAt, Told}
+use Rattle.lines.specs.Answers.{answerNumber, answerValue, partAt, RefusalReport}
 use Rattle.lines.specs.PartLaws.{Tail, leaves, told-refused, told-none, end-empty}
 use Rattle.plan.specs.declared.Plan.{Plan}
 use Rattle.plan.specs.declared.PlanRead.{PlanRead}
@@ -25,22 +25,22 @@ module _ {A : Type 0} (behind : Reading Plan → Reading A) (keeps : (x : Refusa
   module _ (s : List ℕ) (m : Reading Plan) (tail : Tail s (leaves m)) (r : PlanRead) (d : r ≡ planRead s m) (a : TextAnswer) (x : Refusal)
       (e : a ≡ planAnswer.Refused x) where
     refusal-told : {t : List ℕ} → verdictAfter m ≡ refused x t → (at : ℕ) → drop at s ≡ t
-        → Told (behind (verdictAfter m)) (partAt s at a) (answerNumber a) (answerValue a)
+        → RefusalReport (behind (verdictAfter m)) (partAt s at a) (answerNumber a) (answerValue a)
     refusal-told {t} f at p =
-        subst (λ (m : Reading A). Told m (partAt s at a) (answerNumber a) (answerValue a)) (sym (ap behind f ∙ keeps x t)) (told-refused s a at x e p)
+        subst (λ (m : Reading A). RefusalReport m (partAt s at a) (answerNumber a) (answerValue a)) (sym (ap behind f ∙ keeps x t)) (told-refused s a at x e p)
 
-    pub told-lines : r .answer ≡ planAnswer.Refused x → Told (behind (verdictAfter m)) (partAt s (r .at) a) (answerNumber a) (answerValue a)
+    pub told-lines : r .answer ≡ planAnswer.Refused x → RefusalReport (behind (verdictAfter m)) (partAt s (r .at) a) (answerNumber a) (answerValue a)
     told-lines q = refusal-told (verdictAfter-refused s m tail r d x q) (r .at) refl
 
     pub told-verdict : r .answer ≡ planAnswer.Accepted → verdictTold (verdict (r .plan)) ≡ told.Refused x → (at : ℕ) → at ≡ length s
-        → Told (behind (verdictAfter m)) (partAt s at a) (answerNumber a) (answerValue a)
+        → RefusalReport (behind (verdictAfter m)) (partAt s at a) (answerNumber a) (answerValue a)
     told-verdict q v at l = refusal-told (verdictAfter-judged s m tail r d q x v) at (ap (λ (k : ℕ). drop k s) l ∙ end-empty s)
 
 -- a plan alone that is settled
 pub told-settled-alone : (s : List ℕ) (r : PlanRead) → r ≡ planRead s (planAlone s) → r .answer ≡ planAnswer.Accepted
     → (k : ℕ) → verdictTold (verdict (r .plan)) ≡ told.Settled k → (a : TextAnswer) → a ≡ planAnswer.Accepted
-    → Told (settledAlone s) (partAt s (r .at) a) (answerNumber a) (answerValue a)
+    → RefusalReport (settledAlone s) (partAt s (r .at) a) (answerNumber a) (answerValue a)
 told-settled-alone s r d q k v a e =
-    subst (λ (m : Reading Plan). Told m (partAt s (r .at) a) (answerNumber a) (answerValue a))
+    subst (λ (m : Reading Plan). RefusalReport m (partAt s (r .at) a) (answerNumber a) (answerValue a))
     (sym (verdictAfter-settled s (planAlone s) (planAlone-tail s) r d q k v))
     (told-none s a (r .at) (r .plan) (drop (r .at) s) (r .line) e)

@@ -14,8 +14,8 @@ ghost use Prim.Native.Nat.{ℕ, suc, _+_, _*_, _≤_, _<_};
 ghost use Rattle.plan.specs.Accepted.{Accepted};
 ghost use Rattle.plan.specs.Limits.{mostJobs};
 ghost use Rattle.bounds.specs.Events.{startNode, mostNodes};
-ghost use Rattle.bounds.specs.Flat.{cellOf, rowsOf, Weighed};
-ghost use Rattle.bounds.specs.Fit.{Fit};
+ghost use Rattle.bounds.specs.Flat.{cellOf, rowsOf, WeightInRange};
+ghost use Rattle.bounds.specs.Held.{JudgedTable};
 ghost use Rattle.events.specs.Bits.{bitsOf, mostEvents};
 ghost use Rattle.calendars.specs.Calendars.{termsOf, leastCs, mostCs};
 ghost use Rattle.calendars.specs.Recorded.{weightOn, cOn, eventsOn, csOn, rowAt};
@@ -34,7 +34,7 @@ fn weight_on(weights: &[i32; Table::SIZE], side: Side, s: usize, e: usize) -> i3
 
 // The c of a weight: start >= e + c where e - start <= -c, and start <= e + c where start - e <= c; 0 where there is no bound.
 fn c_on(side: Side, w: i32) -> i32
-    requires { ⌜ Weighed w ⌝ }
+    requires { ⌜ WeightInRange w ⌝ }
     ensures { λ r. ⌜ r ≡ cOn side (cellOf w) ⌝ }
 {
     if w == Table::NO_BOUND {
@@ -54,7 +54,8 @@ fn put_side(
     row: usize,
     count: usize,
 ) -> Events
-    requires { ⌜ (count < mostEvents) × (row + count ≤ mostJobs * mostEvents) × ((e : ℕ) → e < count → Weighed (weightOn side (now weights) (suc count) e)) ⌝ }
+    requires { ⌜ (count < mostEvents) × (row + count ≤ mostJobs * mostEvents) ×
+        ((e : ℕ) → e < count → WeightInRange (weightOn side (now weights) (suc count) e)) ⌝ }
     ensures { λ r. ⌜ (bitsOf r ≡ eventsOn side (now (weights .entry)) count)
         × (now (cs .exit) ≡ sets (now (cs .entry)) row (csOn side (now (weights .entry)) count)) ⌝ }
 {
@@ -102,7 +103,7 @@ pub fn put_terms_of(
     p: Plan,
     i: usize,
 ) -> Terms
-    requires { ⌜ (Accepted p) × (i < p .jobs) × (Fit p (suc (startNode (p .jobs + i))) (rowsOf (suc (startNode (p .jobs + i))) (now weights))) ⌝ }
+    requires { ⌜ (Accepted p) × (i < p .jobs) × (JudgedTable p (suc (startNode (p .jobs + i))) (rowsOf (suc (startNode (p .jobs + i))) (now weights))) ⌝ }
     ensures { λ r. ⌜ r ≡ termsOf p i (rowsOf (suc (startNode (p .jobs + i))) (now (weights .entry))) ⌝ }
     ensures { λ r. ⌜ now (least .exit) ≡ sets (now (least .entry)) (rowAt i) (leastCs p i (rowsOf (suc (startNode (p .jobs + i))) (now (weights .entry)))) ⌝ }
     ensures { λ r. ⌜ now (most .exit) ≡ sets (now (most .entry)) (rowAt i) (mostCs p i (rowsOf (suc (startNode (p .jobs + i))) (now (weights .entry)))) ⌝ }

@@ -17,7 +17,7 @@ ghost use Rattle.plan.specs.declared.Plan.{Plan};
 ghost use Rattle.bounds.specs.Events.{nodes};
 ghost use Rattle.bounds.specs.Elimination.{eliminated};
 ghost use Rattle.bounds.specs.Flat.{rowsOf};
-ghost use Rattle.bounds.specs.Fit.{StandingOf};
+ghost use Rattle.bounds.specs.Held.{TableHeldFor};
 ghost use Rattle.rounds.specs.Rounds.{isContradictory};
 ghost use Rattle.calendars.specs.Calendars.{beforeStarts, calendarOf, noCalendar};
 
@@ -47,7 +47,7 @@ pub fn calendar_of<'a>(
     early: &'a [i32; Table::SIDE],
     late: &'a [i32; Table::SIDE],
 ) -> Calendar
-    requires { ⌜ (StandingOf p (now early) (now late) (nodes (p .jobs + p .jobs)) (now joined))
+    requires { ⌜ (TableHeldFor p (now early) (now late) (nodes (p .jobs + p .jobs)) (now joined))
         × (isContradictory (eliminated p (p .jobs) (p .jobs) (rowsOf (nodes (p .jobs + p .jobs)) (now joined))) ≡ false) ⌝ }
     ensures { λ r. ⌜ r ≡ calendarOf p (beforeStarts p (p .jobs) (rowsOf (nodes (p .jobs + p .jobs)) (now (joined .entry)))) ⌝ }
 {

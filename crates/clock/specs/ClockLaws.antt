@@ -17,9 +17,9 @@ use Rattle.whole.specs.SplitLaws.{split-one, split-mul}
 use Rattle.whole.specs.Rules.{whole, wholes}
 use Rattle.clock.specs.declared.RunTime.{RunTime}
 use Rattle.clock.specs.Clock.{beginsAt, isEarlier, isBetween}
-use Rattle.clock.specs.Spans.{longestLength, lastWindow, Spanned, Near}
+use Rattle.clock.specs.Spans.{longestLength, lastWindow, WindowInRange, NearBeginning}
 
-module _ (window : ℤ) (j : ℕ) (s : Spanned window j) where
+module _ (window : ℤ) (j : ℕ) (s : WindowInRange window j) where
   dn-none : dn window ≤ 0
   dn-none = ⊎-elim (λ (e : up window ≡ 0). omega wholes) (λ (e : dn window ≡ 0). omega wholes) (split-one window)
 
@@ -38,7 +38,7 @@ module _ (window : ℤ) (j : ℕ) (s : Spanned window j) where
   pub beginsAt-fits : SFits w64 (beginsAt window j .0)
   beginsAt-fits = let l = beginsAt-least in let g = beginsAt-greatest in omega wholes
 
-  pub onRun-fits : {t : ℤ} → Near t → SFits w64 (beginsAt window j .0 +ℤ t)
+  pub onRun-fits : {t : ℤ} → NearBeginning t → SFits w64 (beginsAt window j .0 +ℤ t)
   onRun-fits n = let l = beginsAt-least in let g = beginsAt-greatest in omega wholes
 
 -- ---- sums of the machine

@@ -17,13 +17,13 @@ abbrev pub farthest : ℤ
 farthest = pos 1000000000
 
 -- a window's length, and the number of a window of a run or of the one past its last
-pub record Spanned (window : ℤ) (j : ℕ) : Type 0 where
+pub record WindowInRange (window : ℤ) (j : ℕ) : Type 0 where
   pub least : pos 0 ≤ℤ window
   pub greatest : window ≤ℤ pos longestLength
   pub first : 1 ≤ j
   pub last : j ≤ lastWindow + 1
 
 -- a time that is near its window's beginning
-pub record Near (t : ℤ) : Type 0 where
+pub record NearBeginning (t : ℤ) : Type 0 where
   pub least : negℤ farthest ≤ℤ t
   pub greatest : t ≤ℤ farthest

@@ -25,7 +25,7 @@ partAt s at Accepted = []
 partAt s at (Refused r) = before LF (drop at s)
 
 -- what a reader of the refusal gets of a reading: the part, the number and the value
-pub record Told {A : Type 0} (m : Reading A) (part : List ℕ) (n d : ℕ) : Type 0 where
+pub record RefusalReport {A : Type 0} (m : Reading A) (part : List ℕ) (n d : ℕ) : Type 0 where
   pub part-is : part ≡ faultyPart m
   pub number-is : n ≡ refusedNumber m
   pub value-is : d ≡ refusedValue m

@@ -15,7 +15,7 @@ use Rattle.lines.specs.declared.TextAnswer.{TextAnswer}
 use Rattle.lines.specs.declared.TextAnswer.the-variants.{Accepted, Refused}
 use Rattle.lines.specs.declared.Refusal.{Refusal}
 use Rattle.lines.specs.Reading.{Lined, holds, lacks, Reading, read, refused, Reader, next, lined, line, faultyPart}
-use Rattle.lines.specs.Answers.{answerNumber, answerValue, partAt, Told}
+use Rattle.lines.specs.Answers.{answerNumber, answerValue, partAt, RefusalReport}
 
 -- ---- a tail of a text
 
@@ -71,11 +71,12 @@ before-past s at h = rw (drop-of-length-le s {i = at} (omega arith))
 
 -- an answer, and the place in the text s where its faulty line begins
 module _ {A : Type 0} (s : List ℕ) (a : TextAnswer) (at : ℕ) where
-  pub told-refused : (x : Refusal) {t : List ℕ} → a ≡ Refused x → drop at s ≡ t → Told {A = A} (refused x t) (partAt s at a) (answerNumber a) (answerValue a)
+  pub told-refused : (x : Refusal) {t : List ℕ} → a ≡ Refused x → drop at s ≡ t
+      → RefusalReport {A = A} (refused x t) (partAt s at a) (answerNumber a) (answerValue a)
   unfolding faultyPart
   told-refused x e d = record { part-is = ap (partAt s at) e ∙ ap (before LF) d; number-is = ap answerNumber e; value-is = ap answerValue e }
 
-  pub told-none : (b : A) (t : List ℕ) (k : ℕ) → a ≡ Accepted → Told (read b t k) (partAt s at a) (answerNumber a) (answerValue a)
+  pub told-none : (b : A) (t : List ℕ) (k : ℕ) → a ≡ Accepted → RefusalReport (read b t k) (partAt s at a) (answerNumber a) (answerValue a)
   unfolding faultyPart
   told-none b t k e = record { part-is = ap (partAt s at) e; number-is = ap answerNumber e; value-is = ap answerValue e }
 

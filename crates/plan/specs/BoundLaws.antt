@@ -35,7 +35,7 @@ use Rattle.plan.specs.declared.BoundLine.the-variants as boundLine
 use Rattle.plan.specs.Limits.{leastC, greatestC}
 use Rattle.plan.specs.EventNames.{eventName, nameRead}
 use Rattle.plan.specs.PlanLines.{BoundParts, partsOf, boundParts, isJob, judgedBound, boundOf}
-use Rattle.plan.specs.BoundNames.{partNamed, nameTo, withSecond, withFirst, namesIn}
+use Rattle.plan.specs.BoundNames.{partNamed, nameTo, thenNumber, thenSecond, namesIn}
 
 -- ---- a name up to its comma
 
@@ -86,18 +86,18 @@ after-drop l at = drop-drop (lenTo comma (drop at l) + 1) at l ∙ ap (λ n. dro
 -- the second name, after the first one
 second-parts : (l : List ℕ) (k : ℕ) (a : EventName)
     → cond (has comma (drop k l)) (partsOf (some a) (eventName (before comma (drop k l))) (after comma (drop k l))) none ≡ partsFrom l
-    (withSecond a (nameTo l k))
+    (thenNumber a (nameTo l k))
 unfolding nameTo
 second-parts l k a = by-comma (has comma (drop k l)) (eventName (before comma (drop k l)))
   where
     by-comma : (t : Bool) (o : Option EventName)
         → cond t (partsOf (some a) o (after comma (drop k l))) none ≡ partsFrom l
-        (withSecond a (cond t (partNamed (k + lenTo comma (drop k l) + 1) o) namePart.Bad))
+        (thenNumber a (cond t (partNamed (k + lenTo comma (drop k l) + 1) o) namePart.Bad))
     by-comma true none = refl
     by-comma true (some b) = ap (λ c. partsOf (some a) (some b) c) (after-drop l k)
     by-comma false o = refl
 
-first-parts : (l : List ℕ) (k : ℕ) → boundParts (some (drop k l)) ≡ partsFrom l (withFirst l (nameTo l k))
+first-parts : (l : List ℕ) (k : ℕ) → boundParts (some (drop k l)) ≡ partsFrom l (thenSecond l (nameTo l k))
 unfolding nameTo boundParts
 first-parts l k = by-comma (has comma (drop k l)) (eventName (before comma (drop k l)))
   where
@@ -108,7 +108,7 @@ first-parts l k = by-comma (has comma (drop k l)) (eventName (before comma (drop
     by-comma : (t : Bool) (o : Option EventName)
         → cond (t && has comma (after comma (drop k l))) (partsOf o (eventName (before comma (after comma (drop k l))))
         (after comma (after comma (drop k l)))) none
-        ≡ partsFrom l (withFirst l (cond t (partNamed (k + lenTo comma (drop k l) + 1) o) namePart.Bad))
+        ≡ partsFrom l (thenSecond l (cond t (partNamed (k + lenTo comma (drop k l) + 1) o) namePart.Bad))
     by-comma true none = none-parts (has comma (after comma (drop k l)))
     by-comma true (some a) = rw (after-drop l k) (second-parts l (k + lenTo comma (drop k l) + 1) a)
     by-comma false o = refl
@@ -118,7 +118,7 @@ unfolding namesIn bytes boundParts
 namesIn-parts l = by-key (hasKey (bytes "bound=") l) refl
   where
     by-key : (b : Bool) → hasKey (bytes "bound=") l ≡ b
-        → boundParts (afterKey (bytes "bound=") l) ≡ partsFrom l (cond b (withFirst l (nameTo l 6)) boundNames.Bad)
+        → boundParts (afterKey (bytes "bound=") l) ≡ partsFrom l (cond b (thenSecond l (nameTo l 6)) boundNames.Bad)
     by-key true h = ap boundParts (hasKey-true (bytes "bound=") l h) ∙ first-parts l 6
     by-key false h = ap boundParts (hasKey-false (bytes "bound=") l h)
 
@@ -126,7 +126,7 @@ pub namesIn-other : (l : List ℕ) → hasKey (bytes "bound=") l ≡ false → n
 unfolding namesIn
 namesIn-other l h = rw h
 
-pub namesIn-key : (l : List ℕ) → hasKey (bytes "bound=") l ≡ true → namesIn l ≡ withFirst l (nameTo l 6)
+pub namesIn-key : (l : List ℕ) → hasKey (bytes "bound=") l ≡ true → namesIn l ≡ thenSecond l (nameTo l 6)
 unfolding namesIn
 namesIn-key l h = rw h
 
@@ -151,15 +151,15 @@ pub namesIn-fits : (l : List ℕ) {a b : EventName} {at : ℕ} → namesIn l ≡
 unfolding namesIn bytes
 namesIn-fits l {a} {b} {at} e = by-key (hasKey (bytes "bound=") l) refl e
   where
-    by-second : (x : EventName) (k : ℕ) → k ≤ length l → (m : NamePart) → nameTo l k ≡ m → withSecond x m ≡ boundNames.Value a b at → at ≤ length l
+    by-second : (x : EventName) (k : ℕ) → k ≤ length l → (m : NamePart) → nameTo l k ≡ m → thenNumber x m ≡ boundNames.Value a b at → at ≤ length l
     by-second x k h (namePart.Value y i) p d = let q : i ≡ at = cc in subst (λ n. n ≤ length l) q (nameTo-fits l k h p)
     by-second x k h namePart.Bad p d = clash (cc)
 
-    by-first : 6 ≤ length l → (m : NamePart) → nameTo l 6 ≡ m → withFirst l m ≡ boundNames.Value a b at → at ≤ length l
+    by-first : 6 ≤ length l → (m : NamePart) → nameTo l 6 ≡ m → thenSecond l m ≡ boundNames.Value a b at → at ≤ length l
     by-first h (namePart.Value x k) p d = by-second x k (nameTo-fits l 6 h p) (nameTo l k) refl d
     by-first h namePart.Bad p d = clash (cc)
 
-    by-key : (t : Bool) → hasKey (bytes "bound=") l ≡ t → cond t (withFirst l (nameTo l 6)) boundNames.Bad ≡ boundNames.Value a b at → at ≤ length l
+    by-key : (t : Bool) → hasKey (bytes "bound=") l ≡ t → cond t (thenSecond l (nameTo l 6)) boundNames.Bad ≡ boundNames.Value a b at → at ≤ length l
     by-key true h d = by-first (hasKey-fits (bytes "bound=") l h) (nameTo l 6) refl d
     by-key false h d = clash (cc)
 

@@ -23,14 +23,14 @@ nameTo l at =
     let s = drop at l in
     cond (has comma s) (partNamed (at + lenTo comma s + 1) (eventName (before comma s))) namePart.Bad
 
-abbrev pub withSecond : EventName → NamePart → BoundNames
-withSecond a namePart.Bad = boundNames.Bad
-withSecond a (namePart.Value b at) = boundNames.Value a b at
+abbrev pub thenNumber : EventName → NamePart → BoundNames
+thenNumber a namePart.Bad = boundNames.Bad
+thenNumber a (namePart.Value b at) = boundNames.Value a b at
 
-abbrev pub withFirst : List ℕ → NamePart → BoundNames
-withFirst l namePart.Bad = boundNames.Bad
-withFirst l (namePart.Value a at) = withSecond a (nameTo l at)
+abbrev pub thenSecond : List ℕ → NamePart → BoundNames
+thenSecond l namePart.Bad = boundNames.Bad
+thenSecond l (namePart.Value a at) = thenNumber a (nameTo l at)
 
 -- the two names of a bound line, and where its number begins
 unfoldable pub namesIn : List ℕ → BoundNames
-namesIn l = cond (hasKey (bytes "bound=") l) (withFirst l (nameTo l 6)) boundNames.Bad
+namesIn l = cond (hasKey (bytes "bound=") l) (thenSecond l (nameTo l 6)) boundNames.Bad

@@ -60,12 +60,12 @@ use Rattle.lines.specs.ReadingLaws.{Then, inTurn as _>>=_, next-then, next-of, 
 
 -- ---- jobs
 
-pub record JobRead (s : List ℕ) (j : Job) (t : List ℕ) : Type 0 where
+pub record JobFromText (s : List ℕ) (j : Job) (t : List ℕ) : Type 0 where
   pub accepted : JobAccepted j
   pub written : s ≡ jobsText (j ∷ []) t
 
 jobLines-then : {B : Type 0} (s : List ℕ) (n : ℕ) (f : Job → Reader B) {b : B} {t : List ℕ} {k : ℕ}
-    → next (jobLines s n) f ≡ read b t k → Then (λ j r i. JobRead s j r) f b t k
+    → next (jobLines s n) f ≡ read b t k → Then (λ j r i. JobFromText s j r) f b t k
 unfolding jobLines jobsText next
 jobLines-then s n f e = do
   all ← next-then (jobLines s n) f e
@@ -97,13 +97,13 @@ jobLines-then s n f e = do
   }
 
 -- so many jobs more: those that were read, in their order
-pub record JobsRead (left : ℕ) (s : List ℕ) (js : List Job) (t : List ℕ) : Type 0 where
+pub record JobsFromText (left : ℕ) (s : List ℕ) (js : List Job) (t : List ℕ) : Type 0 where
   pub count : length js ≡ left
   pub accepted : All JobAccepted js
   pub written : s ≡ jobsText js t
 
 jobsAfter-then : {B : Type 0} (done : List Job) (left : ℕ) (s : List ℕ) (n : ℕ) (f : List Job → Reader B) {b : B} {t : List ℕ} {k : ℕ}
-    → next (jobsAfter done left s n) f ≡ read b t k → Then (λ js r i. JobsRead left s js r) (λ js. f (done ++ js)) b t k
+    → next (jobsAfter done left s n) f ≡ read b t k → Then (λ js r i. JobsFromText left s js r) (λ js. f (done ++ js)) b t k
 unfolding jobsAfter next jobsText
 jobsAfter-then done zero s n f e =
     record { got = []; left = s; line = n; told = record { count = refl; accepted = tt; written = refl }; more = rw append-nil e }
@@ -125,11 +125,11 @@ jobsAfter-then done (suc left) s n f e = do
 
 -- ---- bounds
 
-pub record PartsRead (s : List ℕ) (q : BoundParts) : Type 0 where
+pub record PartsFromText (s : List ℕ) (q : BoundParts) : Type 0 where
   pub form : isNumber (q .c) ≡ true
   pub written : s ≡ nameBytes (q .a) ++ (comma ∷ (nameBytes (q .b) ++ (comma ∷ q .c)))
 
-boundParts-read : (s : List ℕ) {q : BoundParts} → boundParts (some s) ≡ some q → PartsRead s q
+boundParts-read : (s : List ℕ) {q : BoundParts} → boundParts (some s) ≡ some q → PartsFromText s q
 unfolding boundParts
 boundParts-read s {q} e = by-commas (has comma s) (has comma (after comma s)) refl refl e
   where
@@ -137,10 +137,10 @@ boundParts-read s {q} e = by-commas (has comma s) (has comma (after comma s)) re
     t = after comma s
 
     by-form : (a b : EventName) → has comma s ≡ true → has comma t ≡ true → eventName (before comma s) ≡ some a → eventName (before comma t) ≡ some b
-        → (n : Bool) → isNumber (after comma t) ≡ n → cond n (some (record { a = a; b = b; c = after comma t })) none ≡ some q → PartsRead s q
+        → (n : Bool) → isNumber (after comma t) ≡ n → cond n (some (record { a = a; b = b; c = after comma t })) none ≡ some q → PartsFromText s q
     by-form a b p1 p2 p3 p4 true h d =
         let v : _≡_ {A = BoundParts} (record { a = a; b = b; c = after comma t }) q = cc in
-        subst (PartsRead s) v
+        subst (PartsFromText s) v
         (record {
           form = h;
           written =
@@ -152,18 +152,18 @@ boundParts-read s {q} e = by-commas (has comma s) (has comma (after comma s)) re
     by-form a b p1 p2 p3 p4 false h d = clash (cc)
 
     by-names : has comma s ≡ true → has comma t ≡ true → (a b : Option EventName) → eventName (before comma s) ≡ a → eventName (before comma t) ≡ b
-        → partsOf a b (after comma t) ≡ some q → PartsRead s q
+        → partsOf a b (after comma t) ≡ some q → PartsFromText s q
     by-names p1 p2 none b p3 p4 d = clash (cc)
     by-names p1 p2 (some a) none p3 p4 d = clash (cc)
     by-names p1 p2 (some a) (some b) p3 p4 d = by-form a b p1 p2 p3 p4 (isNumber (after comma t)) refl d
 
     by-commas : (x y : Bool) → has comma s ≡ x → has comma t ≡ y
-        → cond (x && y) (partsOf (eventName (before comma s)) (eventName (before comma t)) (after comma t)) none ≡ some q → PartsRead s q
+        → cond (x && y) (partsOf (eventName (before comma s)) (eventName (before comma t)) (after comma t)) none ≡ some q → PartsFromText s q
     by-commas true true p1 p2 d = by-names p1 p2 (eventName (before comma s)) (eventName (before comma t)) refl refl d
     by-commas true false p1 p2 d = clash (cc)
     by-commas false y p1 p2 d = clash (cc)
 
-pub record BoundRead (jobs : ℕ) (given : List Bound) (l : List ℕ) (d : Bound) : Type 0 where
+pub record BoundFromText (jobs : ℕ) (given : List Bound) (l : List ℕ) (d : Bound) : Type 0 where
   pub written : l ≡ boundBytes d []
   pub accepted : BoundAccepted jobs d
   pub pair : isWrongPair (d .a) (d .b) given ≡ false
@@ -176,7 +176,7 @@ isJob-range jobs i e = by-tests (leb 1 i) (leb i jobs) refl refl e
     by-tests true false p q e = clash (cc)
     by-tests false b p q e = clash (cc)
 
-pub boundOfLine-read : (jobs : ℕ) (given : List Bound) (l : List ℕ) {d : Bound} → linedBound (boundOfLine jobs given l) ≡ holds d → BoundRead jobs given l d
+pub boundOfLine-read : (jobs : ℕ) (given : List Bound) (l : List ℕ) {d : Bound} → linedBound (boundOfLine jobs given l) ≡ holds d → BoundFromText jobs given l d
 unfolding linedBound boundOf boundParts
 boundOfLine-read jobs given l {d} e = by-parts (boundParts (afterKey (bytes "bound=") l)) refl e
   where
@@ -194,13 +194,13 @@ boundOfLine-read jobs given l {d} e = by-parts (boundParts (afterKey (bytes "bou
         → leZ leastC (numberValue (q .c)) ≡ true → leZ (numberValue (q .c)) greatestC ≡ true
         → (t : Bool) → isWrongPair (q .a) (q .b) given ≡ t
         → linedBound (cond t (boundLine.Bad fault.Pair) (boundLine.Value (record { a = q .a; b = q .b; c = numberValue (q .c) }))) ≡ holds d
-        → BoundRead jobs given l d
+        → BoundFromText jobs given l d
     by-pair q p ja jb cl cm true w e = clash (cc)
     by-pair q p ja jb cl cm false w e =
         let v : _≡_ {A = Bound} (record { a = q .a; b = q .b; c = numberValue (q .c) }) d = cc in
         let ra = isJob-range jobs (q .a .job) ja in
         let rb = isJob-range jobs (q .b .job) jb in
-        subst (λ x. BoundRead jobs given l x) v
+        subst (λ x. BoundFromText jobs given l x) v
         (record {
           written = by-key (afterKey (bytes "bound=") l) refl q p;
           accepted = record { a-least = ra .0; a-most = ra .1; b-least = rb .0; b-most = rb .1; c-least = omega whole; c-most = omega whole };
@@ -211,7 +211,7 @@ boundOfLine-read jobs given l {d} e = by-parts (boundParts (afterKey (bytes "bou
         → isJob jobs (q .b .job) ≡ jb → leZ leastC (numberValue (q .c)) ≡ cl → leZ (numberValue (q .c)) greatestC ≡ cm
         → linedBound (cond (not (ja && jb && (cl && cm))) (boundLine.Bad fault.Range)
         (cond (isWrongPair (q .a) (q .b) given) (boundLine.Bad fault.Pair) (boundLine.Value (record { a = q .a; b = q .b; c = numberValue (q .c) }))))
-        ≡ holds d → BoundRead jobs given l d
+        ≡ holds d → BoundFromText jobs given l d
     by-range q p true true true true p1 p2 p3 p4 e = by-pair q p p1 p2 p3 p4 (isWrongPair (q .a) (q .b) given) refl e
     by-range q p true true true false p1 p2 p3 p4 e = clash (cc)
     by-range q p true true false cm p1 p2 p3 p4 e = clash (cc)
@@ -219,7 +219,7 @@ boundOfLine-read jobs given l {d} e = by-parts (boundParts (afterKey (bytes "bou
     by-range q p false jb cl cm p1 p2 p3 p4 e = clash (cc)
 
     by-parts : (o : Option BoundParts) → boundParts (afterKey (bytes "bound=") l) ≡ o → linedBound (boundOf jobs (λ a b. isWrongPair a b given) o) ≡ holds d
-        → BoundRead jobs given l d
+        → BoundFromText jobs given l d
     by-parts none p e = clash (cc)
     by-parts (some q) p e = by-range q p (isJob jobs (q .a .job)) (isJob jobs (q .b .job)) (leZ leastC (numberValue (q .c)))
         (leZ (numberValue (q .c)) greatestC) refl refl refl refl e
@@ -240,13 +240,13 @@ AllBounds-at jobs given (d ∷ ds) (suc i) h l =
 pub boundBytes-append : (d : Bound) (s t : List ℕ) → boundBytes d s ++ t ≡ boundBytes d (s ++ t)
 boundBytes-append d s t = simp append-assoc
 
-pub record BoundsRead (jobs : ℕ) (given : List Bound) (left : ℕ) (s : List ℕ) (ds : List Bound) (t : List ℕ) : Type 0 where
+pub record BoundsFromText (jobs : ℕ) (given : List Bound) (left : ℕ) (s : List ℕ) (ds : List Bound) (t : List ℕ) : Type 0 where
   pub count : length ds ≡ left
   pub accepted : AllBounds jobs given ds
   pub written : s ≡ boundsText ds ++ t
 
 boundsAfter-then : {B : Type 0} (jobs : ℕ) (given : List Bound) (left : ℕ) (s : List ℕ) (n : ℕ) (f : List Bound → Reader B) {b : B} {t : List ℕ} {k : ℕ}
-    → next (boundsAfter jobs given left s n) f ≡ read b t k → Then (λ ds r i. BoundsRead jobs given left s ds r) (λ ds. f (given ++ ds)) b t k
+    → next (boundsAfter jobs given left s n) f ≡ read b t k → Then (λ ds r i. BoundsFromText jobs given left s ds r) (λ ds. f (given ++ ds)) b t k
 unfolding boundsAfter next boundsText
 boundsAfter-then jobs given zero s n f e =
     record { got = []; left = s; line = n; told = record { count = refl; accepted = tt; written = refl }; more = rw append-nil e }
@@ -276,7 +276,7 @@ boundsAfter-then jobs given (suc left) s n f e = do
 -- ---- the plan
 
 -- what is known once a plan's lines were read: the plan is accepted, its text is what was read, and the places beyond its jobs and bounds hold zeros
-pub record PlanRead (s : List ℕ) (p : Plan) (t : List ℕ) : Type 0 where
+pub record PlanFromText (s : List ℕ) (p : Plan) (t : List ℕ) : Type 0 where
   pub accepted : Accepted p
   pub written : planText p ++ t ≡ s
   pub whole : trimmed p ≡ p
@@ -300,7 +300,7 @@ linesOf-append : (window : ℤ) (rounds last jobs : ℕ) (js : List Job) (bounds
     → linesOf window rounds last jobs js bounds s ++ t ≡ linesOf window rounds last jobs js bounds (s ++ t)
 linesOf-append window rounds last jobs js bounds s t = simp (append-assoc, jobsText-append)
 
-planLines-read : (s : List ℕ) (n : ℕ) {p : Plan} {t : List ℕ} {k : ℕ} → planLines s n ≡ read p t k → PlanRead s p t
+planLines-read : (s : List ℕ) (n : ℕ) {p : Plan} {t : List ℕ} {k : ℕ} → planLines s n ≡ read p t k → PlanFromText s p t
 unfolding planLines planText trimmed
 planLines-read s n {p} {t} {k} e = do
   window ← numberLine-then _ _ _ _ _ _ e
@@ -317,7 +317,7 @@ planLines-read s n {p} {t} {k} e = do
   let every : length ds ≤ mostBounds = omega (arith, bounds .told .most, bound .told .count)
   let jobs-are : take (jobs .got) (filled mostJobs noJob js) ≡ js = filled-all mostJobs noJob js all (jobs .got) (job .told .count)
   let bounds-are : take (bounds .got) (filled mostBounds noBound ds) ≡ ds = filled-all mostBounds noBound ds every (bounds .got) (bound .told .count)
-  subst (λ x. PlanRead s x t) m
+  subst (λ x. PlanFromText s x t) m
       (record {
         accepted = record {
           window-least = window .told .least;
@@ -364,12 +364,12 @@ planLines-read s n {p} {t} {k} e = do
       })
 
 -- 'At most 65,536 bytes'
-planHead-read : (s : List ℕ) {p : Plan} {t : List ℕ} {k : ℕ} → planHead s ≡ read p t k → PlanRead s p t × (length s ≤ longestText)
+planHead-read : (s : List ℕ) {p : Plan} {t : List ℕ} {k : ℕ} → planHead s ≡ read p t k → PlanFromText s p t × (length s ≤ longestText)
 unfolding planHead
 planHead-read s {p} {t} {k} e = by-length (leb (length s) longestText) refl e
   where
     by-length : (b : Bool) → leb (length s) longestText ≡ b → cond b (planLines s 1) (refused tooLong []) ≡ read p t k
-        → PlanRead s p t × (length s ≤ longestText)
+        → PlanFromText s p t × (length s ≤ longestText)
     by-length true h d = (planLines-read s 1 d, leb-true (length s) longestText h)
     by-length false h d = clash (cc)
 

@@ -12,7 +12,7 @@ use Rattle.plan.specs.EventNames.{eventName, sameEvent}
 use Rattle.plan.specs.PlanLines.{jobLines, jobsAfter, boundParts, isGiven, isWrongPair, boundOf, linedBound, boundsAfter, planLines, planHead, nothingAfter}
 use Rattle.bounds.specs.Events.{jobAt, shift, earliest, latest, nodeOf, eventOf}
 use Rattle.bounds.specs.Judgements.{judged}
-use Rattle.bounds.specs.Tables.{least, plus, join, at, listed, leastOf, judgement, anyBelow, contradicts, keptRows, judgedSet}
+use Rattle.bounds.specs.Tables.{lesserCell, plus, join, at, listed, leastOf, judgement, anyBelow, contradicts, keptRows, judgedSet}
 use Rattle.bounds.specs.Elimination.{finishCell, startCell, thenSet, withoutPlace, eliminated}
 use Rattle.rounds.specs.Given.{givenBounds, ranges, orders, ownBounds, betweenBounds}
 use Rattle.rounds.specs.Rounds.{C0, onNext, joined, round, sameCell, sameRow, sameRows, failsAlone, decided, roundsFrom, outcomeFrom, outcome}
@@ -23,7 +23,7 @@ use Rattle.runs.specs.Seen.{jobSeen, frontFrom}
 use Rattle.runs.specs.Offers.{lowerTerms, upperTerms, greatest, openingAt}
 use Rattle.runs.specs.Offers as offers
 use Rattle.runs.specs.Steps.{asked, started, finished, answerAt, closed, moved}
-use Rattle.session.specs.StepRead.{timed, finishIn, finishStep, startIn, startStep, stepIn, linedStep, stepLine}
+use Rattle.session.specs.StepRead.{timeStep, finishIn, finishStep, startIn, startStep, stepIn, linedStep, stepLine}
 use Rattle.session.specs.AnswerText.{answerLine, endsSession}
 use Rattle.session.specs.Sessions.{answeredStep, afterStep, dispatchedWithin, judgedSession, sessionOf, dispatchOutput}
 
@@ -41,15 +41,15 @@ abbrev pub printed : Program → List ℕ → List ℕ
 printed Calendar s = calendarOutput s
 printed Dispatch s = dispatchOutput s
 
-abbrev pub answer : Case → List ℕ
-answer c = printed (c .program) (bytes (c .input))
+abbrev pub caseAnswer : Case → List ℕ
+caseAnswer c = printed (c .program) (bytes (c .input))
 
 abbrev pub expected : Case → List ℕ
 expected c = bytes (c .output)
 
 -- each case's program prints just its output
 abbrev pub Right : List Case → Type 0
-Right cases = map answer cases ≡ map expected cases
+Right cases = map caseAnswer cases ≡ map expected cases
 
 -- Naming one of these on an `unfolding` line opens the definitions of a subject.
 
@@ -64,7 +64,7 @@ readingPlans = Unit {0}
 
 -- judgement and elimination
 unfoldable pub eliminating : Type 0
-unfolding jobAt shift earliest latest nodeOf eventOf judged least plus join at listed leastOf judgement anyBelow contradicts keptRows judgedSet
+unfolding jobAt shift earliest latest nodeOf eventOf judged lesserCell plus join at listed leastOf judgement anyBelow contradicts keptRows judgedSet
 eliminating = Unit {0}
 
 -- rounds and the verdict
@@ -88,7 +88,7 @@ dispatching = Unit {0}
 
 -- a session's text: its steps, read, and their answers
 unfoldable pub readingSteps : Type 0
-unfolding timed finishIn finishStep startIn startStep stepIn linedStep stepLine
+unfolding timeStep finishIn finishStep startIn startStep stepIn linedStep stepLine
 readingSteps = Unit {0}
 
 unfoldable pub answering : Type 0

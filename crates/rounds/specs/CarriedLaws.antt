@@ -19,17 +19,17 @@ use Rattle.bounds.specs.declared.Event.{Event}
 use Rattle.bounds.specs.declared.Event.the-variants.{Start, Finish}
 use Rattle.bounds.specs.Events.{jobAt, shift, earliest, latest, eventOf, nodeOf, startNode, finishNode, nodes}
 use Rattle.bounds.specs.EventsLaws.{jobAt-this, jobAt-next, shift-this, shift-next}
-use Rattle.bounds.specs.Tables.{Cell, upto, least, plus, Rows, at, Between, leastOf, bounds}
+use Rattle.bounds.specs.Tables.{Cell, upto, lesserCell, plus, Rows, at, Between, leastOf, bounds}
 use Rattle.bounds.specs.Elimination.{withoutPlace, eliminated}
 use Rattle.bounds.specs.BuildLaws.{byNode, eventOf-start, eventOf-finish}
-use Rattle.bounds.specs.TowardsLaws.{least-comm}
-use Rattle.bounds.specs.Fit.{AtMost, Fit}
-use Rattle.bounds.specs.FitLaws.{least-most, fit-judged}
-use Rattle.bounds.specs.PlacesLaws.{thenSet-some, withoutPlace-fit}
+use Rattle.bounds.specs.LeadsToLaws.{least-comm}
+use Rattle.bounds.specs.Held.{CellAtMost, JudgedTable}
+use Rattle.bounds.specs.JudgedTableLaws.{least-most, judgedSet-judged-table}
+use Rattle.bounds.specs.PlacesLaws.{thenSet-some, withoutPlace-judged-table}
 use Rattle.bounds.specs.StartLaws.{less-or-same}
 use Rattle.rounds.specs.Given.{upTo, downTo, ranges, ownBounds, betweenBounds}
 use Rattle.rounds.specs.Rounds.{C0, ownNodes, onNext, joined}
-use Rattle.rounds.specs.OnNextLaws.{onto-origin, onto-event, movedBy-origin, movedBy-event, onNext-onto}
+use Rattle.rounds.specs.OnNextLaws.{onto-origin, onto-event, shiftBy-origin, shiftBy-event, onNext-onto}
 
 -- ---- a bound of a list
 
@@ -42,24 +42,24 @@ in-left b [] cs h = absurd h
 in-left b (c ∷ bs) cs (inl e) = inl e
 in-left b (c ∷ bs) cs (inr h) = inr (in-left b bs cs h)
 
-self-most : (w : ℤ) → AtMost (upto w) w
+self-most : (w : ℤ) → CellAtMost (upto w) w
 self-most w = record { weight = w; held = refl; most = omega wholes }
 
-right-most : (c : Cell) {d : Cell} {a : ℤ} → AtMost d a → AtMost (least c d) a
-right-most c {d} {a} m = subst (λ c. AtMost c a) (least-comm d c) (least-most c m)
+right-most : (c : Cell) {d : Cell} {a : ℤ} → CellAtMost d a → CellAtMost (lesserCell c d) a
+right-most c {d} {a} m = subst (λ c. CellAtMost c a) (least-comm d c) (least-most c m)
 
 -- the least weight of a pair is at most that of each bound on it
-leastOf-most : (b : Between) (bs : List Between) → In b bs → AtMost (leastOf bs (nodeOf (b .y)) (nodeOf (b .z))) (b .w)
+leastOf-most : (b : Between) (bs : List Between) → In b bs → CellAtMost (leastOf bs (nodeOf (b .y)) (nodeOf (b .z))) (b .w)
 unfolding leastOf
 leastOf-most b [] h = absurd h
 leastOf-most b (c ∷ cs) (inl e) =
-    subst (λ c. AtMost (leastOf (c ∷ cs) (nodeOf (b .y)) (nodeOf (b .z))) (b .w)) e
+    subst (λ c. CellAtMost (leastOf (c ∷ cs) (nodeOf (b .y)) (nodeOf (b .z))) (b .w)) e
     (rw (eq-eqb (nodeOf (b .y)) (nodeOf (b .y)) refl, eq-eqb (nodeOf (b .z)) (nodeOf (b .z)) refl)
     (least-most (leastOf cs (nodeOf (b .y)) (nodeOf (b .z))) (self-most (b .w))))
 leastOf-most b (c ∷ cs) (inr h) = by (eqb (nodeOf (c .y)) (nodeOf (b .y)) && eqb (nodeOf (c .z)) (nodeOf (b .z))) (leastOf-most b cs h)
   where
-    by : (q : Bool) → AtMost (leastOf cs (nodeOf (b .y)) (nodeOf (b .z))) (b .w)
-        → AtMost (cond q (least (upto (c .w)) (leastOf cs (nodeOf (b .y)) (nodeOf (b .z)))) (leastOf cs (nodeOf (b .y)) (nodeOf (b .z)))) (b .w)
+    by : (q : Bool) → CellAtMost (leastOf cs (nodeOf (b .y)) (nodeOf (b .z))) (b .w)
+        → CellAtMost (cond q (lesserCell (upto (c .w)) (leastOf cs (nodeOf (b .y)) (nodeOf (b .z)))) (leastOf cs (nodeOf (b .y)) (nodeOf (b .z)))) (b .w)
     by true m = right-most (upto (c .w)) m
     by false m = m
 
@@ -100,29 +100,29 @@ module _ (p : Plan) where
         finish = record { up = in-left _ (ranges p (p .jobs)) _ (r .finish .up); down = in-left _ (ranges p (p .jobs)) _ (r .finish .down) };
       }
 
-  own-above : (y : ℕ) → 0 < y → y < nodes (p .jobs) → AtMost (leastOf (ownBounds p) 0 y) (latest p (eventOf y))
+  own-above : (y : ℕ) → 0 < y → y < nodes (p .jobs) → CellAtMost (leastOf (ownBounds p) 0 y) (latest p (eventOf y))
   unfolding nodeOf
   own-above =
-      byNode (λ y. 0 < y → y < nodes (p .jobs) → AtMost (leastOf (ownBounds p) 0 y) (latest p (eventOf y)))
+      byNode (λ y. 0 < y → y < nodes (p .jobs) → CellAtMost (leastOf (ownBounds p) 0 y) (latest p (eventOf y)))
       (λ h l. absurd (omega arith))
-      (λ k h l. subst (λ e. AtMost (leastOf (ownBounds p) 0 (startNode k)) (latest p e)) (sym (eventOf-start k))
+      (λ k h l. subst (λ e. CellAtMost (leastOf (ownBounds p) 0 (startNode k)) (latest p e)) (sym (eventOf-start k))
       (leastOf-most (upTo p (Start k)) (ownBounds p) (own-both k (omega arith) .start .up)))
-      (λ k h l. subst (λ e. AtMost (leastOf (ownBounds p) 0 (finishNode k)) (latest p e)) (sym (eventOf-finish k))
+      (λ k h l. subst (λ e. CellAtMost (leastOf (ownBounds p) 0 (finishNode k)) (latest p e)) (sym (eventOf-finish k))
       (leastOf-most (upTo p (Finish k)) (ownBounds p) (own-both k (omega arith) .finish .up)))
 
-  own-below : (y : ℕ) → 0 < y → y < nodes (p .jobs) → AtMost (leastOf (ownBounds p) y 0) (negℤ (earliest p (eventOf y)))
+  own-below : (y : ℕ) → 0 < y → y < nodes (p .jobs) → CellAtMost (leastOf (ownBounds p) y 0) (negℤ (earliest p (eventOf y)))
   unfolding nodeOf
   own-below =
-      byNode (λ y. 0 < y → y < nodes (p .jobs) → AtMost (leastOf (ownBounds p) y 0) (negℤ (earliest p (eventOf y))))
+      byNode (λ y. 0 < y → y < nodes (p .jobs) → CellAtMost (leastOf (ownBounds p) y 0) (negℤ (earliest p (eventOf y))))
       (λ h l. absurd (omega arith))
-      (λ k h l. subst (λ e. AtMost (leastOf (ownBounds p) (startNode k) 0) (negℤ (earliest p e))) (sym (eventOf-start k))
+      (λ k h l. subst (λ e. CellAtMost (leastOf (ownBounds p) (startNode k) 0) (negℤ (earliest p e))) (sym (eventOf-start k))
       (leastOf-most (downTo p (Start k)) (ownBounds p) (own-both k (omega arith) .start .down)))
-      (λ k h l. subst (λ e. AtMost (leastOf (ownBounds p) (finishNode k) 0) (negℤ (earliest p e))) (sym (eventOf-finish k))
+      (λ k h l. subst (λ e. CellAtMost (leastOf (ownBounds p) (finishNode k) 0) (negℤ (earliest p e))) (sym (eventOf-finish k))
       (leastOf-most (downTo p (Finish k)) (ownBounds p) (own-both k (omega arith) .finish .down)))
 
-  pub C0-fit : (c0 : Rows) → C0 p ≡ bounds c0 → Fit p (nodes (p .jobs)) c0
+  pub C0-judged-table : (c0 : Rows) → C0 p ≡ bounds c0 → JudgedTable p (nodes (p .jobs)) c0
   unfolding C0
-  C0-fit c0 e = fit-judged p (nodes (p .jobs)) (leastOf (ownBounds p)) c0 own-above own-below e
+  C0-judged-table c0 e = judgedSet-judged-table p (nodes (p .jobs)) (leastOf (ownBounds p)) c0 own-above own-below e
 
 -- ---- the next window's times
 
@@ -185,13 +185,13 @@ plus-upto w a = refl
 sum-most : (w v a b : ℤ) → w ≤ℤ v → b ≡ v +ℤ a → (w +ℤ a) ≤ℤ b
 sum-most w v a b h e = subst (λ b. (w +ℤ a) ≤ℤ b) (sym e) (omega wholes)
 
-plus-most : {c : Cell} {v : ℤ} (a b : ℤ) → AtMost c v → b ≡ v +ℤ a → AtMost (plus c a) b
+plus-most : {c : Cell} {v : ℤ} (a b : ℤ) → CellAtMost c v → b ≡ v +ℤ a → CellAtMost (plus c a) b
 plus-most {c} {v} a b m e =
     record { weight = m .weight +ℤ a; held = ap (λ c. plus c a) (m .held) ∙ plus-upto (m .weight) a; most = sum-most (m .weight) v a b (m .most) e }
 
-module _ (p : Plan) (c0 t : Rows) (own-fit : Fit p (nodes (p .jobs)) c0) (fit : Fit p (nodes (p .jobs)) t) where
+module _ (p : Plan) (c0 t : Rows) (own-judged-table : JudgedTable p (nodes (p .jobs)) c0) (fit : JudgedTable p (nodes (p .jobs)) t) where
   abbrev joinedCell : ℕ → ℕ → Cell
-  joinedCell y z = least (at c0 y z) (least (onNext p t y z) (leastOf (betweenBounds p) y z))
+  joinedCell y z = lesserCell (at c0 y z) (lesserCell (onNext p t y z) (leastOf (betweenBounds p) y z))
 
   up-sum : (v w : ℤ) → v +ℤ w ≡ v +ℤ (w -ℤ pos 0)
   up-sum v w = ap (λ w. v +ℤ w) (sym (none w))
@@ -203,65 +203,66 @@ module _ (p : Plan) (c0 t : Rows) (own-fit : Fit p (nodes (p .jobs)) c0) (fit : 
   down-sum v w = omega (wholes, split-neg (v +ℤ w), split-add v w, split-add (negℤ v) (pos 0 -ℤ w), split-neg v, split-sub (pos 0) w)
 
   -- a node past this window's own, and its node in the carried table
-  next-above : (y : ℕ) → 0 < y → y < nodes (p .jobs) → AtMost (onNext p t 0 (y + ownNodes p)) (latest p (eventOf (y + ownNodes p)))
+  next-above : (y : ℕ) → 0 < y → y < nodes (p .jobs) → CellAtMost (onNext p t 0 (y + ownNodes p)) (latest p (eventOf (y + ownNodes p)))
   next-above y h l =
       let cell : onNext p t 0 (y + ownNodes p) ≡ plus (at t 0 y) (p .window -ℤ pos 0)
       = ap₂ (onNext p t) (onto-origin (p .jobs) 0 refl) (onto-event (p .jobs) y (λ e. omega arith))
       ∙ onNext-onto p t 0 y
-      ∙ ap₂ (λ a b. plus (at t 0 y) (a -ℤ b)) (sym (movedBy-event (p .window) y (λ e. omega arith))) (sym (movedBy-origin (p .window) 0 refl)) in
-      subst (λ c. AtMost c (latest p (eventOf (y + ownNodes p)))) (sym cell)
+      ∙ ap₂ (λ a b. plus (at t 0 y) (a -ℤ b)) (sym (shiftBy-event (p .window) y (λ e. omega arith))) (sym (shiftBy-origin (p .window) 0 refl)) in
+      subst (λ c. CellAtMost c (latest p (eventOf (y + ownNodes p)))) (sym cell)
       (plus-most (p .window -ℤ pos 0) (latest p (eventOf (y + ownNodes p))) (fit .above y h l)
       (latest-next p y h l ∙ up-sum (latest p (eventOf y)) (p .window)))
 
-  next-below : (y : ℕ) → 0 < y → y < nodes (p .jobs) → AtMost (onNext p t (y + ownNodes p) 0) (negℤ (earliest p (eventOf (y + ownNodes p))))
+  next-below : (y : ℕ) → 0 < y → y < nodes (p .jobs) → CellAtMost (onNext p t (y + ownNodes p) 0) (negℤ (earliest p (eventOf (y + ownNodes p))))
   next-below y h l =
       let cell : onNext p t (y + ownNodes p) 0 ≡ plus (at t y 0) (pos 0 -ℤ p .window)
       = ap₂ (onNext p t) (onto-event (p .jobs) y (λ e. omega arith)) (onto-origin (p .jobs) 0 refl)
       ∙ onNext-onto p t y 0
-      ∙ ap₂ (λ a b. plus (at t y 0) (a -ℤ b)) (sym (movedBy-origin (p .window) 0 refl)) (sym (movedBy-event (p .window) y (λ e. omega arith))) in
-      subst (λ c. AtMost c (negℤ (earliest p (eventOf (y + ownNodes p))))) (sym cell)
+      ∙ ap₂ (λ a b. plus (at t y 0) (a -ℤ b)) (sym (shiftBy-origin (p .window) 0 refl)) (sym (shiftBy-event (p .window) y (λ e. omega arith))) in
+      subst (λ c. CellAtMost c (negℤ (earliest p (eventOf (y + ownNodes p))))) (sym cell)
       (plus-most (pos 0 -ℤ p .window) (negℤ (earliest p (eventOf (y + ownNodes p)))) (fit .below y h l)
       (ap negℤ (earliest-next p y h l) ∙ down-sum (earliest p (eventOf y)) (p .window)))
 
-  joined-above : (y : ℕ) → 0 < y → y < nodes (p .jobs + p .jobs) → AtMost (joinedCell 0 y) (latest p (eventOf y))
+  joined-above : (y : ℕ) → 0 < y → y < nodes (p .jobs + p .jobs) → CellAtMost (joinedCell 0 y) (latest p (eventOf y))
   joined-above y h l = by (ltb y (nodes (p .jobs))) refl
     where
-      by : (b : Bool) → ltb y (nodes (p .jobs)) ≡ b → AtMost (joinedCell 0 y) (latest p (eventOf y))
-      by true e = least-most _ (own-fit .above y h (ltb-true y _ e))
+      by : (b : Bool) → ltb y (nodes (p .jobs)) ≡ b → CellAtMost (joinedCell 0 y) (latest p (eventOf y))
+      by true e = least-most _ (own-judged-table .above y h (ltb-true y _ e))
       by false e =
           let low : nodes (p .jobs) ≤ y = ltb-false y _ e in
           let past : (y - ownNodes p) + ownNodes p ≡ y = omega arith in
           right-most (at c0 0 y)
           (least-most (leastOf (betweenBounds p) 0 y)
-          (subst (λ y. AtMost (onNext p t 0 y) (latest p (eventOf y))) past (next-above (y - ownNodes p) (omega arith) (omega arith))))
+          (subst (λ y. CellAtMost (onNext p t 0 y) (latest p (eventOf y))) past (next-above (y - ownNodes p) (omega arith) (omega arith))))
 
-  joined-below : (y : ℕ) → 0 < y → y < nodes (p .jobs + p .jobs) → AtMost (joinedCell y 0) (negℤ (earliest p (eventOf y)))
+  joined-below : (y : ℕ) → 0 < y → y < nodes (p .jobs + p .jobs) → CellAtMost (joinedCell y 0) (negℤ (earliest p (eventOf y)))
   joined-below y h l = by (ltb y (nodes (p .jobs))) refl
     where
-      by : (b : Bool) → ltb y (nodes (p .jobs)) ≡ b → AtMost (joinedCell y 0) (negℤ (earliest p (eventOf y)))
-      by true e = least-most _ (own-fit .below y h (ltb-true y _ e))
+      by : (b : Bool) → ltb y (nodes (p .jobs)) ≡ b → CellAtMost (joinedCell y 0) (negℤ (earliest p (eventOf y)))
+      by true e = least-most _ (own-judged-table .below y h (ltb-true y _ e))
       by false e =
           let low : nodes (p .jobs) ≤ y = ltb-false y _ e in
           let past : (y - ownNodes p) + ownNodes p ≡ y = omega arith in
           right-most (at c0 y 0)
           (least-most (leastOf (betweenBounds p) y 0)
-          (subst (λ y. AtMost (onNext p t y 0) (negℤ (earliest p (eventOf y)))) past (next-below (y - ownNodes p) (omega arith) (omega arith))))
+          (subst (λ y. CellAtMost (onNext p t y 0) (negℤ (earliest p (eventOf y)))) past (next-below (y - ownNodes p) (omega arith) (omega arith))))
 
-  pub joined-fit : (u : Rows) → joined p c0 t ≡ bounds u → Fit p (nodes (p .jobs + p .jobs)) u
+  pub joined-judged-table : (u : Rows) → joined p c0 t ≡ bounds u → JudgedTable p (nodes (p .jobs + p .jobs)) u
   unfolding joined
-  joined-fit u e = fit-judged p (nodes (p .jobs + p .jobs)) joinedCell u joined-above joined-below e
+  joined-judged-table u e = judgedSet-judged-table p (nodes (p .jobs + p .jobs)) joinedCell u joined-above joined-below e
 
 -- ---- what remains
 
-pub eliminated-fit : (p : Plan) (low count : ℕ) (t u : Rows) → Fit p (nodes (low + count)) t → eliminated p low count t ≡ bounds u → Fit p (nodes low) u
+pub eliminated-judged-table : (p : Plan) (low count : ℕ) (t u : Rows) → JudgedTable p (nodes (low + count)) t → eliminated p low count t ≡ bounds u
+    → JudgedTable p (nodes low) u
 unfolding eliminated
-eliminated-fit p low zero t u fit e =
+eliminated-judged-table p low zero t u fit e =
     let none : nodes (low + 0) ≡ nodes low = omega arith in
     let same : t ≡ u = cc in
-    subst₂ (λ n t. Fit p n t) none same fit
-eliminated-fit p low (suc count) t u fit e =
+    subst₂ (λ n t. JudgedTable p n t) none same fit
+eliminated-judged-table p low (suc count) t u fit e =
     thenSet-some (withoutPlace p (low + count) t) (eliminated p low count) u
     (λ v h q.
     let last : nodes (low + suc count) ≡ nodes (low + count + 1) = omega arith in
-    eliminated-fit p low count v u (withoutPlace-fit p (low + count) t v (subst (λ n. Fit p n t) last fit) h) q)
+    eliminated-judged-table p low count v u (withoutPlace-judged-table p (low + count) t v (subst (λ n. JudgedTable p n t) last fit) h) q)
     e

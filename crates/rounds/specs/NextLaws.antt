@@ -14,44 +14,44 @@ use Rattle.plan.specs.declared.Plan.{Plan}
 use Rattle.plan.specs.Limits.{longestWindow}
 use Rattle.plan.specs.Accepted.{Accepted}
 use Rattle.bounds.specs.Events.{nodes}
-use Rattle.bounds.specs.Tables.{Cell, off, least, plus, Set, contradiction, bounds}
+use Rattle.bounds.specs.Tables.{Cell, off, lesserCell, plus, Set, contradiction, bounds}
 use Rattle.bounds.specs.BuildLaws.{at-build}
-use Rattle.bounds.specs.TablesLaws.{least-off, judgedSet-ext}
+use Rattle.bounds.specs.TablesLaws.{lesserCell-off, judgedSet-ext}
 use Rattle.bounds.specs.Spans.{Times}
-use Rattle.bounds.specs.Flat.{place, weightAt, cellOf, cellAt, rowsOf, Moving, Weighed}
-use Rattle.bounds.specs.FlatLaws.{Outcome, eachNode-outcome}
+use Rattle.bounds.specs.Flat.{place, weightAt, cellOf, cellAt, rowsOf, MoveInRange, WeightInRange}
+use Rattle.bounds.specs.FlatLaws.{FlatOutcome, eachNode-outcome}
 use Rattle.bounds.specs.StartLaws.{place-one}
-use Rattle.bounds.specs.TowardsLaws.{Towards, putAt-towards, towards-end}
+use Rattle.bounds.specs.LeadsToLaws.{LeadsTo, putAt-leads-to, leads-to-end}
 use Rattle.bounds.specs.FinishLaws.{moved-low}
-use Rattle.bounds.specs.FitLaws.{ShiftIn}
-use Rattle.bounds.specs.ClockedLaws.{nodes-room}
-use Rattle.rounds.specs.Rounds.{ownNodes, isOwn, movedBy, onNext}
+use Rattle.bounds.specs.JudgedTableLaws.{ShiftInRange}
+use Rattle.bounds.specs.TimesHeldLaws.{nodes-room}
+use Rattle.rounds.specs.Rounds.{ownNodes, isOwn, shiftBy, onNext}
 use Rattle.rounds.specs.Next.{onto, nextAt, nextRow, nextRows}
 use Rattle.rounds.specs.OnNextLaws.{onto-below, onto-back, onNext-onto, onNext-own, own-or-next}
 
 -- ---- by how much a bound moves
 
 -- a node moves by 0 or by a window
-pub movedBy-in : (window : ℤ) (y : ℕ) → pos 0 ≤ℤ window → window ≤ℤ longestWindow → ShiftIn (movedBy window y)
-movedBy-in window y h l = by (eqb y 0)
+pub shiftBy-in : (window : ℤ) (y : ℕ) → pos 0 ≤ℤ window → window ≤ℤ longestWindow → ShiftInRange (shiftBy window y)
+shiftBy-in window y h l = by (eqb y 0)
   where
-    by : (b : Bool) → ShiftIn (cond b (pos 0) window)
+    by : (b : Bool) → ShiftInRange (cond b (pos 0) window)
     by true = record { least = omega wholes; greatest = omega wholes }
     by false = record { least = h; greatest = l }
 
-pub shift-moving : (a b : ℤ) → ShiftIn a → ShiftIn b → Moving (a -ℤ b)
+pub shift-moving : (a b : ℤ) → ShiftInRange a → ShiftInRange b → MoveInRange (a -ℤ b)
 shift-moving a b h l = record { least = omega wholes; greatest = omega wholes }
 
 -- ---- cell by cell
 
 module _ (p : Plan) (early late : List ℤ) (times : Times p (nodes (p .jobs + p .jobs)) early late) (accepted : Accepted p) (set : Set) (ts : List ℤ)
-    (weighed : (y z : ℕ) → y < nodes (p .jobs) → z < nodes (p .jobs) → Weighed (weightAt ts y z)) where
+    (weighed : (y z : ℕ) → y < nodes (p .jobs) → z < nodes (p .jobs) → WeightInRange (weightAt ts y z)) where
   -- what is still to be put, once the cells before place n of the carried table are
   abbrev restFrom : ℕ → ℕ → ℕ → Cell
   restFrom n u x = cond (ltb (place (u - ownNodes p) (x - ownNodes p)) n) off (onNext p (rowsOf (nodes (p .jobs)) ts) u x)
 
   abbrev Stage : ℕ → List ℤ → Type 0
-  Stage n us = Towards p (nodes (p .jobs + p .jobs)) (restFrom n) set us
+  Stage n us = LeadsTo p (nodes (p .jobs + p .jobs)) (restFrom n) set us
 
   put-off : (n u x : ℕ) → place (u - ownNodes p) (x - ownNodes p) < n → restFrom n u x ≡ off
   put-off n u x h = rw (lt-ltb (place (u - ownNodes p) (x - ownNodes p)) n h)
@@ -94,17 +94,17 @@ module _ (p : Plan) (early late : List ℤ) (times : Times p (nodes (p .jobs + p
           absurd (n (ap₂ place (a ∙ ap (onto (p .jobs)) (one .0)) (b ∙ ap (onto (p .jobs)) (one .1))))
 
   cell-stage : (y z : ℕ) → y < nodes (p .jobs) → z < nodes (p .jobs) → (us : List ℤ) → Stage (place y z) us
-      → Outcome (Stage (place y (z + 1))) (set ≡ contradiction) (nextAt early late (p .jobs) (p .window) ts y z us)
+      → FlatOutcome (Stage (place y (z + 1))) (set ≡ contradiction) (nextAt early late (p .jobs) (p .window) ts y z us)
   cell-stage y z h l us g =
       let room = nodes-room accepted in
-      let a = movedBy (p .window) z -ℤ movedBy (p .window) y in
+      let a = shiftBy (p .window) z -ℤ shiftBy (p .window) y in
       let least-window = accepted .window-least in
       let most-window = accepted .window-most in
-      let moves : Moving a = shift-moving (movedBy (p .window) z) (movedBy (p .window) y) (movedBy-in (p .window) z (omega wholes) (omega wholes))
-      (movedBy-in (p .window) y (omega wholes) (omega wholes)) in
+      let moves : MoveInRange a = shift-moving (shiftBy (p .window) z) (shiftBy (p .window) y) (shiftBy-in (p .window) z (omega wholes) (omega wholes))
+      (shiftBy-in (p .window) y (omega wholes) (omega wholes)) in
       let same : place (onto (p .jobs) y - ownNodes p) (onto (p .jobs) z - ownNodes p) ≡ place y z = ap₂ place (onto-back p y) (onto-back p z) in
       let cell = plus (cellOf (weightAt ts y z)) a in
-      putAt-towards p (nodes (p .jobs + p .jobs)) early late times room set us (restFrom (place y (z + 1))) (restFrom (place y z)) g (onto (p .jobs) y)
+      putAt-leads-to p (nodes (p .jobs + p .jobs)) early late times room set us (restFrom (place y (z + 1))) (restFrom (place y z)) g (onto (p .jobs) y)
       (onto (p .jobs) z)
       (onto-below (p .jobs) y (nodes (p .jobs + p .jobs)) (omega arith))
       (onto-below (p .jobs) z (nodes (p .jobs + p .jobs)) (omega arith))
@@ -114,7 +114,7 @@ module _ (p : Plan) (early late : List ℤ) (times : Times p (nodes (p .jobs + p
       (put-on (place y z) (onto (p .jobs) y) (onto (p .jobs) z) (omega (arith, same))
       ∙ onNext-onto p (rowsOf (nodes (p .jobs)) ts) y z
       ∙ ap (λ c. plus c a) (at-build (nodes (p .jobs)) (cellAt ts) y z h l)
-      ∙ sym (ap (least cell) (put-off (place y (z + 1)) (onto (p .jobs) y) (onto (p .jobs) z) (omega (arith, same))) ∙ least-off cell))
+      ∙ sym (ap (lesserCell cell) (put-off (place y (z + 1)) (onto (p .jobs) y) (onto (p .jobs) z) (omega (arith, same))) ∙ lesserCell-off cell))
       (λ u x m q n. elsewhere y z l u x q n)
 
   -- where the same is left, an array leads to the same set
@@ -124,7 +124,7 @@ module _ (p : Plan) (early late : List ℤ) (times : Times p (nodes (p .jobs + p
       record {
         len = g .len;
         kept = g .kept;
-        leads = g .leads ∙ judgedSet-ext p (nodes (p .jobs + p .jobs)) _ _ (λ u x a b. ap (least (cellAt us u x)) (e u x a b));
+        leads = g .leads ∙ judgedSet-ext p (nodes (p .jobs + p .jobs)) _ _ (λ u x a b. ap (lesserCell (cellAt us u x)) (e u x a b));
       }
 
   row-end : (y u x : ℕ) → x < nodes (p .jobs + p .jobs) → restFrom (place y (nodes (p .jobs))) u x ≡ restFrom (place (y + 1) 0) u x
@@ -142,7 +142,7 @@ module _ (p : Plan) (early late : List ℤ) (times : Times p (nodes (p .jobs + p
           put-on (place y (nodes (p .jobs))) u x low ∙ sym (put-on (place (y + 1) 0) u x (omega arith))
 
   row-stage : (y : ℕ) (us : List ℤ) → y < nodes (p .jobs) → Stage (place y 0) us
-      → Outcome (Stage (place (y + 1) 0)) (set ≡ contradiction) (nextRow early late (p .jobs) (p .window) ts y us)
+      → FlatOutcome (Stage (place (y + 1) 0)) (set ≡ contradiction) (nextRow early late (p .jobs) (p .window) ts y us)
   row-stage y us h g =
       let o = eachNode-outcome (nextAt early late (p .jobs) (p .window) ts y) (nodes (p .jobs)) (λ z us. Stage (place y z) us) (set ≡ contradiction)
       (λ z us l g. cell-stage y z h l us g)
@@ -153,8 +153,8 @@ module _ (p : Plan) (early late : List ℤ) (times : Times p (nodes (p .jobs + p
       g in
       record { fails = o .fails; keeps = λ f. stage-same (place y (nodes (p .jobs))) (place (y + 1) 0) _ (λ u x a b. row-end y u x b) (o .keeps f) }
 
-  pub nextRows-outcome : (ws : List ℤ) → Towards p (nodes (p .jobs + p .jobs)) (onNext p (rowsOf (nodes (p .jobs)) ts)) set ws
-      → Outcome (λ us. set ≡ bounds (rowsOf (nodes (p .jobs + p .jobs)) us)) (set ≡ contradiction) (nextRows early late (p .jobs) (p .window) ts ws)
+  pub nextRows-outcome : (ws : List ℤ) → LeadsTo p (nodes (p .jobs + p .jobs)) (onNext p (rowsOf (nodes (p .jobs)) ts)) set ws
+      → FlatOutcome (λ us. set ≡ bounds (rowsOf (nodes (p .jobs + p .jobs)) us)) (set ≡ contradiction) (nextRows early late (p .jobs) (p .window) ts ws)
   nextRows-outcome ws t =
       let room = nodes-room accepted in
       let o = eachNode-outcome (nextRow early late (p .jobs) (p .window) ts) (nodes (p .jobs)) (λ y us. Stage (place y 0) us) (set ≡ contradiction)
@@ -168,12 +168,12 @@ module _ (p : Plan) (early late : List ℤ) (times : Times p (nodes (p .jobs + p
         kept = t .kept;
         leads =
             t .leads
-            ∙ judgedSet-ext p (nodes (p .jobs + p .jobs)) _ _ (λ u x a b. ap (least (cellAt ws u x)) (sym (put-on (place 0 0) u x (omega arith))));
+            ∙ judgedSet-ext p (nodes (p .jobs + p .jobs)) _ _ (λ u x a b. ap (lesserCell (cellAt ws u x)) (sym (put-on (place 0 0) u x (omega arith))));
       }) in
       record {
         fails = o .fails;
         keeps = λ f.
-            towards-end p (nodes (p .jobs + p .jobs)) early late times room set _ (restFrom (place (nodes (p .jobs)) 0))
+            leads-to-end p (nodes (p .jobs + p .jobs)) early late times room set _ (restFrom (place (nodes (p .jobs)) 0))
             (λ u x a b. put-off (place (nodes (p .jobs)) 0) u x (omega arith))
             (o .keeps f);
       }

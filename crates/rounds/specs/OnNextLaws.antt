@@ -1,4 +1,4 @@
--- The next window's nodes: where a node goes and by how much it moves, case by case (`onto-origin`, `onto-event`, `movedBy-origin`, `movedBy-event`), and
+-- The next window's nodes: where a node goes and by how much it moves, case by case (`onto-origin`, `onto-event`, `shiftBy-origin`, `shiftBy-event`), and
 -- what `onNext` then holds: between nodes of the next window or the origin the bounds of the set that was put there, moved (`onNext-onto`), and none at a
 -- node of this window (`onNext-own`). Each node of two windows is of one kind or the other (`own-or-next`).
 use Prim.Native.Nat.{ℕ, zero, suc, _+_, _*_, _-_, _<_}
@@ -11,7 +11,7 @@ use lib.IntN.{ℤ, pos, _-ℤ_}
 use borrow.Author.Tests.{eq-eqb, ne-eqb, le-leb, lt-leb, leb-false}
 use Rattle.plan.specs.declared.Plan.{Plan}
 use Rattle.bounds.specs.Tables.{off, plus, Rows, at}
-use Rattle.rounds.specs.Rounds.{ownNodes, isOwn, movedBy, onNext}
+use Rattle.rounds.specs.Rounds.{ownNodes, isOwn, shiftBy, onNext}
 use Rattle.rounds.specs.Next.{onto}
 
 -- ---- one node
@@ -24,11 +24,11 @@ pub onto-event : (jobs y : ℕ) → (y ≡ 0 → ⊥) → y + 2 * jobs ≡ onto 
 unfolding onto
 onto-event jobs y n = rw (ne-eqb y 0 n)
 
-pub movedBy-origin : (window : ℤ) (y : ℕ) → y ≡ 0 → pos 0 ≡ movedBy window y
-movedBy-origin window y e = rw (eq-eqb y 0 e)
+pub shiftBy-origin : (window : ℤ) (y : ℕ) → y ≡ 0 → pos 0 ≡ shiftBy window y
+shiftBy-origin window y e = rw (eq-eqb y 0 e)
 
-pub movedBy-event : (window : ℤ) (y : ℕ) → (y ≡ 0 → ⊥) → window ≡ movedBy window y
-movedBy-event window y n = rw (ne-eqb y 0 n)
+pub shiftBy-event : (window : ℤ) (y : ℕ) → (y ≡ 0 → ⊥) → window ≡ shiftBy window y
+shiftBy-event window y n = rw (ne-eqb y 0 n)
 
 pub onto-below : (jobs y n : ℕ) → y + 2 * jobs < n → onto jobs y < n
 unfolding onto
@@ -57,21 +57,21 @@ module _ (p : Plan) where
       ap (isOwn p) (sym (onto-event (p .jobs) (suc y) (λ e. omega arith)))
       ∙ ap₂ _&&_ (le-leb 1 (suc y + ownNodes p) (omega arith)) (lt-leb (suc y + ownNodes p) (ownNodes p) (omega arith))
 
-  moved-onto : (y : ℕ) → movedBy (p .window) (onto (p .jobs) y) ≡ movedBy (p .window) y
-  moved-onto zero = ap (movedBy (p .window)) (sym (onto-origin (p .jobs) 0 refl))
-  moved-onto (suc y) =
-      sym (movedBy-event (p .window) (onto (p .jobs) (suc y)) (λ e. later (onto-event (p .jobs) (suc y) (λ e. omega arith)) e))
-      ∙ movedBy-event (p .window) (suc y) (λ e. omega arith)
+  shift-onto : (y : ℕ) → shiftBy (p .window) (onto (p .jobs) y) ≡ shiftBy (p .window) y
+  shift-onto zero = ap (shiftBy (p .window)) (sym (onto-origin (p .jobs) 0 refl))
+  shift-onto (suc y) =
+      sym (shiftBy-event (p .window) (onto (p .jobs) (suc y)) (λ e. later (onto-event (p .jobs) (suc y) (λ e. omega arith)) e))
+      ∙ shiftBy-event (p .window) (suc y) (λ e. omega arith)
     where
       later : {n : ℕ} → suc y + ownNodes p ≡ n → n ≡ 0 → ⊥
       later e f = omega arith
 
-  pub onNext-onto : (t : Rows) (y z : ℕ) → onNext p t (onto (p .jobs) y) (onto (p .jobs) z) ≡ plus (at t y z) (movedBy (p .window) z -ℤ movedBy (p .window) y)
+  pub onNext-onto : (t : Rows) (y z : ℕ) → onNext p t (onto (p .jobs) y) (onto (p .jobs) z) ≡ plus (at t y z) (shiftBy (p .window) z -ℤ shiftBy (p .window) y)
   unfolding onNext
   onNext-onto t y z =
       rw (onto-not-own y, onto-not-own z)
-      (ap₂ (λ a b. plus (at t a b) (movedBy (p .window) (onto (p .jobs) z) -ℤ movedBy (p .window) (onto (p .jobs) y))) (onto-back y) (onto-back z)
-      ∙ ap₂ (λ a b. plus (at t y z) (a -ℤ b)) (moved-onto z) (moved-onto y))
+      (ap₂ (λ a b. plus (at t a b) (shiftBy (p .window) (onto (p .jobs) z) -ℤ shiftBy (p .window) (onto (p .jobs) y))) (onto-back y) (onto-back z)
+      ∙ ap₂ (λ a b. plus (at t y z) (a -ℤ b)) (shift-onto z) (shift-onto y))
 
   pub onNext-own : (t : Rows) (y z : ℕ) → (isOwn p y ≡ true) ⊎ (isOwn p z ≡ true) → onNext p t y z ≡ off
   unfolding onNext

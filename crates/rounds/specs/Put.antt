@@ -6,12 +6,12 @@ use Rattle.bounds.specs.declared.Event.{Event}
 use Rattle.bounds.specs.declared.Event.the-variants.{Origin, Start, Finish}
 use Rattle.bounds.specs.Events.{nodeOf}
 use Rattle.bounds.specs.Tables.{Between}
-use Rattle.bounds.specs.Spans.{timeAt}
+use Rattle.bounds.specs.Spans.{timeOfNode}
 
 -- 'each event lies between earliest and latest'
 abbrev pub rangeOf : List ℤ → List ℤ → Event → List Between
 rangeOf early late e =
-    record { y = Origin; z = e; w = timeAt late (nodeOf e) } ∷ record { y = e; z = Origin; w = negℤ (timeAt early (nodeOf e)) } ∷ []
+    record { y = Origin; z = e; w = timeOfNode late (nodeOf e) } ∷ record { y = e; z = Origin; w = negℤ (timeOfNode early (nodeOf e)) } ∷ []
 
 -- the events of one place, and of so many
 abbrev pub rangeOfPlace : List ℤ → List ℤ → ℕ → List Between

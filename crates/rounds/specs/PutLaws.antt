@@ -12,7 +12,7 @@ use Rattle.bounds.specs.Events.{nodeOf, eventOf, earliest, latest, nodes}
 use Rattle.bounds.specs.BuildLaws.{eventOf-nodeOf}
 use Rattle.bounds.specs.EventsLaws.{nodeOf-eventOf}
 use Rattle.bounds.specs.Tables.{Between}
-use Rattle.bounds.specs.Spans.{timeAt, Times}
+use Rattle.bounds.specs.Spans.{timeOfNode, Times}
 use Rattle.bounds.specs.Flat.{flat, putAt, putBounds}
 use Rattle.bounds.specs.BoundsLaws.{putBounds-none, putBounds-one, putBounds-stop, putBounds-past}
 use Rattle.rounds.specs.Given.{upTo, downTo, inOrder, ranges, orders}
@@ -21,19 +21,19 @@ use Rattle.rounds.specs.Put.{rangeOf, rangeOfPlace, rangesOf}
 -- ---- the two bounds of the event of a node
 
 abbrev pub upBound : List ℤ → ℕ → Between
-upBound late y = record { y = Origin; z = eventOf y; w = timeAt late (nodeOf (eventOf y)) }
+upBound late y = record { y = Origin; z = eventOf y; w = timeOfNode late (nodeOf (eventOf y)) }
 
 abbrev pub downBound : List ℤ → ℕ → Between
-downBound early y = record { y = eventOf y; z = Origin; w = negℤ (timeAt early (nodeOf (eventOf y))) }
+downBound early y = record { y = eventOf y; z = Origin; w = negℤ (timeOfNode early (nodeOf (eventOf y))) }
 
 module _ (early late : List ℤ) (y : ℕ) (ws : List ℤ) where
-  pub up-is : putAt early late 0 y (timeAt late y) (pos 0) ws ≡ putBounds early late (upBound late y ∷ []) ws
+  pub up-is : putAt early late 0 y (timeOfNode late y) (pos 0) ws ≡ putBounds early late (upBound late y ∷ []) ws
   unfolding nodeOf
-  up-is = ap (λ n. putAt early late 0 n (timeAt late n) (pos 0) ws) (sym (nodeOf-eventOf y)) ∙ putBounds-one early late (upBound late y) ws
+  up-is = ap (λ n. putAt early late 0 n (timeOfNode late n) (pos 0) ws) (sym (nodeOf-eventOf y)) ∙ putBounds-one early late (upBound late y) ws
 
-  pub down-is : putAt early late y 0 (negℤ (timeAt early y)) (pos 0) ws ≡ putBounds early late (downBound early y ∷ []) ws
+  pub down-is : putAt early late y 0 (negℤ (timeOfNode early y)) (pos 0) ws ≡ putBounds early late (downBound early y ∷ []) ws
   unfolding nodeOf
-  down-is = ap (λ n. putAt early late n 0 (negℤ (timeAt early n)) (pos 0) ws) (sym (nodeOf-eventOf y)) ∙ putBounds-one early late (downBound early y) ws
+  down-is = ap (λ n. putAt early late n 0 (negℤ (timeOfNode early n)) (pos 0) ws) (sym (nodeOf-eventOf y)) ∙ putBounds-one early late (downBound early y) ws
 
 -- ---- place by place, from the last to the first
 
@@ -74,7 +74,7 @@ order-is early late k ws =
 
 -- ---- with a plan's times they are the plan's bounds
 
-event-range : (p : Plan) (early late : List ℤ) (e : Event) → timeAt early (nodeOf e) ≡ earliest p e → timeAt late (nodeOf e) ≡ latest p e
+event-range : (p : Plan) (early late : List ℤ) (e : Event) → timeOfNode early (nodeOf e) ≡ earliest p e → timeOfNode late (nodeOf e) ≡ latest p e
     → rangeOf early late e ≡ upTo p e ∷ downTo p e ∷ []
 event-range p early late e a b =
     ap₂ (λ l u. record { y = Origin; z = e; w = l } ∷ record { y = e; z = Origin; w = negℤ u } ∷ []) b a

@@ -8,7 +8,7 @@ use Rattle.whole.specs.Split.{eqZ}
 use Rattle.plan.specs.declared.Plan.{Plan}
 use Rattle.lines.specs.declared.Refusal.the-variants as refusal
 use Rattle.bounds.specs.Events.{nodes}
-use Rattle.bounds.specs.Tables.{Cell, off, upto, least, plus, Rows, at, leastOf, Set, contradiction, bounds, judgedSet}
+use Rattle.bounds.specs.Tables.{Cell, off, upto, lesserCell, plus, Rows, at, leastOf, Set, contradiction, bounds, judgedSet}
 use Rattle.bounds.specs.Elimination.{thenSet, eliminated}
 use Rattle.rounds.specs.declared.Verdict.{Verdict}
 use Rattle.rounds.specs.declared.Verdict.the-variants.{Settled, NoStrategy, Unsettled}
@@ -30,22 +30,22 @@ abbrev pub isOwn : Plan → ℕ → Bool
 isOwn p y = leb 1 y && leb y (ownNodes p)
 
 -- by how much an event moves where its set is put on the next window; the origin stays
-abbrev pub movedBy : ℤ → ℕ → ℤ
-movedBy window y = cond (eqb y 0) (pos 0) window
+abbrev pub shiftBy : ℤ → ℕ → ℤ
+shiftBy window y = cond (eqb y 0) (pos 0) window
 
-abbrev pub moved : Plan → ℕ → ℤ
-moved p = movedBy (p .window)
+abbrev pub shiftOf : Plan → ℕ → ℤ
+shiftOf p = shiftBy (p .window)
 
 -- 'Where a set is put on the next window, its bounds to and from the origin move by `window` too.'
 unfoldable pub onNext : Plan → Rows → ℕ → ℕ → Cell
 onNext p t y z =
     let c = at t (y - ownNodes p) (z - ownNodes p) in
-    cond (isOwn p y || isOwn p z) off (plus c (moved p z -ℤ moved p y))
+    cond (isOwn p y || isOwn p z) off (plus c (shiftOf p z -ℤ shiftOf p y))
 
 -- 'put C(m-1) on the next window, C(0) on this one, add the bounds between'
 unfoldable pub joined : Plan → Rows → Rows → Set
 joined p c0 t =
-    judgedSet p (nodes (p .jobs + p .jobs)) (λ y z. least (at c0 y z) (least (onNext p t y z) (leastOf (betweenBounds p) y z)))
+    judgedSet p (nodes (p .jobs + p .jobs)) (λ y z. lesserCell (at c0 y z) (lesserCell (onNext p t y z) (leastOf (betweenBounds p) y z)))
 
 -- 'eliminate the next window's events, last job first, each finish before its start. C(m) is what remains on this window.'
 unfoldable pub round : Plan → Rows → Rows → Set

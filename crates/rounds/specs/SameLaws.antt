@@ -12,7 +12,7 @@ use Rattle.whole.specs.Order.{eqZ-true-iff}
 use Rattle.bounds.specs.Tables.{Cell, off, upto, Rows, listed}
 use Rattle.bounds.specs.BuildLaws.{both-true, getD-listed}
 use Rattle.bounds.specs.TablesLaws.{listed-ext}
-use Rattle.bounds.specs.Flat.{noBound, cellOf}
+use Rattle.bounds.specs.Flat.{noBoundMark, cellOf}
 use Rattle.bounds.specs.PutLaws.{cellOf-mark, cellOf-on}
 use Rattle.rounds.specs.Rounds.{sameCell, sameRow, sameRows}
 
@@ -61,14 +61,14 @@ sameRows-self (c ∷ cs) = rw (sameRow-self c, sameRows-self cs)
 -- ---- rows and tables of arrays
 
 -- two weights give one cell exactly if they are equal
-cellOf-by : (w v : ℤ) (b : Bool) → eqZ w noBound ≡ b → (c : Bool) → eqZ v noBound ≡ c → cellOf w ≡ cellOf v → w ≡ v
-cellOf-by w v true e true f h = let a = eqZ-true-iff w noBound .0 e in let b = eqZ-true-iff v noBound .0 f in a ∙ sym b
+cellOf-by : (w v : ℤ) (b : Bool) → eqZ w noBoundMark ≡ b → (c : Bool) → eqZ v noBoundMark ≡ c → cellOf w ≡ cellOf v → w ≡ v
+cellOf-by w v true e true f h = let a = eqZ-true-iff w noBoundMark .0 e in let b = eqZ-true-iff v noBoundMark .0 f in a ∙ sym b
 cellOf-by w v true e false f h = absurd (let a = sym (cellOf-mark w e) ∙ h ∙ cellOf-on v f in clash (cc))
 cellOf-by w v false e true f h = absurd (let a = sym (cellOf-on w e) ∙ h ∙ cellOf-mark v f in clash (cc))
 cellOf-by w v false e false f h = let a : upto w ≡ upto v = sym (cellOf-on w e) ∙ h ∙ cellOf-on v f in cc
 
 pub cellOf-unique : (w v : ℤ) → cellOf w ≡ cellOf v → w ≡ v
-cellOf-unique w v h = cellOf-by w v (eqZ w noBound) refl (eqZ v noBound) refl h
+cellOf-unique w v h = cellOf-by w v (eqZ w noBoundMark) refl (eqZ v noBoundMark) refl h
 
 module _ (k : ℕ) (f g : ℕ → Cell) where
   pub sameRow-all : ((z : ℕ) → z < k → f z ≡ g z) → sameRow (listed k f) (listed k g) ≡ true

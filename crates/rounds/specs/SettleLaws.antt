@@ -12,17 +12,17 @@ use Rattle.plan.specs.declared.Plan.{Plan}
 use Rattle.bounds.specs.Events.{nodes}
 use Rattle.bounds.specs.Tables.{Rows, Set, contradiction, bounds}
 use Rattle.bounds.specs.Elimination.{thenSet, eliminated}
-use Rattle.bounds.specs.Flat.{rowsOf, setIn, weightAt, Weighed, flat, noBound, putBounds, noBounds, cells}
+use Rattle.bounds.specs.Flat.{rowsOf, setIn, weightAt, WeightInRange, flat, noBoundMark, putBounds, noBounds, cells}
 use Rattle.bounds.specs.FlatLaws as flats
 use Rattle.bounds.specs.FlatLaws.{putAt-length, eachNode-length, putBounds-length}
-use Rattle.bounds.specs.TowardsLaws.{Towards}
-use Rattle.bounds.specs.Fit.{Fit, Clocked, StandingOf}
-use Rattle.bounds.specs.FitLaws.{fit-weighed}
+use Rattle.bounds.specs.LeadsToLaws.{LeadsTo}
+use Rattle.bounds.specs.Held.{JudgedTable, TimesHeld, TableHeldFor}
+use Rattle.bounds.specs.JudgedTableLaws.{judged-table-weights}
 use Rattle.bounds.specs.PlacesLaws.{setIn-found, setIn-left}
 use Rattle.rounds.specs.declared.Verdict.the-variants.{Settled, NoStrategy, Unsettled}
 use Rattle.rounds.specs.Given.{ownBounds, betweenBounds}
 use Rattle.rounds.specs.Rounds.{
-  movedBy,
+  shiftBy,
   C0,
   onNext,
   joined,
@@ -45,7 +45,7 @@ use Rattle.rounds.specs.SameLaws.{sameRows-unique}
 use Rattle.rounds.specs.Next.{Nexts, onto, nextAt, nextRow, nextRows}
 use Rattle.rounds.specs.NextLaws.{nextRows-outcome}
 use Rattle.rounds.specs.JoinedLaws.{own-rows, between-outcome}
-use Rattle.rounds.specs.CarriedLaws.{C0-fit, joined-fit, eliminated-fit}
+use Rattle.rounds.specs.CarriedLaws.{C0-judged-table, joined-judged-table, eliminated-judged-table}
 use Rattle.rounds.specs.Settling.{SettledOn, Based}
 
 -- ---- the ways of one round
@@ -112,43 +112,43 @@ rounds-more : (p : Plan) (c0 : Rows) (m left : ℕ) (t : Rows) → 0 < left
 unfolding roundsFrom
 rounds-more p c0 m left t h = let more : left ≡ suc (left - 1) = omega arith in ap (λ n. roundsFrom p c0 m n t) more
 
-module _ (p : Plan) (early late : List ℤ) (clocked : Clocked p early late) (own : List ℤ)
+module _ (p : Plan) (early late : List ℤ) (times-held : TimesHeld p early late) (own : List ℤ)
     (own-put : flat false own ≡ putBounds early late (ownBounds p) noBounds) where
   abbrev c0 : Rows
   c0 = rowsOf (nodes (p .jobs)) own
 
-  pub own-fit : Fit p (nodes (p .jobs)) (rowsOf (nodes (p .jobs)) own)
-  own-fit = C0-fit p c0 (own-rows p early late clocked own own-put)
+  pub own-judged-table : JudgedTable p (nodes (p .jobs)) (rowsOf (nodes (p .jobs)) own)
+  own-judged-table = C0-judged-table p c0 (own-rows p early late times-held own own-put)
 
   pub own-size : length own ≡ cells
-  own-size = ap (λ r. length (r .weights)) own-put ∙ putBounds-length early late (ownBounds p) noBounds ∙ length-replicate cells noBound
+  own-size = ap (λ r. length (r .weights)) own-put ∙ putBounds-length early late (ownBounds p) noBounds ∙ length-replicate cells noBoundMark
 
-  pub own-standing : StandingOf p early late (nodes (p .jobs)) own
-  own-standing = record { clocked = clocked; room = omega arith; size = own-size; fit = own-fit }
+  pub own-table-held : TableHeldFor p early late (nodes (p .jobs)) own
+  own-table-held = record { times-held = times-held; room = omega arith; size = own-size; fit = own-judged-table }
 
   pub first-round : outcome p ≡ roundsFrom p (rowsOf (nodes (p .jobs)) own) 1 (p .rounds) (rowsOf (nodes (p .jobs)) own)
   unfolding outcome outcomeFrom
-  first-round = ap (outcomeFrom p) (own-rows p early late clocked own own-put)
+  first-round = ap (outcomeFrom p) (own-rows p early late times-held own own-put)
 
   -- a contradiction between windows is one of the first round
   pub between-none : (found : Bool) (us : List ℤ) → flat found us ≡ putBounds early late (betweenBounds p) own → found ≡ true
       → outcome p ≡ noStrategy (cond (failsAlone p (rowsOf (nodes (p .jobs)) own)) 1 (1 + 1))
   between-none found us e f =
-      let some = clocked .accepted .rounds-least in
+      let some = times-held .accepted .rounds-least in
       first-round
       ∙ rounds-more p c0 1 (p .rounds) c0 (omega arith)
       ∙ decided-none p 1 c0 (round p c0 c0) (roundsFrom p c0 2 (p .rounds - 1))
-      (round-none p c0 c0 (between-outcome p early late clocked own own-put c0 .fails (ap (λ r. r .found) (sym e) ∙ f)))
+      (round-none p c0 c0 (between-outcome p early late times-held own own-put c0 .fails (ap (λ r. r .found) (sym e) ∙ f)))
 
 -- ---- one round
 
 -- the code before round m of which so many are left: its arrays, the rounds that give the whole outcome, and a fit table that is carried
 pub record Carrying (p : Plan) (early late own base : List ℤ) (m left : ℕ) (ts : List ℤ) : Type 0 where
-  pub clocked : Clocked p early late
+  pub times-held : TimesHeld p early late
   pub based : Based p early late own base
   pub some : 0 < left
   pub before : outcome p ≡ roundsFrom p (rowsOf (nodes (p .jobs)) own) m left (rowsOf (nodes (p .jobs)) ts)
-  pub fit : Fit p (nodes (p .jobs)) (rowsOf (nodes (p .jobs)) ts)
+  pub fit : JudgedTable p (nodes (p .jobs)) (rowsOf (nodes (p .jobs)) ts)
   pub size : length ts ≡ cells
 
 -- a carried set that is put on the next window keeps the array's length
@@ -156,7 +156,7 @@ nextRows-length : (early late : List ℤ) (jobs : ℕ) (window : ℤ) (ts ws : L
 nextRows-length early late jobs window ts ws =
     eachNode-length (nextRow early late jobs window ts)
     (λ y us. eachNode-length (nextAt early late jobs window ts y) (λ z vs. putAt-length early late (onto jobs y) (onto jobs z) (weightAt ts y z)
-    (movedBy window z -ℤ movedBy window y) vs) 0 (nodes jobs) us)
+    (shiftBy window z -ℤ shiftBy window y) vs) 0 (nodes jobs) us)
     0
     (nodes jobs)
     ws
@@ -168,35 +168,36 @@ module _ {p : Plan} {early late own base : List ℤ} {m left : ℕ} {ts : List �
   abbrev both : ℕ
   both = nodes (p .jobs + p .jobs)
 
-  weighed : (y z : ℕ) → y < nodes (p .jobs) → z < nodes (p .jobs) → Weighed (weightAt ts y z)
-  weighed = fit-weighed p k ts (g .fit) (g .clocked .accepted) (omega arith)
+  weighed : (y z : ℕ) → y < nodes (p .jobs) → z < nodes (p .jobs) → WeightInRange (weightAt ts y z)
+  weighed = judged-table-weights p k ts (g .fit) (g .times-held .accepted) (omega arith)
 
-  pub carried-standing : StandingOf p early late (nodes (p .jobs)) ts
-  carried-standing = record { clocked = g .clocked; room = omega arith; size = g .size; fit = g .fit }
+  pub carried-table-held : TableHeldFor p early late (nodes (p .jobs)) ts
+  carried-table-held = record { times-held = g .times-held; room = omega arith; size = g .size; fit = g .fit }
 
   base-size : length base ≡ cells
   base-size =
       ap (λ r. length (r .weights)) (g .based .base-put) ∙ putBounds-length early late (betweenBounds p) own
-      ∙ own-size p early late (g .clocked) own (g .based .own-put)
+      ∙ own-size p early late (g .times-held) own (g .based .own-put)
 
   pub carried-nexts : Nexts early late (p .jobs) (p .window) ts
   carried-nexts =
-      let least-window = g .clocked .accepted .window-least in
+      let least-window = g .times-held .accepted .window-least in
       record {
-        times = g .clocked .timed;
-        jobs-most = g .clocked .accepted .jobs-most;
+        times = g .times-held .timed;
+        jobs-most = g .times-held .accepted .jobs-most;
         window-least = omega wholes;
-        window-most = g .clocked .accepted .window-most;
+        window-most = g .times-held .accepted .window-most;
         weighed = weighed;
       }
 
-  next-outcome : flats.Outcome (λ us. joined p (rowsOf k own) (rowsOf k ts) ≡ bounds (rowsOf both us)) (joined p (rowsOf k own) (rowsOf k ts) ≡ contradiction)
+  next-outcome : flats.FlatOutcome (λ us. joined p (rowsOf k own) (rowsOf k ts) ≡ bounds (rowsOf both us))
+      (joined p (rowsOf k own) (rowsOf k ts) ≡ contradiction)
       (nextRows early late (p .jobs) (p .window) ts base)
   next-outcome =
       let set = joined p (rowsOf k own) (rowsOf k ts) in
-      nextRows-outcome p early late (g .clocked .times) (g .clocked .accepted) set ts weighed base
-      (subst (Towards p both (onNext p (rowsOf k ts)) set) (ap (λ r. r .weights) (sym (g .based .base-put)))
-      (between-outcome p early late (g .clocked) own (g .based .own-put) (rowsOf k ts) .keeps (ap (λ r. r .found) (sym (g .based .base-put)))))
+      nextRows-outcome p early late (g .times-held .times) (g .times-held .accepted) set ts weighed base
+      (subst (LeadsTo p both (onNext p (rowsOf k ts)) set) (ap (λ r. r .weights) (sym (g .based .base-put)))
+      (between-outcome p early late (g .times-held) own (g .based .own-put) (rowsOf k ts) .keeps (ap (λ r. r .found) (sym (g .based .base-put)))))
 
   turn : outcome p ≡ decided p m (rowsOf k ts) (round p (rowsOf k own) (rowsOf k ts)) (roundsFrom p (rowsOf k own) (m + 1) (left - 1))
   turn = g .before ∙ rounds-more p (rowsOf k own) m left (rowsOf k ts) (g .some)
@@ -215,14 +216,15 @@ module _ {p : Plan} {early late own base : List ℤ} {m left : ℕ} {ts : List �
           subst (λ us. joined p (rowsOf k own) (rowsOf k ts) ≡ bounds (rowsOf both us)) (ap (λ r. r .weights) (sym put))
           (next-outcome .keeps (ap (λ r. r .found) (sym put) ∙ f))
 
-      joined-fits : Fit p (nodes (p .jobs + p .jobs)) (rowsOf (nodes (p .jobs + p .jobs)) us)
+      joined-fits : JudgedTable p (nodes (p .jobs + p .jobs)) (rowsOf (nodes (p .jobs + p .jobs)) us)
       joined-fits =
-          joined-fit p (rowsOf k own) (rowsOf k ts) (own-fit p early late (g .clocked) own (g .based .own-put)) (g .fit) (rowsOf both us) joined-is
+          joined-judged-table p (rowsOf k own) (rowsOf k ts) (own-judged-table p early late (g .times-held) own (g .based .own-put)) (g .fit)
+          (rowsOf both us) joined-is
 
-      pub joined-standing : StandingOf p early late (nodes (p .jobs + p .jobs)) us
-      joined-standing =
+      pub joined-table-held : TableHeldFor p early late (nodes (p .jobs + p .jobs)) us
+      joined-table-held =
           record {
-            clocked = g .clocked;
+            times-held = g .times-held;
             room = omega arith;
             size = ap (λ r. length (r .weights)) put ∙ nextRows-length early late (p .jobs) (p .window) ts base ∙ base-size;
             fit = joined-fits;
@@ -244,8 +246,8 @@ module _ {p : Plan} {early late own base : List ℤ} {m left : ℕ} {ts : List �
             round-is : round p (rowsOf k own) (rowsOf k ts) ≡ bounds remains
             round-is = round-some p (rowsOf k own) (rowsOf k ts) (rowsOf both us) joined-is ∙ left-is
 
-            pub remains-fit : Fit p (nodes (p .jobs)) (rowsOf (nodes (p .jobs)) vs)
-            remains-fit = eliminated-fit p (p .jobs) (p .jobs) (rowsOf both us) remains joined-fits left-is
+            pub remains-judged-table : JudgedTable p (nodes (p .jobs)) (rowsOf (nodes (p .jobs)) vs)
+            remains-judged-table = eliminated-judged-table p (p .jobs) (p .jobs) (rowsOf both us) remains joined-fits left-is
 
             pub round-later : sameRows (rowsOf (nodes (p .jobs)) ts) (rowsOf (nodes (p .jobs)) vs) ≡ false
                 → outcome p ≡ roundsFrom p (rowsOf (nodes (p .jobs)) own) (m + 1) (left - 1) (rowsOf (nodes (p .jobs)) vs)
@@ -263,7 +265,7 @@ module _ {p : Plan} {early late own base : List ℤ} {m left : ℕ} {ts : List �
               settled-joins : (n : ℕ) (v : Rows) → outcome p ≡ settled n v → thenSet (C0 p) (λ c0. joined p c0 v) ≡ bounds (rowsOf both us)
               unfolding thenSet
               settled-joins n v q =
-                  ap (λ s. thenSet s (λ c0. joined p c0 v)) (own-rows p early late (g .clocked) own (g .based .own-put))
+                  ap (λ s. thenSet s (λ c0. joined p c0 v)) (own-rows p early late (g .times-held) own (g .based .own-put))
                   ∙ ap (joined p (rowsOf k own)) (sym (sameRows-unique (rowsOf k ts) remains h ∙ settled-back m n remains v (sym round-settled ∙ q)))
                   ∙ joined-is
 

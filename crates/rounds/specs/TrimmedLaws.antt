@@ -30,7 +30,7 @@ use Rattle.bounds.specs.Tables.{
   Cell,
   off,
   upto,
-  least,
+  lesserCell,
   Rows,
   at,
   build,
@@ -215,7 +215,7 @@ module _ (p : Plan) (job : List Job) (bound : List Bound) (same : SamePlaces p j
   joined-agrees c0 t =
       judgedSet-agrees (nodes (p .jobs + p .jobs)) _ (omega arith)
       ∙ ap
-      (λ (bs : List Between). judgedSet p (nodes (p .jobs + p .jobs)) (λ y z. least (at c0 y z) (least (onNext p t y z) (leastOf bs y z))))
+      (λ (bs : List Between). judgedSet p (nodes (p .jobs + p .jobs)) (λ y z. lesserCell (at c0 y z) (lesserCell (onNext p t y z) (leastOf bs y z))))
       betweenBounds-agrees
 
   round-agrees : (c0 t : Rows) → round q c0 t ≡ round p c0 t

@@ -16,8 +16,8 @@ ghost use Rattle.plan.specs.PlanWritten.{boundsOf};
 ghost use Rattle.plan.specs.Accepted.{BoundAccepted};
 ghost use Rattle.plan.specs.Limits.{mostJobs};
 ghost use Rattle.bounds.specs.Events.{nodeOf, mostNodes};
-ghost use Rattle.bounds.specs.Flat.{AllTimed, flat, putBounds};
-ghost use Rattle.bounds.specs.Fit.{Clocked};
+ghost use Rattle.bounds.specs.Flat.{AllTimesInRange, flat, putBounds};
+ghost use Rattle.bounds.specs.Held.{TimesHeld};
 ghost use Rattle.rounds.specs.Given.{placeOf, named, meant, givenBounds};
 
 // The place of job i of this window or of the next.
@@ -56,7 +56,7 @@ fn put_bound<'a>(
     jobs: usize,
     d: Bound,
 ) -> bool
-    requires { ⌜ (AllTimed (now early) (now late)) × (jobs ≤ mostJobs) × (BoundAccepted jobs d) ⌝ }
+    requires { ⌜ (AllTimesInRange (now early) (now late)) × (jobs ≤ mostJobs) × (BoundAccepted jobs d) ⌝ }
     ensures { λ r. ⌜ ((p : Plan) → jobs ≡ p .jobs → flat r (now (weights .exit))
         ≡ putBounds (now (early .entry)) (now (late .entry)) (meant p d ∷ []) (now (weights .entry))) ⌝ }
 {
@@ -90,7 +90,7 @@ fn put_due<'a>(
     d: Bound,
     between: bool,
 ) -> bool
-    requires { ⌜ (AllTimed (now early) (now late)) × (jobs ≤ mostJobs) × (BoundAccepted jobs d) ⌝ }
+    requires { ⌜ (AllTimesInRange (now early) (now late)) × (jobs ≤ mostJobs) × (BoundAccepted jobs d) ⌝ }
     ensures { λ r. ⌜ ((p : Plan) → jobs ≡ p .jobs → flat r (now (weights .exit))
         ≡ putBounds (now (early .entry)) (now (late .entry)) (givenBounds p between (d ∷ [])) (now (weights .entry))) ⌝ }
 {
@@ -112,7 +112,7 @@ pub fn put_given<'a>(
     p: Plan,
     between: bool,
 ) -> bool
-    requires { ⌜ Clocked p (now early) (now late) ⌝ }
+    requires { ⌜ TimesHeld p (now early) (now late) ⌝ }
     ensures { λ r. ⌜ flat r (now (weights .exit)) ≡ putBounds (now (early .entry)) (now (late .entry)) (givenBounds p between (boundsOf p))
         (now (weights .entry)) ⌝ }
 {

@@ -7,7 +7,7 @@ ghost use Rattle.plan.specs.Limits.{mostJobs};
 ghost use Rattle.bounds.specs.Flat.{flat};
 ghost use Rattle.bounds.specs.Events.{mostNodes};
 ghost use Rattle.rounds.specs.Next.{Nexts, onto, nextAt, nextRow, nextRows};
-ghost use Rattle.rounds.specs.Rounds.{movedBy};
+ghost use Rattle.rounds.specs.Rounds.{shiftBy};
 
 // The node on the next window of node y of one window; the origin stays.
 fn node_onto(jobs: usize, y: usize) -> usize
@@ -21,8 +21,8 @@ fn node_onto(jobs: usize, y: usize) -> usize
 }
 
 // By how much the event of node y moves; the origin stays.
-fn moved_by(window: i32, y: usize) -> i32
-    ensures { λ r. ⌜ r ≡ movedBy window y ⌝ }
+fn shift_by(window: i32, y: usize) -> i32
+    ensures { λ r. ⌜ r ≡ shiftBy window y ⌝ }
 {
     if y == 0 { 0 } else { window }
 }
@@ -45,8 +45,8 @@ fn put_next_cell<'a>(
     let v = carried[y * Table::SIDE + z];
     let from = node_onto(jobs, y);
     let to = node_onto(jobs, z);
-    let more = moved_by(window, z);
-    let less = moved_by(window, y);
+    let more = shift_by(window, z);
+    let less = shift_by(window, y);
     let a = more - less;
     put(weights, early, late, from, to, v, a)
 }

@@ -6,9 +6,9 @@ use plan::Plan;
 ghost use mathlib.Core.Path.{_≡_};
 ghost use Prim.Native.Nat.{_+_, _*_, _<_};
 ghost use Rattle.bounds.specs.Events.{eventOf, mostNodes};
-ghost use Rattle.bounds.specs.Flat.{AllTimed, flat, putBounds};
+ghost use Rattle.bounds.specs.Flat.{AllTimesInRange, flat, putBounds};
 ghost use mathlib.Core.List.{[], _∷_};
-ghost use Rattle.bounds.specs.Fit.{Clocked};
+ghost use Rattle.bounds.specs.Held.{TimesHeld};
 ghost use Rattle.rounds.specs.Given.{inOrder, orders, ownBounds, betweenBounds};
 ghost use Rattle.rounds.specs.Put.{rangeOf, rangeOfPlace, rangesOf};
 
@@ -19,7 +19,7 @@ fn put_range<'a>(
     late: &'a [i32; Table::SIDE],
     y: usize,
 ) -> bool
-    requires { ⌜ (AllTimed (now early) (now late)) × (y < mostNodes) ⌝ }
+    requires { ⌜ (AllTimesInRange (now early) (now late)) × (y < mostNodes) ⌝ }
     ensures { λ r. ⌜ flat r (now (weights .exit)) ≡ putBounds (now (early .entry)) (now (late .entry))
         (rangeOf (now (early .entry)) (now (late .entry)) (eventOf y)) (now (weights .entry)) ⌝ }
 {
@@ -39,7 +39,7 @@ fn put_place<'a>(
     late: &'a [i32; Table::SIDE],
     k: usize,
 ) -> bool
-    requires { ⌜ (AllTimed (now early) (now late)) × (2 + 2 * k < mostNodes) ⌝ }
+    requires { ⌜ (AllTimesInRange (now early) (now late)) × (2 + 2 * k < mostNodes) ⌝ }
     ensures { λ r. ⌜ flat r (now (weights .exit)) ≡ putBounds (now (early .entry)) (now (late .entry)) (rangeOfPlace (now (early .entry)) (now (late .entry)) k)
         (now (weights .entry)) ⌝ }
 {
@@ -56,7 +56,7 @@ fn put_ranges<'a>(
     late: &'a [i32; Table::SIDE],
     count: usize,
 ) -> bool
-    requires { ⌜ (AllTimed (now early) (now late)) × (2 * count < mostNodes) ⌝ }
+    requires { ⌜ (AllTimesInRange (now early) (now late)) × (2 * count < mostNodes) ⌝ }
     ensures { λ r. ⌜ flat r (now (weights .exit)) ≡ putBounds (now (early .entry)) (now (late .entry)) (rangesOf (now (early .entry)) (now (late .entry)) count)
         (now (weights .entry)) ⌝ }
 {
@@ -77,7 +77,7 @@ fn put_order<'a>(
     late: &'a [i32; Table::SIDE],
     k: usize,
 ) -> bool
-    requires { ⌜ (AllTimed (now early) (now late)) × (3 + 2 * k < mostNodes) ⌝ }
+    requires { ⌜ (AllTimesInRange (now early) (now late)) × (3 + 2 * k < mostNodes) ⌝ }
     ensures { λ r. ⌜ flat r (now (weights .exit)) ≡ putBounds (now (early .entry)) (now (late .entry)) (inOrder k ∷ []) (now (weights .entry)) ⌝ }
 {
     put(weights, early, late, 3 + 2 * k, 2 + 2 * k, 0, 0)
@@ -90,7 +90,7 @@ fn put_orders<'a>(
     late: &'a [i32; Table::SIDE],
     count: usize,
 ) -> bool
-    requires { ⌜ (AllTimed (now early) (now late)) × (2 + 2 * count < mostNodes) ⌝ }
+    requires { ⌜ (AllTimesInRange (now early) (now late)) × (2 + 2 * count < mostNodes) ⌝ }
     ensures { λ r. ⌜ flat r (now (weights .exit)) ≡ putBounds (now (early .entry)) (now (late .entry)) (orders count) (now (weights .entry)) ⌝ }
 {
     let mut left = count;
@@ -110,7 +110,7 @@ pub fn put_own<'a>(
     late: &'a [i32; Table::SIDE],
     p: Plan,
 ) -> bool
-    requires { ⌜ Clocked p (now early) (now late) ⌝ }
+    requires { ⌜ TimesHeld p (now early) (now late) ⌝ }
     ensures { λ r. ⌜ flat r (now (weights .exit)) ≡ putBounds (now (early .entry)) (now (late .entry)) (ownBounds p) (now (weights .entry)) ⌝ }
 {
     let jobs = p.jobs;
@@ -131,7 +131,7 @@ pub fn put_between<'a>(
     late: &'a [i32; Table::SIDE],
     p: Plan,
 ) -> bool
-    requires { ⌜ Clocked p (now early) (now late) ⌝ }
+    requires { ⌜ TimesHeld p (now early) (now late) ⌝ }
     ensures { λ r. ⌜ flat r (now (weights .exit)) ≡ putBounds (now (early .entry)) (now (late .entry)) (betweenBounds p) (now (weights .entry)) ⌝ }
 {
     let last = p.jobs - 1;

@@ -14,7 +14,7 @@ ghost use lib.ListN.{length};
 ghost use Rattle.plan.specs.Limits.{mostRounds};
 ghost use Rattle.bounds.specs.Events.{nodes};
 ghost use Rattle.bounds.specs.Flat.{rowsOf, noBounds, cells};
-ghost use Rattle.bounds.specs.Fit.{Clocked, StandingOf};
+ghost use Rattle.bounds.specs.Held.{TimesHeld, TableHeldFor};
 ghost use Rattle.rounds.specs.declared.Verdict.the-variants.{NoStrategy};
 ghost use Rattle.rounds.specs.Rounds.{failsAlone, verdict};
 ghost use Rattle.rounds.specs.Settling.{SettledOn, Based};
@@ -26,7 +26,7 @@ fn fails_alone<'a>(
     late: &'a [i32; Table::SIDE],
     carried: &'a [i32; Table::SIZE],
 ) -> bool
-    requires { ⌜ StandingOf p (now early) (now late) (nodes (p .jobs)) (now carried) ⌝ }
+    requires { ⌜ TableHeldFor p (now early) (now late) (nodes (p .jobs)) (now carried) ⌝ }
     ensures { λ r. ⌜ r ≡ failsAlone p (rowsOf (nodes (p .jobs)) (now (carried .entry))) ⌝ }
 {
     let jobs = p.jobs;
@@ -42,7 +42,7 @@ fn contradicted<'a>(
     carried: &'a [i32; Table::SIZE],
     m: u64,
 ) -> Verdict
-    requires { ⌜ (StandingOf p (now early) (now late) (nodes (p .jobs)) (now carried)) × (m ≤ mostRounds) ⌝ }
+    requires { ⌜ (TableHeldFor p (now early) (now late) (nodes (p .jobs)) (now carried)) × (m ≤ mostRounds) ⌝ }
     ensures { λ r. ⌜ r ≡ NoStrategy (cond (failsAlone p (rowsOf (nodes (p .jobs)) (now (carried .entry)))) m (m + 1)) ⌝ }
 {
     if fails_alone(p, early, late, carried) {
@@ -61,7 +61,7 @@ fn settle_rounds<'a>(
     carried: &mut [i32; Table::SIZE],
     joined: &mut [i32; Table::SIZE],
 ) -> Verdict
-    requires { ⌜ (Clocked p (now early) (now late)) × (Based p (now early) (now late) (now carried) (now joined)) × (length (now joined) ≡ cells) ⌝ }
+    requires { ⌜ (TimesHeld p (now early) (now late)) × (Based p (now early) (now late) (now carried) (now joined)) × (length (now joined) ≡ cells) ⌝ }
     ensures { λ r. ⌜ r ≡ verdict p ⌝ }
     ensures { λ r. ⌜ SettledOn p (rowsOf (nodes (p .jobs + p .jobs)) (now (joined .exit))) ⌝ }
     ensures { λ r. ⌜ length (now (joined .exit)) ≡ cells ⌝ }
@@ -97,7 +97,7 @@ pub fn settle<'a>(
     late: &'a [i32; Table::SIDE],
     joined: &mut [i32; Table::SIZE],
 ) -> Verdict
-    requires { ⌜ (Clocked p (now early) (now late)) × (now joined ≡ noBounds) ⌝ }
+    requires { ⌜ (TimesHeld p (now early) (now late)) × (now joined ≡ noBounds) ⌝ }
     ensures { λ r. ⌜ r ≡ verdict p ⌝ }
     ensures { λ r. ⌜ SettledOn p (rowsOf (nodes (p .jobs + p .jobs)) (now (joined .exit))) ⌝ }
     ensures { λ r. ⌜ length (now (joined .exit)) ≡ cells ⌝ }

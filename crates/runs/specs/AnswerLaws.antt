@@ -66,14 +66,14 @@ within-is lo hi z h = go (leZ lo z) (leZ z hi) refl refl h
 
 module _ (d : Turn) (cs ds : List ℤ) (r : Run) where
   -- an opening in some phase: for the job that the run waits for, in a window of the plan, with its offer, which is not empty
-  pub record Opens (j i : ℕ) (o : Offer) (f : Phase) : Type 0 where
+  pub record OpenFor (j i : ℕ) (o : Offer) (f : Phase) : Type 0 where
     pub waits : f ≡ Waiting j i
     pub lasts : j ≤ d .last
     pub offer : offerAt d cs ds r j i ≡ o
     pub some : o .from .0 ≤ℤ o .to .0
 
   opened-opens : (j i : ℕ) (o : Offer) (k l : ℕ) (u : Offer) → k ≤ d .last → offerAt d cs ds r k l ≡ u → (b : Bool) → ltZ (u .to .0) (u .from .0) ≡ b
-      → cond b (Shut refusal.EmptyOffer) (Open k l u) ≡ Open j i o → Opens j i o (Waiting k l)
+      → cond b (Shut refusal.EmptyOffer) (Open k l u) ≡ Open j i o → OpenFor j i o (Waiting k l)
   opened-opens j i o k l u h is true e x = clash (cc)
   opened-opens j i o k l u h is false e x =
       let w : k ≡ j = cc in
@@ -87,26 +87,26 @@ module _ (d : Turn) (cs ds : List ℤ) (r : Run) where
       }
 
   window-opens : (j i : ℕ) (o : Offer) (k l : ℕ) (b : Bool) → ltb (d .last) k ≡ b
-      → cond b (Shut refusal.Over) (opened k l (offerAt d cs ds r k l)) ≡ Open j i o → Opens j i o (Waiting k l)
+      → cond b (Shut refusal.Over) (opened k l (offerAt d cs ds r k l)) ≡ Open j i o → OpenFor j i o (Waiting k l)
   window-opens j i o k l true e x = clash (cc)
   window-opens j i o k l false e x = opened-opens j i o k l (offerAt d cs ds r k l) (ltb-false (d .last) k e) refl _ refl x
 
-  opening-opens : (j i : ℕ) (o : Offer) (f : Phase) → openingAt d cs ds r f ≡ Open j i o → Opens j i o f
+  opening-opens : (j i : ℕ) (o : Offer) (f : Phase) → openingAt d cs ds r f ≡ Open j i o → OpenFor j i o f
   unfolding openingAt
   opening-opens j i o (Waiting k l) x = window-opens j i o k l (ltb (d .last) k) refl x
   opening-opens j i o (Running k l t) x = clash (cc)
 
   -- ---- a start that is answered
 
-  pub record Taken (st : Step) (j i : ℕ) (t : RunTime) : Type 0 where
+  pub record StartTaken (st : Step) (j i : ℕ) (t : RunTime) : Type 0 where
     pub offer : Offer
-    pub opens : Opens j i offer (r .phase)
+    pub opens : OpenFor j i offer (r .phase)
     pub least : offer .from .0 ≤ℤ t .0
     pub most : t .0 ≤ℤ offer .to .0
     pub timed : isStep st ≡ true → isTime t ≡ true
 
-  at-taken : (u t : RunTime) (a b j i : ℕ) (o : Offer) → Opens a b o (r .phase) → (x : Bool) → within (o .from .0) (o .to .0) (u .0) ≡ x
-      → cond x (Started a b u) (Refused refusal.OutsideOffer) ≡ Started j i t → Taken (Start (At u)) j i t
+  at-taken : (u t : RunTime) (a b j i : ℕ) (o : Offer) → OpenFor a b o (r .phase) → (x : Bool) → within (o .from .0) (o .to .0) (u .0) ≡ x
+      → cond x (Started a b u) (Refused refusal.OutsideOffer) ≡ Started j i t → StartTaken (Start (At u)) j i t
   at-taken u t a b j i o q true e y =
       let w = within-is (o .from .0) (o .to .0) (u .0) e in
       let z : u ≡ t = cc in
@@ -114,15 +114,15 @@ module _ (d : Turn) (cs ds : List ℤ) (r : Run) where
       let n : b ≡ i = cc in
       record {
         offer = o;
-        opens = subst (λ (j : ℕ). Opens j i o (r .phase)) m (subst (λ (i : ℕ). Opens a i o (r .phase)) n q);
+        opens = subst (λ (j : ℕ). OpenFor j i o (r .phase)) m (subst (λ (i : ℕ). OpenFor a i o (r .phase)) n q);
         least = subst (λ (t : RunTime). o .from .0 ≤ℤ t .0) z (w .0);
         most = subst (λ (t : RunTime). t .0 ≤ℤ o .to .0) z (w .1);
         timed = λ h. subst (λ (t : RunTime). isTime t ≡ true) z h;
       }
   at-taken u t a b j i o q false e y = clash (cc)
 
-  auto-taken : (t : RunTime) (a b j i : ℕ) (o : Offer) → Opens a b o (r .phase) → (x : Bool) → isTime (o .from) ≡ x
-      → cond x (Started a b (o .from)) (Refused outsideLimits) ≡ Started j i t → Taken (Start Auto) j i t
+  auto-taken : (t : RunTime) (a b j i : ℕ) (o : Offer) → OpenFor a b o (r .phase) → (x : Bool) → isTime (o .from) ≡ x
+      → cond x (Started a b (o .from)) (Refused outsideLimits) ≡ Started j i t → StartTaken (Start Auto) j i t
   auto-taken t a b j i o q true e y =
       let z : o .from ≡ t = cc in
       let m : a ≡ j = cc in
@@ -130,7 +130,7 @@ module _ (d : Turn) (cs ds : List ℤ) (r : Run) where
       let some = q .some in
       record {
         offer = o;
-        opens = subst (λ (j : ℕ). Opens j i o (r .phase)) m (subst (λ (i : ℕ). Opens a i o (r .phase)) n q);
+        opens = subst (λ (j : ℕ). OpenFor j i o (r .phase)) m (subst (λ (i : ℕ). OpenFor a i o (r .phase)) n q);
         least = subst (λ (t : RunTime). o .from .0 ≤ℤ t .0) z (omega wholes);
         most = subst (λ (t : RunTime). t .0 ≤ℤ o .to .0) z some;
         timed = λ h. subst (λ (t : RunTime). isTime t ≡ true) z e;
@@ -138,7 +138,7 @@ module _ (d : Turn) (cs ds : List ℤ) (r : Run) where
   auto-taken t a b j i o q false e y = clash (cc)
 
   start-answered : (choice : Choice) (at : Opening) → openingAt d cs ds r (r .phase) ≡ at → (j i : ℕ) (t : RunTime) → started choice at ≡ Started j i t
-      → Taken (Start choice) j i t
+      → StartTaken (Start choice) j i t
   unfolding started
   start-answered (At u) (Open a b o) x j i t e = at-taken u t a b j i o (opening-opens a b o (r .phase) x) _ refl e
   start-answered Auto (Open a b o) x j i t e = auto-taken t a b j i o (opening-opens a b o (r .phase) x) _ refl e
@@ -158,7 +158,7 @@ module _ (d : Turn) (cs ds : List ℤ) (r : Run) where
       go true e = clash (cc)
       go false e = clash (cc)
 
-  pub answer-started : (st : Step) (j i : ℕ) (t : RunTime) → answerAt d cs ds r st ≡ Started j i t → Taken st j i t
+  pub answer-started : (st : Step) (j i : ℕ) (t : RunTime) → answerAt d cs ds r st ≡ Started j i t → StartTaken st j i t
   unfolding answerAt
   answer-started Ask j i t e = absurd (asked-other (openingAt d cs ds r (r .phase)) j i t e)
   answer-started (Start choice) j i t e = start-answered choice (openingAt d cs ds r (r .phase)) refl j i t e
@@ -166,7 +166,7 @@ module _ (d : Turn) (cs ds : List ℤ) (r : Run) where
 
   -- ---- a finish that is answered
 
-  pub record Ended (st : Step) (j i : ℕ) (t : RunTime) : Type 0 where
+  pub record FinishTaken (st : Step) (j i : ℕ) (t : RunTime) : Type 0 where
     pub since : RunTime
     pub runs : r .phase ≡ Running j i since
     pub step : st ≡ Finish t
@@ -174,7 +174,7 @@ module _ (d : Turn) (cs ds : List ℤ) (r : Run) where
     pub most : t .0 ≤ℤ (since .0 +ℤ d .job .max)
 
   since-ended : (u t s : RunTime) (a b j i : ℕ) → r .phase ≡ Running a b s → (x : Bool) → within (s .0 +ℤ d .job .min) (s .0 +ℤ d .job .max) (u .0) ≡ x
-      → cond x (Final a b u) (Refused refusal.OutsideTimes) ≡ Final j i t → Ended (Finish u) j i t
+      → cond x (Final a b u) (Refused refusal.OutsideTimes) ≡ Final j i t → FinishTaken (Finish u) j i t
   since-ended u t s a b j i h true e y =
       let w = within-is _ _ (u .0) e in
       let z : u ≡ t = cc in
@@ -187,7 +187,7 @@ module _ (d : Turn) (cs ds : List ℤ) (r : Run) where
       }
   since-ended u t s a b j i h false e y = clash (cc)
 
-  finish-answered : (u : RunTime) (f : Phase) → r .phase ≡ f → (j i : ℕ) (t : RunTime) → finished (d .job) u f ≡ Final j i t → Ended (Finish u) j i t
+  finish-answered : (u : RunTime) (f : Phase) → r .phase ≡ f → (j i : ℕ) (t : RunTime) → finished (d .job) u f ≡ Final j i t → FinishTaken (Finish u) j i t
   unfolding finished
   finish-answered u (Waiting a b) h j i t e = clash (cc)
   finish-answered u (Running a b s) h j i t e = since-ended u t s a b j i h _ refl e
@@ -211,7 +211,7 @@ module _ (d : Turn) (cs ds : List ℤ) (r : Run) where
       go false e = clash (cc)
   started-not choice (Shut x) j i t e = clash (cc)
 
-  pub answer-final : (st : Step) (j i : ℕ) (t : RunTime) → answerAt d cs ds r st ≡ Final j i t → Ended st j i t
+  pub answer-final : (st : Step) (j i : ℕ) (t : RunTime) → answerAt d cs ds r st ≡ Final j i t → FinishTaken st j i t
   unfolding answerAt
   answer-final Ask j i t e = absurd (asked-not (openingAt d cs ds r (r .phase)) j i t e)
   answer-final (Start choice) j i t e = absurd (started-not choice (openingAt d cs ds r (r .phase)) j i t e)

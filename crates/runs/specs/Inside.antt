@@ -10,7 +10,7 @@ use lib.Signed.{_≤ℤ_}
 use mir.Syntax.{w64}
 use mir.Val.{SFits}
 use Rattle.clock.specs.declared.RunTime.{RunTime}
-use Rattle.clock.specs.Spans.{Spanned, Near}
+use Rattle.clock.specs.Spans.{WindowInRange, NearBeginning}
 use Rattle.plan.specs.declared.Job.{Job}
 use Rattle.plan.specs.declared.Plan.{Plan}
 use Rattle.lines.specs.declared.Refusal.{Refusal}
@@ -63,9 +63,9 @@ pub record TermsFit (seen : List ℤ) (set : ℕ) (cs : List ℤ) (row first cou
 
 -- of the offer for job i in window j
 pub record OfferInside (d : Turn) (cs ds : List ℤ) (r : Run) (j i : ℕ) : Type 0 where
-  pub spanned : Spanned (d .window) j
-  pub low : Near (d .terms .low .0)
-  pub high : Near (d .terms .high .0)
+  pub spanned : WindowInRange (d .window) j
+  pub low : NearBeginning (d .terms .low .0)
+  pub high : NearBeginning (d .terms .high .0)
   pub jobs-most : d .jobs ≤ mostJobs
   pub job-least : 1 ≤ i
   pub job-most : i ≤ d .jobs
@@ -76,8 +76,8 @@ pub record OfferInside (d : Turn) (cs ds : List ℤ) (r : Run) (j i : ℕ) : Typ
 pub record FinishInside (job : Job) (t : RunTime) : Type 0 where
   pub start-least : pos 0 ≤ℤ t .0
   pub start-most : t .0 ≤ℤ lastTime
-  pub min : Near (job .min)
-  pub max : Near (job .max)
+  pub min : NearBeginning (job .min)
+  pub max : NearBeginning (job .max)
 
 -- of a step, whatever the phase
 pub record StepInside (d : Turn) (cs ds : List ℤ) (r : Run) : Type 0 where

@@ -16,7 +16,7 @@ use mir.Val.{SFits}
 use Rattle.whole.specs.Rules.{whole, wholes}
 use Rattle.whole.specs.Order.{leZ-true-iff}
 use Rattle.clock.specs.declared.RunTime.{RunTime}
-use Rattle.clock.specs.Spans.{Near}
+use Rattle.clock.specs.Spans.{NearBeginning}
 use Rattle.plan.specs.declared.Plan.{Plan}
 use Rattle.plan.specs.Limits.{leastC, greatestC, mostJobs}
 use Rattle.bounds.specs.BuildLaws.{anyBelow-none}
@@ -36,15 +36,15 @@ use Rattle.runs.specs.Inside.{Inside, TermsFit, OfferInside, FinishInsid
 
 -- ---- what has its times, and a c in range
 
-isC-near : (c : ℤ) → isC c ≡ true → Near c
+isC-near : (c : ℤ) → isC c ≡ true → NearBeginning c
 isC-near c e =
     record { least = leZ-true-iff leastC c .0 (and-left _ _ e); greatest = leZ-true-iff c greatestC .0 (and-right (leZ leastC c) _ e) }
 
-record Timed (z : ℤ) : Type 0 where
+record TimeInRange (z : ℤ) : Type 0 where
   least : pos 0 ≤ℤ z
   greatest : z ≤ℤ lastTime
 
-isTime-timed : (t : RunTime) → isTime t ≡ true → Timed (t .0)
+isTime-timed : (t : RunTime) → isTime t ≡ true → TimeInRange (t .0)
 isTime-timed t e =
     record {
       least = leZ-true-iff (pos 0) (t .0) .0 (and-left _ _ e);
@@ -60,16 +60,16 @@ areTimes-at seen e (suc n) h k from to =
     (λ (later : suc e ≤ k). areTimes-at seen (suc e) n (and-right (isTime (timeAt seen e)) _ h) k later (omega arith))
     (here-or-later e k from)
 
-term-fits : (t c : ℤ) → Timed t → Near c → SFits w64 (t +ℤ c)
+term-fits : (t c : ℤ) → TimeInRange t → NearBeginning c → SFits w64 (t +ℤ c)
 term-fits t c p q = omega wholes
 
 -- ---- one side
 
 -- every c that the set names from one place on is in range
-record Named (set : ℕ) (cs : List ℤ) (at count : ℕ) : Type 0 where
-  near : (k : ℕ) → k < count → hasEvent k set ≡ true → Near (getD cs (at + k) (pos 0))
+record NamedNear (set : ℕ) (cs : List ℤ) (at count : ℕ) : Type 0 where
+  near : (k : ℕ) → k < count → hasEvent k set ≡ true → NearBeginning (getD cs (at + k) (pos 0))
 
-side-named : (p : Plan) (i set : ℕ) (cs : List ℤ) → isSide (p .jobs) i set cs ≡ true → Named set cs (i * mostEvents) (eventsBefore p i)
+side-named : (p : Plan) (i set : ℕ) (cs : List ℤ) → isSide (p .jobs) i set cs ≡ true → NamedNear set cs (i * mostEvents) (eventsBefore p i)
 unfolding isSide
 side-named p i set cs e =
     record {
@@ -80,7 +80,7 @@ side-named p i set cs e =
           (not-true _ (and-right (isBelow (eventsBefore p i) set) _ e)) k l) m);
     }
 
-terms-fit : (p : Plan) (r : Run) (i set : ℕ) (cs : List ℤ) → Named set cs (i * mostEvents) (eventsBefore p i)
+terms-fit : (p : Plan) (r : Run) (i set : ℕ) (cs : List ℤ) → NamedNear set cs (i * mostEvents) (eventsBefore p i)
     → areTimes (r .seen) (firstSeen (p .jobs) (r .before)) (eventsBefore p i - firstSeen (p .jobs) (r .before)) ≡ true
     → TermsFit (r .seen) set cs (i * mostEvents) (firstSeen (p .jobs) (r .before)) (eventsBefore p i)
 terms-fit p r i set cs n t =
@@ -101,13 +101,13 @@ module _ (p : Plan) (r : Run) (e : isRun p r ≡ true) where
   unfolding isRun
   run-seen = and-right (isPhase (p .last) (p .jobs) (r .phase)) _ e
 
-pub record OnTurn (p : Plan) (j i : ℕ) : Type 0 where
+pub record TurnOfPlan (p : Plan) (j i : ℕ) : Type 0 where
   pub window-least : 1 ≤ j
   pub window-most : j ≤ p .last
   pub job-least : 1 ≤ i
   pub job-most : i ≤ p .jobs
 
-turn-of : (p : Plan) (j i : ℕ) → isTurn (p .last) (p .jobs) j i ≡ true → OnTurn p j i
+turn-of : (p : Plan) (j i : ℕ) → isTurn (p .last) (p .jobs) j i ≡ true → TurnOfPlan p j i
 turn-of p j i e =
     let windows = and-left (leb 1 j && leb j (p .last)) _ e in
     let jobs = and-right (leb 1 j && leb j (p .last)) _ e in
@@ -118,13 +118,13 @@ turn-of p j i e =
       job-most = leb-true i (p .jobs) (and-right (leb 1 i) _ jobs);
     }
 
-pub waiting-turn : (p : Plan) (f : Phase) (j i : ℕ) → isPhase (p .last) (p .jobs) f ≡ true → f ≡ Waiting j i → j ≤ p .last → OnTurn p j i
+pub waiting-turn : (p : Plan) (f : Phase) (j i : ℕ) → isPhase (p .last) (p .jobs) f ≡ true → f ≡ Waiting j i → j ≤ p .last → TurnOfPlan p j i
 unfolding isPhase
 waiting-turn p f j i h e l =
     let w : isPhase (p .last) (p .jobs) (Waiting j i) ≡ true = ap (isPhase (p .last) (p .jobs)) (sym e) ∙ h in
     turn-of p j i (or-left (isTurn (p .last) (p .jobs) j i) _ w (rw (ne-eqb j (p .last + 1) (λ x. omega arith))))
 
-pub running-turn : (p : Plan) (f : Phase) (j i : ℕ) (t : RunTime) → isPhase (p .last) (p .jobs) f ≡ true → f ≡ Running j i t → OnTurn p j i
+pub running-turn : (p : Plan) (f : Phase) (j i : ℕ) (t : RunTime) → isPhase (p .last) (p .jobs) f ≡ true → f ≡ Running j i t → TurnOfPlan p j i
 unfolding isPhase
 running-turn p f j i t h e =
     let w : isPhase (p .last) (p .jobs) (Running j i t) ≡ true = ap (isPhase (p .last) (p .jobs)) (sym e) ∙ h in
@@ -135,20 +135,20 @@ unfolding isPhase
 running-time p f j i t h e =
     let w : isPhase (p .last) (p .jobs) (Running j i t) ≡ true = ap (isPhase (p .last) (p .jobs)) (sym e) ∙ h in and-right (isTurn (p .last) (p .jobs) j i) _ w
 
-record Since (p : Plan) (j i : ℕ) (t : RunTime) : Type 0 where
-  turn : OnTurn p j i
-  timed : Timed (t .0)
+record RunsSince (p : Plan) (j i : ℕ) (t : RunTime) : Type 0 where
+  turn : TurnOfPlan p j i
+  timed : TimeInRange (t .0)
 
-running-since : (p : Plan) (f : Phase) (j i : ℕ) (t : RunTime) → isPhase (p .last) (p .jobs) f ≡ true → f ≡ Running j i t → Since p j i t
+running-since : (p : Plan) (f : Phase) (j i : ℕ) (t : RunTime) → isPhase (p .last) (p .jobs) f ≡ true → f ≡ Running j i t → RunsSince p j i t
 running-since p f j i t h e = record { turn = running-turn p f j i t h e; timed = isTime-timed t (running-time p f j i t h e) }
 
 -- ---- the calendar
 
 record TermsInside (p : Plan) (i : ℕ) (t : Terms) (cs ds : List ℤ) : Type 0 where
-  low : Near (t .low .0)
-  high : Near (t .high .0)
-  lower : Named (bitsOf (t .below)) cs (i * mostEvents) (eventsBefore p i)
-  upper : Named (bitsOf (t .above)) ds (i * mostEvents) (eventsBefore p i)
+  low : NearBeginning (t .low .0)
+  high : NearBeginning (t .high .0)
+  lower : NamedNear (bitsOf (t .below)) cs (i * mostEvents) (eventsBefore p i)
+  upper : NamedNear (bitsOf (t .above)) ds (i * mostEvents) (eventsBefore p i)
 
 terms-inside : (p : Plan) (i : ℕ) (t : Terms) (cs ds : List ℤ) → areTermsOf (p .jobs) i t cs ds ≡ true → TermsInside p i t cs ds
 unfolding areTermsOf
@@ -191,11 +191,11 @@ module _ (p : Plan) (c : Calendar) (r : Run) (h : Inside p c r) where
   abbrev turn : Turn
   turn = turnOf p c (jobOfPhase (r .phase))
 
-  offer-inside : (j i : ℕ) → jobOfPhase (r .phase) ≡ i → OnTurn p j i → OfferInside turn (c .«at_least») (c .«at_most») r j i
+  offer-inside : (j i : ℕ) → jobOfPhase (r .phase) ≡ i → TurnOfPlan p j i → OfferInside turn (c .«at_least») (c .«at_most») r j i
   offer-inside j i e t =
       let inside = terms-inside p place _ (c .«at_least») (c .«at_most») (calendar-terms p c (h .calendar) place (omega arith)) in
       let seen = run-seen p r (h .run) in
-      let fits : (set : ℕ) (cs : List ℤ) → Named set cs (place * mostEvents) (eventsBefore p place)
+      let fits : (set : ℕ) (cs : List ℤ) → NamedNear set cs (place * mostEvents) (eventsBefore p place)
       → TermsFit (r .seen) set cs ((i - 1) * mostEvents) (firstSeen (p .jobs) (r .before)) (eventsBefore p (i - 1)) =
       λ set cs n.
       subst (λ (k : ℕ). TermsFit (r .seen) set cs ((k - 1) * mostEvents) (firstSeen (p .jobs) (r .before)) (eventsBefore p (k - 1))) e
@@ -212,7 +212,7 @@ module _ (p : Plan) (c : Calendar) (r : Run) (h : Inside p c r) where
         upper = fits _ _ (inside .upper);
       }
 
-  finish-inside : (j i : ℕ) (t : RunTime) → jobOfPhase (r .phase) ≡ i → Since p j i t → FinishInside (turn .job) t
+  finish-inside : (j i : ℕ) (t : RunTime) → jobOfPhase (r .phase) ≡ i → RunsSince p j i t → FinishInside (turn .job) t
   finish-inside j i t e s =
       let a = h .plan in
       let u = s .turn in

@@ -29,7 +29,7 @@ use Rattle.runs.specs.Steps.{newRun, answerOf, closedSince, closed, move
 use Rattle.runs.specs.Inside.{Inside}
 use Rattle.runs.specs.SeenLaws.{firstSeen-most}
 use Rattle.runs.specs.ValueStepLaws.{step-inside, step-outside}
-use Rattle.runs.specs.InsideLaws.{OnTurn, run-phase, run-seen, areTimes-at, waiting-turn, running-turn, running-time}
+use Rattle.runs.specs.InsideLaws.{TurnOfPlan, run-phase, run-seen, areTimes-at, waiting-turn, running-turn, running-time}
 use Rattle.runs.specs.AnswerLaws.{answer-started, answer-final}
 
 -- ---- a run from its phase and its times
@@ -51,12 +51,12 @@ isRun-of p r a h = and-true _ _ a (areTimes-all (r .seen) _ _ (λ k l m. h k l (
 run-times : (p : Plan) (r : Run) → isRun p r ≡ true → SeenTo p r (jobOfPhase (r .phase) - 1)
 run-times p r e k l m = areTimes-at (r .seen) _ _ (run-seen p r e) k l (omega (arith, firstSeen-most (p .jobs) (r .before)))
 
-isTurn-on : (p : Plan) (j i : ℕ) → OnTurn p j i → isTurn (p .last) (p .jobs) j i ≡ true
+isTurn-on : (p : Plan) (j i : ℕ) → TurnOfPlan p j i → isTurn (p .last) (p .jobs) j i ≡ true
 isTurn-on p j i t =
     and-true _ _ (and-true _ _ (le-leb 1 j (t .window-least)) (le-leb j (p .last) (t .window-most)))
     (and-true _ _ (le-leb 1 i (t .job-least)) (le-leb i (p .jobs) (t .job-most)))
 
-waiting-is : (p : Plan) (j i : ℕ) → OnTurn p j i → isPhase (p .last) (p .jobs) (Waiting j i) ≡ true
+waiting-is : (p : Plan) (j i : ℕ) → TurnOfPlan p j i → isPhase (p .last) (p .jobs) (Waiting j i) ≡ true
 unfolding isPhase
 waiting-is p j i t = or-of-true (isTurn (p .last) (p .jobs) j i) _ (isTurn-on p j i t)
 
@@ -111,7 +111,7 @@ module _ (p : Plan) (r : Run) (e : isRun p r ≡ true) where
       (subst (λ (f : Phase). SeenTo p r (jobOfPhase f - 1)) w (run-times p r e))
 
   -- the first window past the last is the run's end
-  over-or-next : (j i : ℕ) → OnTurn p j i → 1 ≤ p .jobs → (b : Bool) → leb (j + 1) (p .last) ≡ b → isPhase (p .last) (p .jobs) (Waiting (j + 1) 1) ≡ true
+  over-or-next : (j i : ℕ) → TurnOfPlan p j i → 1 ≤ p .jobs → (b : Bool) → leb (j + 1) (p .last) ≡ b → isPhase (p .last) (p .jobs) (Waiting (j + 1) 1) ≡ true
   unfolding isPhase
   over-or-next j i t h true x =
       waiting-is p (j + 1) 1
@@ -124,7 +124,7 @@ module _ (p : Plan) (r : Run) (e : isRun p r ≡ true) where
     abbrev seen : List ℤ
     seen = jobSeen (p .jobs) (i - 1) s t (r .seen)
 
-    on : OnTurn p j i
+    on : TurnOfPlan p j i
     on = running-turn p (r .phase) j i s (run-phase p r e) runs
 
     seen-time : (k : ℕ) → firstSeen (p .jobs) (r .before) ≤ k → k < eventsBefore p (i - 1) + 2 → isTime (timeAt seen k) ≡ true

@@ -1,5 +1,7 @@
--- The calendar of a settled plan is inside its limits (`made-inside`). The settled set is fit (`settled-fit`), and so are the tables just before the starts
--- (`beforeStarts-fit`): no weight is beyond the latest deadline and the longest running time together (`weight-in`), and so low, high and every c are in the
+-- The calendar of a settled plan is inside its limits (`made-inside`). The settled set is fit (`settled-judged-table`), and so are the tables just before the
+-- starts
+-- (`beforeStarts-judged-table`): no weight is beyond the latest deadline and the longest running time together (`weight-in`), and so low, high and every c are
+-- in the
 -- range of a bound's c. Places that no job fills hold zeros, and a set names only events before its start (`calendarOf-inside`).
 use Prim.Native.Nat.{ℕ, zero, suc, _+_, _*_, _-_, _≤_, _<_}
 use mathlib.Core.Path.{_≡_, refl, sym, ap, subst, _∙_}
@@ -21,10 +23,10 @@ use Rattle.bounds.specs.Events.{startNode, finishNode, nodes}
 use Rattle.bounds.specs.Tables.{Cell, off, upto, Rows, at, listed, Set, contradiction, bounds}
 use Rattle.bounds.specs.TablesLaws.{anyBelow-no}
 use Rattle.bounds.specs.Elimination.{withoutFinish, withoutStart, thenSet, eliminated}
-use Rattle.bounds.specs.Fit.{Fit}
-use Rattle.bounds.specs.FitLaws.{least-weight, most-weight, withoutFinish-fit, withoutStart-fit}
+use Rattle.bounds.specs.Held.{JudgedTable}
+use Rattle.bounds.specs.JudgedTableLaws.{least-weight, most-weight, withoutFinish-judged-table, withoutStart-judged-table}
 use Rattle.rounds.specs.Rounds.{C0, joined, round, sameRows, Outcome, settled, decided, roundsFrom, outcomeFrom, outcome}
-use Rattle.rounds.specs.CarriedLaws.{C0-fit, joined-fit, eliminated-fit}
+use Rattle.rounds.specs.CarriedLaws.{C0-judged-table, joined-judged-table, eliminated-judged-table}
 use Rattle.calendars.specs.declared.Terms.{Terms}
 use Rattle.events.specs.Bits.{bitsOf, hasEvent, isBelow, mostEvents}
 use Rattle.events.specs.BitsLaws.{isBelow-fits}
@@ -49,51 +51,59 @@ use Rattle.runs.specs.LimitLaws.{anyFrom-is, isC-in, outAt, isSide-walk,
 
 -- ---- the settled set is fit
 
-module _ (p : Plan) (c0 : Rows) (own : Fit p (nodes (p .jobs)) c0) where
-  round-fit : (t u : Rows) → Fit p (nodes (p .jobs)) t → round p c0 t ≡ bounds u → Fit p (nodes (p .jobs)) u
+module _ (p : Plan) (c0 : Rows) (own : JudgedTable p (nodes (p .jobs)) c0) where
+  round-judged-table : (t u : Rows) → JudgedTable p (nodes (p .jobs)) t → round p c0 t ≡ bounds u → JudgedTable p (nodes (p .jobs)) u
   unfolding round thenSet
-  round-fit t u fit e = of (joined p c0 t) refl e
+  round-judged-table t u fit e = of (joined p c0 t) refl e
     where
-      of : (s : Set) → joined p c0 t ≡ s → thenSet s (eliminated p (p .jobs) (p .jobs)) ≡ bounds u → Fit p (nodes (p .jobs)) u
+      of : (s : Set) → joined p c0 t ≡ s → thenSet s (eliminated p (p .jobs) (p .jobs)) ≡ bounds u → JudgedTable p (nodes (p .jobs)) u
       of contradiction d f = clash (cc)
-      of (bounds v) d f = eliminated-fit p (p .jobs) (p .jobs) v u (joined-fit p c0 t own fit v d) f
+      of (bounds v) d f = eliminated-judged-table p (p .jobs) (p .jobs) v u (joined-judged-table p c0 t own fit v d) f
 
-  after-round : (k m : ℕ) (v t : Rows) (s : Set) (later : Rows → Outcome) → ((u : Rows) → s ≡ bounds u → Fit p (nodes (p .jobs)) u)
-      → ((u : Rows) → Fit p (nodes (p .jobs)) u → later u ≡ settled m t → Fit p (nodes (p .jobs)) t)
-      → decided p k v s later ≡ settled m t → Fit p (nodes (p .jobs)) t
+  after-round : (k m : ℕ) (v t : Rows) (s : Set) (later : Rows → Outcome) → ((u : Rows) → s ≡ bounds u → JudgedTable p (nodes (p .jobs)) u)
+      → ((u : Rows) → JudgedTable p (nodes (p .jobs)) u → later u ≡ settled m t → JudgedTable p (nodes (p .jobs)) t)
+      → decided p k v s later ≡ settled m t → JudgedTable p (nodes (p .jobs)) t
   unfolding decided
   after-round k m v t contradiction later fits goes e = clash (cc)
   after-round k m v t (bounds u) later fits goes e = of (sameRows v u) e
     where
-      of : (b : Bool) → cond b (settled k u) (later u) ≡ settled m t → Fit p (nodes (p .jobs)) t
-      of true d = let is : u ≡ t = cc in subst (Fit p (nodes (p .jobs))) is (fits u refl)
+      of : (b : Bool) → cond b (settled k u) (later u) ≡ settled m t → JudgedTable p (nodes (p .jobs)) t
+      of true d = let is : u ≡ t = cc in subst (JudgedTable p (nodes (p .jobs))) is (fits u refl)
       of false d = goes u (fits u refl) d
 
-  rounds-fit : (left k m : ℕ) (v t : Rows) → Fit p (nodes (p .jobs)) v → roundsFrom p c0 k left v ≡ settled m t → Fit p (nodes (p .jobs)) t
+  rounds-judged-table : (left k m : ℕ) (v t : Rows) → JudgedTable p (nodes (p .jobs)) v → roundsFrom p c0 k left v ≡ settled m t
+      → JudgedTable p (nodes (p .jobs)) t
   unfolding roundsFrom
-  rounds-fit zero k m v t fit e = clash (cc)
-  rounds-fit (suc left) k m v t fit e =
-      after-round k m v t (round p c0 v) (roundsFrom p c0 (k + 1) left) (λ u d. round-fit v u fit d) (λ u g d. rounds-fit left (k + 1) m u t g d) e
+  rounds-judged-table zero k m v t fit e = clash (cc)
+  rounds-judged-table (suc left) k m v t fit e =
+      after-round k m v t (round p c0 v) (roundsFrom p c0 (k + 1) left) (λ u d. round-judged-table v u fit d)
+      (λ u g d. rounds-judged-table left (k + 1) m u t g d) e
 
 -- C(0) of a settled plan, and the settled set
 record SettledFit (p : Plan) (t : Rows) : Type 0 where
   c0 : Rows
   is : C0 p ≡ bounds c0
-  own : Fit p (nodes (p .jobs)) c0
-  fit : Fit p (nodes (p .jobs)) t
+  own : JudgedTable p (nodes (p .jobs)) c0
+  fit : JudgedTable p (nodes (p .jobs)) t
 
-settled-fit : (p : Plan) (m : ℕ) (t : Rows) → outcome p ≡ settled m t → SettledFit p t
+settled-judged-table : (p : Plan) (m : ℕ) (t : Rows) → outcome p ≡ settled m t → SettledFit p t
 unfolding outcome outcomeFrom
-settled-fit p m t e = of (C0 p) refl e
+settled-judged-table p m t e = of (C0 p) refl e
   where
     of : (s : Set) → C0 p ≡ s → outcomeFrom p s ≡ settled m t → SettledFit p t
     of contradiction d f = clash (cc)
-    of (bounds c0) d f = let own = C0-fit p c0 d in record { c0 = c0; is = d; own = own; fit = rounds-fit p c0 own (p .rounds) 1 m c0 t own f }
+    of (bounds c0) d f = let own = C0-judged-table p c0 d in record {
+      c0 = c0;
+      is = d;
+      own = own;
+      fit = rounds-judged-table p c0 own
+          (p .rounds) 1 m c0 t own f;
+    }
 
 -- ---- the tables just before the starts are fit
 
-Fit-below : (p : Plan) (k n : ℕ) (t : Rows) → n ≤ k → Fit p k t → Fit p n t
-Fit-below p k n t h fit =
+JudgedTable-below : (p : Plan) (k n : ℕ) (t : Rows) → n ≤ k → JudgedTable p k t → JudgedTable p n t
+JudgedTable-below p k n t h fit =
     record {
       kept = λ y z w g l e. fit .kept y z w (omega arith) (omega arith) e;
       above = λ y g l. fit .above y g (omega arith);
@@ -101,48 +111,54 @@ Fit-below p k n t h fit =
     }
 
 -- from place i on, each table has the start of its place, and is fit
-abbrev AllFit : Plan → ℕ → List Rows → Type 0
-AllFit p i [] = Unit
-AllFit p i (t ∷ ts) = Fit p (suc (startNode (p .jobs + i))) t × AllFit p (suc i) ts
+abbrev AllJudgedTables : Plan → ℕ → List Rows → Type 0
+AllJudgedTables p i [] = Unit
+AllJudgedTables p i (t ∷ ts) = JudgedTable p (suc (startNode (p .jobs + i))) t × AllJudgedTables p (suc i) ts
 
-AllFit-more : (p : Plan) (i n : ℕ) (ts : List Rows) (u : Rows) → suc (startNode (p .jobs + (i + length ts))) ≤ n → AllFit p i ts → Fit p n u
-    → AllFit p i (ts ++ (u ∷ []))
-AllFit-more p i n [] u h a fit = (Fit-below p n (suc (startNode (p .jobs + i))) u (omega arith) fit, tt)
-AllFit-more p i n (t ∷ ts) u h a fit = (a .0, AllFit-more p (suc i) n ts u (omega arith) (a .1) fit)
+AllJudgedTables-more : (p : Plan) (i n : ℕ) (ts : List Rows) (u : Rows) → suc (startNode (p .jobs + (i + length ts))) ≤ n → AllJudgedTables p i ts
+    → JudgedTable p n u
+    → AllJudgedTables p i (ts ++ (u ∷ []))
+AllJudgedTables-more p i n [] u h a fit = (JudgedTable-below p n (suc (startNode (p .jobs + i))) u (omega arith) fit, tt)
+AllJudgedTables-more p i n (t ∷ ts) u h a fit = (a .0, AllJudgedTables-more p (suc i) n ts u (omega arith) (a .1) fit)
 
 -- tables of the first count places at most
 record StartsFit (p : Plan) (count : ℕ) (ts : List Rows) : Type 0 where
-  fit : AllFit p 0 ts
+  fit : AllJudgedTables p 0 ts
   short : length ts ≤ count
 
 none-fit : (p : Plan) (count : ℕ) → StartsFit p count []
 none-fit p count = record { fit = tt; short = omega arith }
 
-StartsFit-more : (p : Plan) (count : ℕ) (ts : List Rows) (u : Rows) → Fit p (suc (startNode (p .jobs + count))) u → StartsFit p count ts
+StartsFit-more : (p : Plan) (count : ℕ) (ts : List Rows) (u : Rows) → JudgedTable p (suc (startNode (p .jobs + count))) u → StartsFit p count ts
     → StartsFit p (suc count) (ts ++ (u ∷ []))
 StartsFit-more p count ts u fit s =
     let short = s .short in
-    record { fit = AllFit-more p 0 (suc (startNode (p .jobs + count))) ts u (omega arith) (s .fit) fit; short = omega (arith, length-append ts (u ∷ [])) }
+    record {
+      fit = AllJudgedTables-more p 0 (suc (startNode (p .jobs + count))) ts u (omega arith) (s .fit) fit;
+      short = omega
+          (arith, length-append ts (u ∷ []));
+    }
 
 module _ (p : Plan) where
-  start-fit : (count : ℕ) (f : Rows → List Rows) (s : Set) → ((v : Rows) → s ≡ bounds v → StartsFit p count (f v)) → StartsFit p count (thenTables s f)
+  start-judged-table : (count : ℕ) (f : Rows → List Rows) (s : Set) → ((v : Rows) → s ≡ bounds v → StartsFit p count (f v)) → StartsFit p count (thenTables s f)
   unfolding thenTables
-  start-fit count f contradiction h = none-fit p count
-  start-fit count f (bounds v) h = h v refl
+  start-judged-table count f contradiction h = none-fit p count
+  start-judged-table count f (bounds v) h = h v refl
 
-  beforeStarts-fit : (count : ℕ) (t : Rows) → Fit p (nodes (p .jobs + count)) t → StartsFit p count (beforeStarts p count t)
+  beforeStarts-judged-table : (count : ℕ) (t : Rows) → JudgedTable p (nodes (p .jobs + count)) t → StartsFit p count (beforeStarts p count t)
   unfolding beforeStarts
-  beforeStarts-fit zero t fit = none-fit p 0
-  beforeStarts-fit (suc count) t fit =
+  beforeStarts-judged-table zero t fit = none-fit p 0
+  beforeStarts-judged-table (suc count) t fit =
       let k = p .jobs + count in
       let last : nodes (p .jobs + suc count) ≡ suc (finishNode k) = omega arith in
       let next : finishNode k ≡ suc (startNode k) = omega arith in
-      start-fit (suc count) _ (withoutFinish p k t)
+      start-judged-table (suc count) _ (withoutFinish p k t)
       (λ u e.
-      let left : Fit p (suc (startNode k)) u
-      = subst (λ (n : ℕ). Fit p n u) next (withoutFinish-fit p k t u (subst (λ (n : ℕ). Fit p n t) last fit) e) in
+      let left : JudgedTable p (suc (startNode k)) u
+      = subst (λ (n : ℕ). JudgedTable p n u) next (withoutFinish-judged-table p k t u (subst (λ (n : ℕ). JudgedTable p n t) last fit) e) in
       StartsFit-more p count (thenTables (withoutStart p k u) (beforeStarts p count)) u left
-      (start-fit count (beforeStarts p count) (withoutStart p k u) (λ v d. beforeStarts-fit count v (withoutStart-fit p k u v left d))))
+      (start-judged-table count (beforeStarts p count) (withoutStart p k u)
+      (λ v d. beforeStarts-judged-table count v (withoutStart-judged-table p k u v left d))))
 
 -- ---- lists whose every element is a bound's c
 
@@ -226,7 +242,7 @@ module _ (p : Plan) (a : Accepted p) where
       let m = a .window-most in
       isC-in (w -ℤ p .window) (omega (wholes, split-sub w (p .window))) (omega (wholes, split-sub w (p .window)))
 
-  weight-in : (k : ℕ) (t : Rows) → k ≤ nodes (p .jobs + p .jobs) → Fit p k t → (y z : ℕ) → y < k → z < k → WeightIn (weight (at t y z))
+  weight-in : (k : ℕ) (t : Rows) → k ≤ nodes (p .jobs + p .jobs) → JudgedTable p k t → (y z : ℕ) → y < k → z < k → WeightIn (weight (at t y z))
   weight-in k t size fit y z h l = of (at t y z) refl
     where
       of : (c : Cell) → at t y z ≡ c → WeightIn (weight c)
@@ -234,7 +250,7 @@ module _ (p : Plan) (a : Accepted p) where
       of (upto w) e = record { least = least-weight p a k t size fit y z w h l e; greatest = most-weight p a k t size fit y z w h l e }
 
   -- one job, at place i
-  module _ (i : ℕ) (job : i < p .jobs) (t : Rows) (fit : Fit p (suc (startNode (p .jobs + i))) t) where
+  module _ (i : ℕ) (job : i < p .jobs) (t : Rows) (fit : JudgedTable p (suc (startNode (p .jobs + i))) t) where
     abbrev s : ℕ
     s = startNode (p .jobs + i)
 
@@ -261,7 +277,8 @@ module _ (p : Plan) (a : Accepted p) where
 
   -- ---- all jobs
 
-  allTerms-in : (i : ℕ) (ts : List Rows) → i + length ts ≤ p .jobs → AllFit p i ts → (k j : ℕ) → i + k ≡ j → TermsIn p j (getD (allTerms p i ts) k noTerms)
+  allTerms-in : (i : ℕ) (ts : List Rows) → i + length ts ≤ p .jobs → AllJudgedTables p i ts → (k j : ℕ) → i + k ≡ j
+      → TermsIn p j (getD (allTerms p i ts) k noTerms)
   unfolding allTerms
   allTerms-in i [] h f k j e = noTerms-in p j
   allTerms-in i (t ∷ ts) h f zero j e =
@@ -269,8 +286,8 @@ module _ (p : Plan) (a : Accepted p) where
       subst (λ (j : ℕ). TermsIn p j (termsOf p i t)) is (termsOf-in i (omega arith) t (f .0))
   allTerms-in i (t ∷ ts) h f (suc k) j e = allTerms-in (suc i) ts (omega arith) (f .1) k j (omega arith)
 
-  allCs-in : (cs : ℕ → Rows → List ℤ) → ((i : ℕ) → i < p .jobs → (t : Rows) → Fit p (suc (startNode (p .jobs + i))) t → EachC (cs i t))
-      → (i : ℕ) (ts : List Rows) → i + length ts ≤ p .jobs → AllFit p i ts → EachC (allCs cs i ts)
+  allCs-in : (cs : ℕ → Rows → List ℤ) → ((i : ℕ) → i < p .jobs → (t : Rows) → JudgedTable p (suc (startNode (p .jobs + i))) t → EachC (cs i t))
+      → (i : ℕ) (ts : List Rows) → i + length ts ≤ p .jobs → AllJudgedTables p i ts → EachC (allCs cs i ts)
   unfolding allCs
   allCs-in cs each i [] h f = EachC-none
   allCs-in cs each i (t ∷ ts) h f =
@@ -309,16 +326,16 @@ module _ (p : Plan) (a : Accepted p) where
       ∙ anyBelow-no (p .jobs) (termsOut (p .jobs) (c .terms) (c .«at_least») (c .«at_most»))
       (λ i h. ap not (terms-in i (getD (c .terms) i noTerms) (c .«at_least») (c .«at_most») (terms i) least most)))
 
-  tables-inside : (s : Set) → ((u : Rows) → s ≡ bounds u → Fit p (nodes (p .jobs + p .jobs)) u)
+  tables-inside : (s : Set) → ((u : Rows) → s ≡ bounds u → JudgedTable p (nodes (p .jobs + p .jobs)) u)
       → isCalendar p (calendarOf p (thenTables s (beforeStarts p (p .jobs)))) ≡ true
-  tables-inside s h = calendarOf-inside _ (start-fit p (p .jobs) (beforeStarts p (p .jobs)) s (λ u e. beforeStarts-fit p (p .jobs) u (h u e)))
+  tables-inside s h = calendarOf-inside _ (start-judged-table p (p .jobs) (beforeStarts p (p .jobs)) s (λ u e. beforeStarts-judged-table p (p .jobs) u (h u e)))
 
 -- ---- the calendar of a settled plan
 
-joined-inside : (p : Plan) (t u : Rows) → SettledFit p t → thenSet (C0 p) (λ c0. joined p c0 t) ≡ bounds u → Fit p (nodes (p .jobs + p .jobs)) u
+joined-inside : (p : Plan) (t u : Rows) → SettledFit p t → thenSet (C0 p) (λ c0. joined p c0 t) ≡ bounds u → JudgedTable p (nodes (p .jobs + p .jobs)) u
 unfolding thenSet
-joined-inside p t u s e = joined-fit p (s .c0) t (s .own) (s .fit) u (sym (ap (λ (c : Set). thenSet c (λ c0. joined p c0 t)) (s .is)) ∙ e)
+joined-inside p t u s e = joined-judged-table p (s .c0) t (s .own) (s .fit) u (sym (ap (λ (c : Set). thenSet c (λ c0. joined p c0 t)) (s .is)) ∙ e)
 
 pub made-inside : (p : Plan) → Accepted p → (m : ℕ) (t : Rows) → outcome p ≡ settled m t → isCalendar p (calendar p t) ≡ true
 unfolding calendar
-made-inside p a m t e = tables-inside p a (thenSet (C0 p) (λ c0. joined p c0 t)) (λ u d. joined-inside p t u (settled-fit p m t e) d)
+made-inside p a m t e = tables-inside p a (thenSet (C0 p) (λ c0. joined p c0 t)) (λ u d. joined-inside p t u (settled-judged-table p m t e) d)

@@ -23,12 +23,12 @@ use Rattle.runs.specs.Ends.{endOver}
 -- ---- the terms of one end
 
 -- t is past an end's first value and past the term of every member among n events from e on, in the sense of the order given
-pub record Past (order : ℤ → ℤ → Type 0) (term : ℕ → ℤ) (set : ℕ) (end : ℤ) (e n : ℕ) (t : ℤ) : Type 0 where
+pub record PastTerms (order : ℤ → ℤ → Type 0) (term : ℕ → ℤ) (set : ℕ) (end : ℤ) (e n : ℕ) (t : ℤ) : Type 0 where
   pub origin : order end t
   pub terms : (k : ℕ) → e ≤ k → k < e + n → hasEvent k set ≡ true → order (term k) t
 
 -- an end is the term of a member
-pub record OneOf (term : ℕ → ℤ) (set e n : ℕ) (z : ℤ) : Type 0 where
+pub record TermOf (term : ℕ → ℤ) (set e n : ℕ) (z : ℤ) : Type 0 where
   pub event : ℕ
   pub from : e ≤ event
   pub to : event < e + n
@@ -51,8 +51,8 @@ module _
     from-here b e n = cond b (e ∷ membersFrom set (suc e) n) (membersFrom set (suc e) n)
 
     past-first : (n : ℕ) (end : ℤ) (e : ℕ) (t : ℤ) (b : Bool) → hasEvent e set ≡ b
-        → ((z : ℤ) → order (endOver pick term z (membersFrom set (suc e) n)) t → Past order term set z (suc e) n t)
-        → order (endOver pick term end (from-here b e n)) t → Past order term set end e (suc n) t
+        → ((z : ℤ) → order (endOver pick term z (membersFrom set (suc e) n)) t → PastTerms order term set z (suc e) n t)
+        → order (endOver pick term end (from-here b e n)) t → PastTerms order term set end e (suc n) t
     past-first n end e t true eq next h =
         let q = next _ h in
         let both = pick-iff _ _ t .0 (q .origin) in
@@ -70,8 +70,8 @@ module _
         }
 
     past-rest : (n : ℕ) (end : ℤ) (e : ℕ) (t : ℤ) (b : Bool) → hasEvent e set ≡ b
-        → ((z : ℤ) → Past order term set z (suc e) n t → order (endOver pick term z (membersFrom set (suc e) n)) t)
-        → Past order term set end e (suc n) t → order (endOver pick term end (from-here b e n)) t
+        → ((z : ℤ) → PastTerms order term set z (suc e) n t → order (endOver pick term z (membersFrom set (suc e) n)) t)
+        → PastTerms order term set end e (suc n) t → order (endOver pick term end (from-here b e n)) t
     past-rest n end e t true eq next h =
         next _
         (record {
@@ -81,7 +81,7 @@ module _
     past-rest n end e t false eq next h =
         next _ (record { origin = h .origin; terms = λ k l m y. h .terms k (omega arith) (omega arith) y })
 
-    endOver-iff : (n : ℕ) (end : ℤ) (e : ℕ) (t : ℤ) → order (endOver pick term end (membersFrom set e n)) t ↔ Past order term set end e n t
+    endOver-iff : (n : ℕ) (end : ℤ) (e : ℕ) (t : ℤ) → order (endOver pick term end (membersFrom set e n)) t ↔ PastTerms order term set end e n t
     unfolding membersFrom
     endOver-iff zero end e t = (λ h. record { origin = h; terms = λ k l m y. absurd (omega arith) }, λ h. h .origin)
     endOver-iff (suc n) end e t = (
@@ -90,8 +90,8 @@ module _
     )
 
     one-first : (n : ℕ) (end : ℤ) (e : ℕ) (b : Bool) → hasEvent e set ≡ b
-        → ((z : ℤ) → let w = endOver pick term z (membersFrom set (suc e) n) in (w ≡ z) ⊎ OneOf term set (suc e) n w)
-        → let w = endOver pick term end (from-here b e n) in (w ≡ end) ⊎ OneOf term set e (suc n) w
+        → ((z : ℤ) → let w = endOver pick term z (membersFrom set (suc e) n) in (w ≡ z) ⊎ TermOf term set (suc e) n w)
+        → let w = endOver pick term end (from-here b e n) in (w ≡ end) ⊎ TermOf term set e (suc n) w
     one-first n end e true eq next =
         ⊎-elim
         (λ h.
@@ -104,31 +104,31 @@ module _
         ⊎-elim (λ h. inl h) (λ h. inr (record { event = h .event; from = omega arith; to = omega arith; member = h .member; is = h .is })) (next end)
 
     endOver-one : (n : ℕ) (end : ℤ) (e : ℕ)
-        → let w = endOver pick term end (membersFrom set e n) in (w ≡ end) ⊎ OneOf term set e n w
+        → let w = endOver pick term end (membersFrom set e n) in (w ≡ end) ⊎ TermOf term set e n w
     unfolding membersFrom
     endOver-one zero end e = inl refl
     endOver-one (suc n) end e = one-first n end e (hasEvent e set) refl (λ z. endOver-one n z (suc e))
 
 -- ---- the lower end is the greatest of its terms, the upper end the least
 
-abbrev pub AtLeast : ℤ → ℤ → Type 0
-AtLeast a t = a ≤ℤ t
+abbrev pub AtOrAbove : ℤ → ℤ → Type 0
+AtOrAbove a t = a ≤ℤ t
 
-abbrev pub AtMost : ℤ → ℤ → Type 0
-AtMost a t = t ≤ℤ a
+abbrev pub AtOrBelow : ℤ → ℤ → Type 0
+AtOrBelow a t = t ≤ℤ a
 
 greater-by : (a b t : ℤ) (x : Bool) → ltZ a b ≡ x → (cond x b a ≤ℤ t) ↔ ((a ≤ℤ t) × (b ≤ℤ t))
 greater-by a b t true e = (λ h. (omega whole, h), λ h. h .1)
 greater-by a b t false e = (λ h. (h, omega whole), λ h. h .0)
 
-pub greater-iff : (a b t : ℤ) → AtLeast (greater a b) t ↔ (AtLeast a t × AtLeast b t)
+pub greater-iff : (a b t : ℤ) → AtOrAbove (greater a b) t ↔ (AtOrAbove a t × AtOrAbove b t)
 greater-iff a b t = greater-by a b t (ltZ a b) refl
 
 lesser-by : (a b t : ℤ) (x : Bool) → ltZ b a ≡ x → (t ≤ℤ cond x b a) ↔ ((t ≤ℤ a) × (t ≤ℤ b))
 lesser-by a b t true e = (λ h. (omega whole, h), λ h. h .1)
 lesser-by a b t false e = (λ h. (h, omega whole), λ h. h .0)
 
-pub lesser-iff : (a b t : ℤ) → AtMost (lesser a b) t ↔ (AtMost a t × AtMost b t)
+pub lesser-iff : (a b t : ℤ) → AtOrBelow (lesser a b) t ↔ (AtOrBelow a t × AtOrBelow b t)
 lesser-iff a b t = lesser-by a b t (ltZ b a) refl
 
 one-of : (x : Bool) (a b : ℤ) → (cond x b a ≡ a) ⊎ (cond x b a ≡ b)
@@ -153,28 +153,30 @@ module _ (d : Turn) (cs ds : List ℤ) (r : Run) (j i : ℕ) where
 
   -- t is at or above the origin's lower bound and every lower term in force, at or below the upper ones
   abbrev pub AboveLower : ℤ → Type 0
-  AboveLower t = Past AtLeast (termAt (r .seen) cs ((i - 1) * mostEvents)) (bitsOf (d .terms .below)) (onRun (d .window) j (d .terms .low) .0) first count t
+  AboveLower t = PastTerms AtOrAbove (termAt (r .seen) cs ((i - 1) * mostEvents)) (bitsOf (d .terms .below))
+      (onRun (d .window) j (d .terms .low) .0) first count t
 
   abbrev pub BelowUpper : ℤ → Type 0
-  BelowUpper t = Past AtMost (termAt (r .seen) ds ((i - 1) * mostEvents)) (bitsOf (d .terms .above)) (onRun (d .window) j (d .terms .high) .0) first count t
+  BelowUpper t = PastTerms AtOrBelow (termAt (r .seen) ds ((i - 1) * mostEvents)) (bitsOf (d .terms .above))
+      (onRun (d .window) j (d .terms .high) .0) first count t
 
   pub offerAt-from-iff : (t : ℤ) → (offerAt d cs ds r j i .from .0) ≤ℤ t ↔ AboveLower t
   unfolding lowerTerms greatest
-  offerAt-from-iff t = endOver-iff greater AtLeast greater-iff greater-one _ _ count _ first t
+  offerAt-from-iff t = endOver-iff greater AtOrAbove greater-iff greater-one _ _ count _ first t
 
   pub offerAt-to-iff : (t : ℤ) → t ≤ℤ (offerAt d cs ds r j i .to .0) ↔ BelowUpper t
   unfolding upperTerms least
-  offerAt-to-iff t = endOver-iff lesser AtMost lesser-iff lesser-one _ _ count _ first t
+  offerAt-to-iff t = endOver-iff lesser AtOrBelow lesser-iff lesser-one _ _ count _ first t
 
   -- both ends are among the bounds that they bound
   pub offerAt-from-one :
       (offerAt d cs ds r j i .from .0 ≡ onRun (d .window) j (d .terms .low) .0)
-      ⊎ OneOf (termAt (r .seen) cs ((i - 1) * mostEvents)) (bitsOf (d .terms .below)) first count (offerAt d cs ds r j i .from .0)
+      ⊎ TermOf (termAt (r .seen) cs ((i - 1) * mostEvents)) (bitsOf (d .terms .below)) first count (offerAt d cs ds r j i .from .0)
   unfolding lowerTerms greatest
-  offerAt-from-one = endOver-one greater AtLeast greater-iff greater-one _ _ count _ first
+  offerAt-from-one = endOver-one greater AtOrAbove greater-iff greater-one _ _ count _ first
 
   pub offerAt-to-one :
       (offerAt d cs ds r j i .to .0 ≡ onRun (d .window) j (d .terms .high) .0)
-      ⊎ OneOf (termAt (r .seen) ds ((i - 1) * mostEvents)) (bitsOf (d .terms .above)) first count (offerAt d cs ds r j i .to .0)
+      ⊎ TermOf (termAt (r .seen) ds ((i - 1) * mostEvents)) (bitsOf (d .terms .above)) first count (offerAt d cs ds r j i .to .0)
   unfolding upperTerms least
-  offerAt-to-one = endOver-one lesser AtMost lesser-iff lesser-one _ _ count _ first
+  offerAt-to-one = endOver-one lesser AtOrBelow lesser-iff lesser-one _ _ count _ first

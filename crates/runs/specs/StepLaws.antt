@@ -14,7 +14,7 @@ use mir.Val.{SFits}
 use borrow.Author.Tests.{lt-ltb, le-ltb}
 use Rattle.whole.specs.Rules.{wholes}
 use Rattle.clock.specs.declared.RunTime.{RunTime}
-use Rattle.clock.specs.Spans.{Near}
+use Rattle.clock.specs.Spans.{NearBeginning}
 use Rattle.clock.specs.Clock.{isBetween, movedBy}
 use Rattle.plan.specs.declared.Job.{Job}
 use Rattle.plan.specs.declared.Plan.{Plan}
@@ -54,7 +54,7 @@ moved-made m seen r e f = rw (e, f)
 
 -- ---- a finish, where from and to are start + min and start + max
 
-pub finish-fits : {job : Job} {s : RunTime} → FinishInside job s → (c : ℤ) → Near c → SFits w64 (s .0 +ℤ c)
+pub finish-fits : {job : Job} {s : RunTime} → FinishInside job s → (c : ℤ) → NearBeginning c → SFits w64 (s .0 +ℤ c)
 finish-fits h c n = omega wholes
 
 module _ (job : Job) (j i : ℕ) (s t from to : RunTime) (e : from ≡ movedBy s (job .min)) (f : to ≡ movedBy s (job .max)) where

@@ -1,4 +1,4 @@
--- Which answers go on: an opening is shut by a refusal that goes on (`opening-quiet`), so no step ends a session but an auto start outside the range of T;
+-- Which answers go on: an opening is shut by a refusal that goes on (`opening-goes-on`), so no step ends a session but an auto start outside the range of T;
 -- where that is answered while the run waits and lasts, none does (`answer-goes`).
 use Prim.Native.Nat.{ℕ, _-_, _≤_}
 use mathlib.Core.Path.{_≡_, refl}
@@ -33,33 +33,33 @@ use Rattle.runs.specs.StepLaws.{opening-over, opening-running}
 use Rattle.session.specs.AnswerText.{endsSession}
 
 -- an opening that is shut, if it is, by a refusal that goes on
-abbrev Quiet : Opening → Type 0
-Quiet (Open j i o) = Unit
-Quiet (Shut x) = ends x ≡ false
+abbrev ShutGoesOn : Opening → Type 0
+ShutGoesOn (Open j i o) = Unit
+ShutGoesOn (Shut x) = ends x ≡ false
 
-opened-quiet : (j i : ℕ) (o : Offer) → Quiet (opened j i o)
-opened-quiet j i o = of (ltZ (o .to .0) (o .from .0))
+opened-goes-on : (j i : ℕ) (o : Offer) → ShutGoesOn (opened j i o)
+opened-goes-on j i o = of (ltZ (o .to .0) (o .from .0))
   where
-    of : (b : Bool) → Quiet (cond b (Shut refusal.EmptyOffer) (Open j i o))
+    of : (b : Bool) → ShutGoesOn (cond b (Shut refusal.EmptyOffer) (Open j i o))
     of true = refl
     of false = tt
 
 module _ (d : Turn) (cs ds : List ℤ) (r : Run) where
-  opening-quiet : (f : Phase) → Quiet (openingAt d cs ds r f)
+  opening-goes-on : (f : Phase) → ShutGoesOn (openingAt d cs ds r f)
   unfolding openingAt
-  opening-quiet (Waiting j i) = of (ltb (d .last) j)
+  opening-goes-on (Waiting j i) = of (ltb (d .last) j)
     where
-      of : (b : Bool) → Quiet (cond b (Shut refusal.Over) (opened j i (offerAt d cs ds r j i)))
+      of : (b : Bool) → ShutGoesOn (cond b (Shut refusal.Over) (opened j i (offerAt d cs ds r j i)))
       of true = refl
-      of false = opened-quiet j i (offerAt d cs ds r j i)
-  opening-quiet (Running j i t) = refl
+      of false = opened-goes-on j i (offerAt d cs ds r j i)
+  opening-goes-on (Running j i t) = refl
 
-asked-goes : (o : Opening) → Quiet o → endsSession (asked o) ≡ false
+asked-goes : (o : Opening) → ShutGoesOn o → endsSession (asked o) ≡ false
 unfolding asked endsSession
 asked-goes (Open j i o) q = refl
 asked-goes (Shut x) q = q
 
-started-goes : (t : RunTime) (o : Opening) → Quiet o → endsSession (started (At t) o) ≡ false
+started-goes : (t : RunTime) (o : Opening) → ShutGoesOn o → endsSession (started (At t) o) ≡ false
 unfolding started endsSession
 started-goes t (Open j i o) q = of (within (o .from .0) (o .to .0) (t .0))
   where
@@ -98,7 +98,7 @@ module _ (p : Plan) (c : Calendar) (r : Run)
 
   pub answer-goes : (st : Step) → endsSession (answerOf p c r st) ≡ false
   unfolding answerAt
-  answer-goes Ask = asked-goes (openingAt _ _ _ r (r .phase)) (opening-quiet _ _ _ r (r .phase))
-  answer-goes (Start (At t)) = started-goes t (openingAt _ _ _ r (r .phase)) (opening-quiet _ _ _ r (r .phase))
+  answer-goes Ask = asked-goes (openingAt _ _ _ r (r .phase)) (opening-goes-on _ _ _ r (r .phase))
+  answer-goes (Start (At t)) = started-goes t (openingAt _ _ _ r (r .phase)) (opening-goes-on _ _ _ r (r .phase))
   answer-goes (Start Auto) = auto-goes (r .phase) refl
   answer-goes (Finish t) = finished-goes _ t (r .phase)

@@ -8,7 +8,7 @@ pub mod SessionRead
 pub mod Taken
 -- ---- what the code works with
 pub mod StepAt
-pub mod Judged
+pub mod Decided
 -- ---- laws
 pub mod StepReadLaws
 pub mod AnswerTextLaws
@@ -17,8 +17,8 @@ pub mod EndLaws
 pub mod SessionLaws
 pub mod TakenLaws
 pub mod SessionReadLaws
-pub mod GoingLaws
+pub mod AnswersLaws
 pub mod PrintedLaws
-pub mod JudgedLaws
+pub mod DecidedLaws
 pub mod HeadLaws
 pub mod Unique

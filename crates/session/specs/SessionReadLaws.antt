@@ -1,7 +1,7 @@
 -- The laws of a session's text, read to its end. Its step lines are read one at a time: where nothing is left they are read (`stepLines-end`), a line that is
 -- no step is the last (`stepLines-refused`), and else the lines after it follow (`stepLines-more`). A plan that is refused is followed by no steps
 -- (`stepsBehind-keeps`), so that its refusal is that of `told-lines` and `told-verdict` of the crate `calendars`; and else the text is read as its step lines
--- are (`sessionRead-settled`). `Walking` is the loop over the step lines.
+-- are (`sessionRead-settled`). `LinesSoFar` is the loop over the step lines.
 use Prim.Native.Nat.{ℕ, zero, suc, _+_, _≤_, _<_}
 use mathlib.Core.Path.{_≡_, refl, sym, ap, subst, _∙_}
 use mathlib.Core.List.{List, [], _∷_}
@@ -15,7 +15,7 @@ use Rattle.lines.specs.declared.Refusal.{Refusal}
 use Rattle.lines.specs.Reading.{Reading, read, refused, Reader, next}
 use Rattle.plan.specs.PlanLines.{planHead}
 use Rattle.plan.specs.PlanAnswers.{planRead}
-use Rattle.lines.specs.Answers.{answerNumber, answerValue, partAt, Told}
+use Rattle.lines.specs.Answers.{answerNumber, answerValue, partAt, RefusalReport}
 use Rattle.plan.specs.PlanPartLaws.{planHead-tail}
 use Rattle.lines.specs.PartLaws.{told-refused, told-none}
 use Rattle.rounds.specs.declared.VerdictTold.the-variants as told
@@ -25,7 +25,7 @@ use Rattle.runs.specs.declared.Step.{Step}
 use Rattle.session.specs.declared.StepAt.{StepAt}
 use Rattle.session.specs.declared.StepAt.the-variants as stepAt
 use Rattle.session.specs.StepRead.{stepLine}
-use Rattle.session.specs.StepAt.{stepTold, StepsTold, StepEnds}
+use Rattle.session.specs.StepAt.{stepReading, StepLinesReport, StepWithin}
 use Rattle.session.specs.SessionRead.{stepsWithin, stepLines, sessionRead}
 use Rattle.session.specs.SessionLaws.{stepLine-shorter}
 
@@ -76,39 +76,40 @@ module _ (s : List ℕ) (n : ℕ) (h : 0 < length s) where
 
 -- ---- the loop over the step lines: where it stands, what is left to read is all there was to read
 
-pub record Walking (text : List ℕ) (from line place number : ℕ) : Type 0 where
+pub record LinesSoFar (text : List ℕ) (from line place number : ℕ) : Type 0 where
   pub left : stepLines (drop from text) line ≡ stepLines (drop place text) number
   pub placed : place ≤ length text
   pub numbered : number + from ≤ line + place
 
 module _ (text : List ℕ) (from line : ℕ) where
-  pub walking-start : from ≤ length text → Walking text from line from line
-  walking-start h = record { left = refl; placed = h; numbered = omega arith }
+  pub linesSoFar-start : from ≤ length text → LinesSoFar text from line from line
+  linesSoFar-start h = record { left = refl; placed = h; numbered = omega arith }
 
-  module _ (place number : ℕ) (w : Walking text from line place number) where
-    pub walking-end : length text ≤ place → {a : TextAnswer} (at : ℕ) → a ≡ planAnswer.Accepted
-        → StepsTold text from line at a
-    walking-end h {a} at e =
-        subst (λ (m : Reading Unit). Told m (partAt text at a) (answerNumber a) (answerValue a)) (sym (w .left ∙ stepLines-end text place number h))
+  module _ (place number : ℕ) (w : LinesSoFar text from line place number) where
+    pub linesSoFar-end : length text ≤ place → {a : TextAnswer} (at : ℕ) → a ≡ planAnswer.Accepted
+        → StepLinesReport text from line at a
+    linesSoFar-end h {a} at e =
+        subst (λ (m : Reading Unit). RefusalReport m (partAt text at a) (answerNumber a) (answerValue a)) (sym (w .left ∙ stepLines-end text place number h))
         (told-none text a at tt [] number e)
 
     module _ (h : place < length text) where
       some : 0 < length (drop place text)
       some = omega (arith, length-drop place text)
 
-      pub walking-refused : (x : Refusal) {r : StepAt} → stepLine (drop place text) number ≡ stepTold text place (number + 1) r → r ≡ stepAt.Bad x
+      pub linesSoFar-refused : (x : Refusal) {r : StepAt} → stepLine (drop place text) number ≡ stepReading text place (number + 1) r → r ≡ stepAt.Bad x
           → {a : TextAnswer} → a ≡ planAnswer.Refused x
-          → StepsTold text from line place a
-      walking-refused x {r} d e {a} f =
-          subst (λ (m : Reading Unit). Told m (partAt text place a) (answerNumber a) (answerValue a))
-          (sym (w .left ∙ stepLines-refused (drop place text) number some x (drop place text) (d ∙ ap (stepTold text place (number + 1)) e)))
+          → StepLinesReport text from line place a
+      linesSoFar-refused x {r} d e {a} f =
+          subst (λ (m : Reading Unit). RefusalReport m (partAt text place a) (answerNumber a) (answerValue a))
+          (sym (w .left ∙ stepLines-refused (drop place text) number some x (drop place text) (d ∙ ap (stepReading text place (number + 1)) e)))
           (told-refused text a place x f refl)
 
-      pub walking-more : (st : Step) (next : ℕ) {r : StepAt} → stepLine (drop place text) number ≡ stepTold text place (number + 1) r → r ≡ stepAt.Value st next
-          → StepEnds place (length text) r → Walking text from line next (number + 1)
-      walking-more st next {r} d e q =
+      pub linesSoFar-more : (st : Step) (next : ℕ) {r : StepAt} → stepLine (drop place text) number ≡ stepReading text place (number + 1) r
+          → r ≡ stepAt.Value st next
+          → StepWithin place (length text) r → LinesSoFar text from line next (number + 1)
+      linesSoFar-more st next {r} d e q =
           record {
-            left = w .left ∙ stepLines-more (drop place text) number some st (drop next text) (number + 1) (d ∙ ap (stepTold text place (number + 1)) e);
+            left = w .left ∙ stepLines-more (drop place text) number some st (drop next text) (number + 1) (d ∙ ap (stepReading text place (number + 1)) e);
             placed = q .most st next e;
             numbered = omega (arith, w .numbered, q .least st next e);
           }

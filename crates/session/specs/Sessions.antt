@@ -54,12 +54,12 @@ answers p c r s n = dispatched p c r s n .lines
 -- ---- the program: from the bytes of the input to those of the output
 
 -- 'The verdict follows; in a session it comes before any step is read.'
-abbrev pub toldSession : Plan → VerdictTold → Calendar → List ℕ → ℕ → List ℕ
-toldSession p (Settled m) c s n = answers p c newRun s n
-toldSession p (Refused x) c s n = refusedLine x
+abbrev pub verdictSession : Plan → VerdictTold → Calendar → List ℕ → ℕ → List ℕ
+verdictSession p (Settled m) c s n = answers p c newRun s n
+verdictSession p (Refused x) c s n = refusedLine x
 
 unfoldable pub judgedSession : Plan → Outcome → List ℕ → ℕ → List ℕ
-judgedSession p o s n = toldSession p (verdictTold (verdictOf p o)) (madeCalendar p o) s n
+judgedSession p o s n = verdictSession p (verdictTold (verdictOf p o)) (madeCalendar p o) s n
 
 -- 'A refused plan prints its one line.' 'Line numbers count from the plan's first line.'
 unfoldable pub sessionOf : Reading Plan → List ℕ

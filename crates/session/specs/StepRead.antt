@@ -30,16 +30,16 @@ abbrev pub isText : List ℕ → List ℕ → Bool
 isText t l = isAll (afterKey t l)
 
 -- a step with the time that a number gives
-unfoldable pub timed : (RunTime → Step) → Number → StepLine
-timed f (number.Value z) = Value (f (record { 0 = z }))
-timed f (number.Bad x) = Bad (lineLacks x)
+unfoldable pub timeStep : (RunTime → Step) → Number → StepLine
+timeStep f (number.Value z) = Value (f (record { 0 = z }))
+timeStep f (number.Bad x) = Bad (lineLacks x)
 
 abbrev pub stepTime : List ℕ → Number
 stepTime s = numberIn (pos 0) lastTime s
 
 -- what follows `finish=`
 unfoldable pub finishIn : List ℕ → StepLine
-finishIn s = timed Finish (stepTime s)
+finishIn s = timeStep Finish (stepTime s)
 
 unfoldable pub finishStep : Option (List ℕ) → StepLine
 finishStep none = Bad fault.Form
@@ -47,7 +47,7 @@ finishStep (some s) = finishIn s
 
 -- what follows `start=`
 unfoldable pub startIn : List ℕ → StepLine
-startIn s = cond (isText (bytes "auto") s) (Value (Start Auto)) (timed (λ t. Start (At t)) (stepTime s))
+startIn s = cond (isText (bytes "auto") s) (Value (Start Auto)) (timeStep (λ t. Start (At t)) (stepTime s))
 
 unfoldable pub startStep : List ℕ → Option (List ℕ) → StepLine
 startStep l none = finishStep (afterKey (bytes "finish=") l)

@@ -1,7 +1,7 @@
 -- The laws of step lines, read.
 -- A line that is just a text begins with it and is as long (`isText-same`, `isText-other`, `isText-length`). What a line is, test by test: `ask=offer`
 -- (`stepIn-ask`), else what follows `start=` (`stepIn-start`), else what follows `finish=` (`stepIn-finish`), else no step (`stepIn-other`); after `start=`
--- `auto` (`startIn-auto`), else a time (`startIn-time`). A time that was read becomes the step's (`timed-value`), or what it lacks (`timed-bad`).
+-- `auto` (`startIn-auto`), else a time (`startIn-time`). A time that was read becomes the step's (`timeStep-value`), or what it lacks (`timeStep-bad`).
 -- A line that is a step has seven bytes at least and a time inside the limits (`stepIn-told`), also where it stands in a text. There
 -- it has no LF, or lacks something, or is a step (`stepAt-bare`, `stepAt-bad`, `stepAt-value`).
 
@@ -41,9 +41,9 @@ use Rattle.lines.specs.Reading.{refused}
 use Rattle.lines.specs.ReadAtLaws.{lineTo-bare, lineTo-fault, lineTo-value}
 use Rattle.session.specs.declared.StepAt.{StepAt}
 use Rattle.session.specs.declared.StepAt.the-variants as stepAt
-use Rattle.session.specs.StepAt.{stepTold, StepEnds}
+use Rattle.session.specs.StepAt.{stepReading, StepWithin}
 use Rattle.session.specs.declared.StepLine.the-variants.{Value, Bad}
-use Rattle.session.specs.StepRead.{isAll, isText, timed, stepTime, finishIn, finishStep, startIn, startStep, stepIn, linedStep, stepLine}
+use Rattle.session.specs.StepRead.{isAll, isText, timeStep, stepTime, finishIn, finishStep, startIn, startStep, stepIn, linedStep, stepLine}
 
 -- ---- a line that is just a text
 
@@ -102,42 +102,42 @@ pub startIn-auto : (s : List ℕ) → isText (bytes "auto") s ≡ true → start
 unfolding startIn
 startIn-auto s h = rw h
 
-pub startIn-time : (s : List ℕ) → isText (bytes "auto") s ≡ false → startIn s ≡ timed (λ t. Start (At t)) (stepTime s)
+pub startIn-time : (s : List ℕ) → isText (bytes "auto") s ≡ false → startIn s ≡ timeStep (λ t. Start (At t)) (stepTime s)
 unfolding startIn
 startIn-time s h = rw h
 
 -- ---- a time
 
 module _ (f : RunTime → Step) (s : List ℕ) where
-  pub timed-value : (z : ℤ) → stepTime s ≡ number.Value z → timed f (stepTime s) ≡ Value (f (record { 0 = toZ w64 (ofZ w64 z) }))
-  unfolding timed
-  timed-value z e =
+  pub timeStep-value : (z : ℤ) → stepTime s ≡ number.Value z → timeStep f (stepTime s) ≡ Value (f (record { 0 = toZ w64 (ofZ w64 z) }))
+  unfolding timeStep
+  timeStep-value z e =
       let q = numberIn-value (pos 0) lastTime z s e in
       let g : SFits w64 z = omega (wholes, q .0 .least, q .0 .greatest) in
       rw (e, toZ-ofZ g)
 
-  pub timed-bad : (x : NumberFault) → stepTime s ≡ number.Bad x → timed f (stepTime s) ≡ Bad (lineLacks x)
-  unfolding timed
-  timed-bad x e = rw e
+  pub timeStep-bad : (x : NumberFault) → stepTime s ≡ number.Bad x → timeStep f (stepTime s) ≡ Bad (lineLacks x)
+  unfolding timeStep
+  timeStep-bad x e = rw e
 
 -- ---- what is known of a step that was read
 
 -- its line has seven bytes at least, and its time is inside the limits
-record StepTold (l : List ℕ) (st : Step) : Type 0 where
+record StepLimits (l : List ℕ) (st : Step) : Type 0 where
   least : 7 ≤ length l
   timed : isStep st ≡ true
 
 -- the same of what follows a key
-record TimeTold (s : List ℕ) (st : Step) : Type 0 where
+record TimeLimits (s : List ℕ) (st : Step) : Type 0 where
   some-byte : 1 ≤ length s
   timed : isStep st ≡ true
 
 module _ (s : List ℕ) (st : Step) where
-  time-told : (f : RunTime → Step) → ((t : RunTime) → isStep (f t) ≡ isTime t) → timed f (stepTime s) ≡ Value st → TimeTold s st
-  unfolding timed
+  time-told : (f : RunTime → Step) → ((t : RunTime) → isStep (f t) ≡ isTime t) → timeStep f (stepTime s) ≡ Value st → TimeLimits s st
+  unfolding timeStep
   time-told f is e = of (stepTime s) refl e
     where
-      of : (n : Number) → stepTime s ≡ n → timed f n ≡ Value st → TimeTold s st
+      of : (n : Number) → stepTime s ≡ n → timeStep f n ≡ Value st → TimeLimits s st
       of (number.Bad x) d h = clash (cc)
       of (number.Value z) d h =
           let q = numberIn-value (pos 0) lastTime z s d in
@@ -146,40 +146,40 @@ module _ (s : List ℕ) (st : Step) where
           let g : st ≡ f (record { 0 = z }) = cc in
           record { some-byte = omega (arith, ap length (q .1), decimal-some z); timed = ap isStep g ∙ is (record { 0 = z }) ∙ rw (lo, hi) }
 
-  finish-told : finishIn s ≡ Value st → TimeTold s st
+  finish-told : finishIn s ≡ Value st → TimeLimits s st
   unfolding finishIn
   finish-told e = time-told Finish (λ t. refl) e
 
-  start-told : startIn s ≡ Value st → TimeTold s st
+  start-told : startIn s ≡ Value st → TimeLimits s st
   unfolding startIn bytes
   start-told e = of (isText (bytes "auto") s) refl e
     where
-      of : (b : Bool) → isText (bytes "auto") s ≡ b → cond b (Value (Start Auto)) (timed (λ t. Start (At t)) (stepTime s)) ≡ Value st → TimeTold s st
+      of : (b : Bool) → isText (bytes "auto") s ≡ b → cond b (Value (Start Auto)) (timeStep (λ t. Start (At t)) (stepTime s)) ≡ Value st → TimeLimits s st
       of true h d =
           let g : st ≡ Start Auto = cc in
           record { some-byte = omega (arith, isText-length (bytes "auto") s h); timed = ap isStep g }
       of false h d = time-told (λ t. Start (At t)) (λ t. refl) d
 
 module _ (l : List ℕ) (st : Step) where
-  behind-key : (key s : List ℕ) (k : ℕ) → length key ≡ k → 6 ≤ k → afterKey key l ≡ some s → TimeTold s st → StepTold l st
+  behind-key : (key s : List ℕ) (k : ℕ) → length key ≡ k → 6 ≤ k → afterKey key l ≡ some s → TimeLimits s st → StepLimits l st
   behind-key key s k e h d t =
       record { least = omega (arith, ap length (afterKey-split key l s d), length-append key s, t .some-byte); timed = t .timed }
 
-  after-finish : (o : Option (List ℕ)) → afterKey (bytes "finish=") l ≡ o → finishStep o ≡ Value st → StepTold l st
+  after-finish : (o : Option (List ℕ)) → afterKey (bytes "finish=") l ≡ o → finishStep o ≡ Value st → StepLimits l st
   unfolding finishStep bytes
   after-finish none d e = clash (cc)
   after-finish (some s) d e = behind-key (bytes "finish=") s 7 refl (omega arith) d (finish-told s st e)
 
-  after-start : (o : Option (List ℕ)) → afterKey (bytes "start=") l ≡ o → startStep l o ≡ Value st → StepTold l st
+  after-start : (o : Option (List ℕ)) → afterKey (bytes "start=") l ≡ o → startStep l o ≡ Value st → StepLimits l st
   unfolding startStep bytes
   after-start none d e = after-finish (afterKey (bytes "finish=") l) refl e
   after-start (some s) d e = behind-key (bytes "start=") s 6 refl (omega arith) d (start-told s st e)
 
-  stepIn-told : stepIn l ≡ Value st → StepTold l st
+  stepIn-told : stepIn l ≡ Value st → StepLimits l st
   unfolding stepIn bytes
   stepIn-told e = of (isText (bytes "ask=offer") l) refl e
     where
-      of : (b : Bool) → isText (bytes "ask=offer") l ≡ b → cond b (Value Ask) (startStep l (afterKey (bytes "start=") l)) ≡ Value st → StepTold l st
+      of : (b : Bool) → isText (bytes "ask=offer") l ≡ b → cond b (Value Ask) (startStep l (afterKey (bytes "start=") l)) ≡ Value st → StepLimits l st
       of true h d =
           let g : st ≡ Ask = cc in
           record { least = omega (arith, isText-length (bytes "ask=offer") l h); timed = ap isStep g }
@@ -187,7 +187,7 @@ module _ (l : List ℕ) (st : Step) where
 
 -- ---- a step at a place: next is the place after its LF
 
-nothing-read : (at len : ℕ) (x : Refusal) → StepEnds at len (stepAt.Bad x)
+nothing-read : (at len : ℕ) (x : Refusal) → StepWithin at len (stepAt.Bad x)
 nothing-read at len x =
     record {
       least = λ st next d. clash (cc);
@@ -197,7 +197,7 @@ nothing-read at len x =
 
 module _ (s : List ℕ) (at n next : ℕ) (within : at ≤ length s) (end : next ≡ nextLine s at) where
   abbrev ReadAs : StepAt → Type 0
-  ReadAs r = (stepLine (drop at s) n ≡ stepTold s at (n + 1) r) × StepEnds at (length s) r
+  ReadAs r = (stepLine (drop at s) n ≡ stepReading s at (n + 1) r) × StepWithin at (length s) r
 
   pub stepAt-bare : length s < next → ReadAs (stepAt.Bad (Form n))
   unfolding stepLine

@@ -22,7 +22,7 @@ ghost use Rattle.plan.specs.PlanAnswers.{planRead};
 ghost use Rattle.session.specs.AnswerText.{longestAnswer};
 ghost use Rattle.session.specs.Sessions.{judgedSession, dispatchOutput, sessionAnswer, mostSessionBytes};
 ghost use Rattle.lines.specs.Written.{writtenAs};
-ghost use Rattle.session.specs.Judged.{Judged};
+ghost use Rattle.session.specs.Decided.{PlanDecided};
 
 // The answers of a session whose plan was judged: the steps', from a place of the text on, or the plan's one line.
 fn put_session(
@@ -37,7 +37,7 @@ fn put_session(
     requires { ⌜ from ≤ length (now text) ⌝ }
     requires { ⌜ length (now text) ≤ longestText ⌝ }
     requires { ⌜ line ≤ longestText + 1 ⌝ }
-    requires { ⌜ Judged p v c ⌝ }
+    requires { ⌜ PlanDecided p v c ⌝ }
     ensures { λ r. ⌜ Stored (now (out .entry)) 0 (judgedSession p (outcome p) (drop from (now (text .entry))) line) (now (out .exit)) r ⌝ }
     ensures { λ r. ⌜ r + 7 * from ≤ 7 * length (now (text .entry)) + longestAnswer ⌝ }
 {
@@ -66,7 +66,7 @@ fn write_session(
     requires { ⌜ from ≤ length (now text) ⌝ }
     requires { ⌜ length (now text) ≤ longestText ⌝ }
     requires { ⌜ line ≤ longestText + 1 ⌝ }
-    requires { ⌜ Judged p v c ⌝ }
+    requires { ⌜ PlanDecided p v c ⌝ }
     ensures { λ r. ⌜ r ≡ writtenAs (judgedSession p (outcome p) (drop from (now (text .entry))) line) (now (out .entry)) ⌝ }
     ensures { λ _. ⌜ now (out .exit) ≡ written (judgedSession p (outcome p) (drop from (now (text .entry))) line) (now (out .entry)) ⌝ }
     ensures { λ _. ⌜ length (judgedSession p (outcome p) (drop from (now (text .entry))) line) ≤ mostSessionBytes ⌝ }
@@ -95,7 +95,7 @@ pub fn answer_judged(
 ) -> Written
     requires { ⌜ head ≡ planRead (now text) (planHead (now text)) ⌝ }
     requires { ⌜ head .answer ≡ planAnswer.Accepted ⌝ }
-    requires { ⌜ Judged (head .plan) v c ⌝ }
+    requires { ⌜ PlanDecided (head .plan) v c ⌝ }
     ensures { λ r. ⌜ r ≡ sessionAnswer (now (text .entry)) (now (out .entry)) ⌝ }
     ensures { λ _. ⌜ now (out .exit) ≡ written (dispatchOutput (now (text .entry))) (now (out .entry)) ⌝ }
     ensures { λ _. ⌜ length (dispatchOutput (now (text .entry))) ≤ mostSessionBytes ⌝ }

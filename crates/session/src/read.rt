@@ -13,7 +13,7 @@ ghost use mathlib.Core.Path.{_≡_};
 ghost use Prim.Native.Nat.{_+_, _≤_};
 ghost use lib.ListN.{length, drop};
 ghost use Rattle.session.specs.StepRead.{isText, startIn, finishIn, stepIn, stepLine};
-ghost use Rattle.session.specs.StepAt.{stepTold, stepRefusal, StepEnds};
+ghost use Rattle.session.specs.StepAt.{stepReading, stepRefusal, StepWithin};
 
 // Whether l is just the text t.
 fn is_text(l: &[u8], t: &[u8]) -> bool
@@ -69,8 +69,8 @@ fn read_step(l: &[u8]) -> StepLine
 // The step of the line that begins at a place, and where the next line begins.
 pub fn read_step_at(s: &[u8], at: usize, line: usize) -> StepAt
     requires { ⌜ at ≤ length (now s) ⌝ }
-    ensures { λ r. ⌜ stepLine (drop at (now (s .entry))) line ≡ stepTold (now (s .entry)) at (line + 1) r ⌝ }
-    ensures { λ r. ⌜ StepEnds at (length (now (s .entry))) r ⌝ }
+    ensures { λ r. ⌜ stepLine (drop at (now (s .entry))) line ≡ stepReading (now (s .entry)) at (line + 1) r ⌝ }
+    ensures { λ r. ⌜ StepWithin at (length (now (s .entry))) r ⌝ }
 {
     let next = text::next_line(s, at);
     if s.len() < next {

@@ -13,14 +13,14 @@ ghost use Prim.Native.Nat.{_+_, _≤_};
 ghost use lib.ListN.{length};
 ghost use Rattle.lines.specs.Reading.{longestText, refusedNumber, refusedValue, faultyPart};
 ghost use Rattle.session.specs.SessionRead.{sessionRead};
-ghost use Rattle.session.specs.StepAt.{StepsTold};
+ghost use Rattle.session.specs.StepAt.{StepLinesReport};
 
 // The first step line of a text that is refused, from a place on, whose line has number line.
 fn read_steps(text: &[u8], from: usize, line: usize) -> StepsRead
     requires { ⌜ from ≤ length (now text) ⌝ }
     requires { ⌜ length (now text) ≤ longestText ⌝ }
     requires { ⌜ line ≤ longestText + 1 ⌝ }
-    ensures { λ r. ⌜ StepsTold (now (text .entry)) from line (r .at) (r .answer) ⌝ }
+    ensures { λ r. ⌜ StepLinesReport (now (text .entry)) from line (r .at) (r .answer) ⌝ }
 {
     let mut place = from;
     let mut number = line;

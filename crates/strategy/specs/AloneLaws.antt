@@ -20,10 +20,10 @@ use Rattle.bounds.specs.declared.Judgement.{Judgement}
 use Rattle.bounds.specs.declared.Judgement.the-variants.{Contradiction, LeftOut, Kept}
 use Rattle.bounds.specs.Events.{jobAt, earliest, latest, eventOf, startNode, finishNode, nodes}
 use Rattle.bounds.specs.Judgements.{judged, judgedSame, judgedOrigin, judgedApart, atLeast}
-use Rattle.bounds.specs.Tables.{Cell, off, upto, least, plus, join, Rows, at, judgement, isContradiction, keptCell, Set, contradiction, bounds, judgedSet}
+use Rattle.bounds.specs.Tables.{Cell, off, upto, lesserCell, plus, join, Rows, at, judgement, isContradiction, keptCell, Set, contradiction, bounds, judgedSet}
 use Rattle.bounds.specs.Elimination.{onlyIf, finishCell, startCell, withoutFinish, withoutStart, thenSet, withoutPlace, eliminated}
 use Rattle.bounds.specs.BuildLaws.{eventOf-start, eventOf-finish, byNode}
-use Rattle.rounds.specs.Rounds.{ownNodes, moved}
+use Rattle.rounds.specs.Rounds.{ownNodes, shiftOf}
 use Rattle.rounds.specs.Next.{onto}
 use Rattle.strategy.specs.SetLaws.{judgedSet-at, judgedSet-agrees, judgedSet-some}
 use Rattle.strategy.specs.PlaceLaws.{thenSet-bounds}
@@ -56,8 +56,8 @@ weight-moved w dz dy e l = omega (shows eq (any ⊕ (any ⊖ any) ⊖ (any ⊕ a
 moved-weight : (w dz dy e l : ℤ) → ((e +ℤ dz) -ℤ (l +ℤ dy)) -ℤ (w +ℤ (dz -ℤ dy)) ≡ (e -ℤ l) -ℤ w
 moved-weight w dz dy e l = omega (shows eq (any ⊕ any ⊖ (any ⊕ any) ⊖ (any ⊕ (any ⊖ any))) (any ⊖ any ⊖ any), wholes)
 
-stays : (w d : ℤ) → w +ℤ (d -ℤ d) ≡ w
-stays w d = omega (shows eq (any ⊕ (any ⊖ any)) any, wholes)
+weight-stays : (w d : ℤ) → w +ℤ (d -ℤ d) ≡ w
+weight-stays w d = omega (shows eq (any ⊕ (any ⊖ any)) any, wholes)
 
 same-place : (n j k : ℕ) (x y : Bool) → eqb (n + j) (n + k) ≡ x → eqb j k ≡ y → x ≡ y
 same-place n j k true true e f = refl
@@ -125,29 +125,29 @@ module _ (p : Plan) where
   judged-next : (y z : Event) (w : ℤ) → InWindow y → InWindow z
       → judged p (nextEvent y) (nextEvent z) (w +ℤ (movedEvent z -ℤ movedEvent y)) ≡ judged p y z w
   unfolding judged
-  judged-next Origin Origin w a b = ap judgedSame (stays w (pos 0))
+  judged-next Origin Origin w a b = ap judgedSame (weight-stays w (pos 0))
   judged-next Origin (Start k) w a b = origin-moved Origin (Start k) w a b
   judged-next Origin (Finish k) w a b = origin-moved Origin (Finish k) w a b
   judged-next (Start j) Origin w a b = origin-moved (Start j) Origin w a b
   judged-next (Start j) (Start k) w a b =
-      rw (place-moved j k) (ap₂ (λ s t. cond (eqb j k) s t) (ap judgedSame (stays w (p .window))) (apart-moved (Start j) (Start k) w a b))
+      rw (place-moved j k) (ap₂ (λ s t. cond (eqb j k) s t) (ap judgedSame (weight-stays w (p .window))) (apart-moved (Start j) (Start k) w a b))
   judged-next (Start j) (Finish k) w a b =
       rw (place-moved j k)
-      (ap₂ (λ s t. cond (eqb j k) s t) (ap₂ (λ job w. atLeast (job .max) w) (job-next p k b) (stays w (p .window)))
+      (ap₂ (λ s t. cond (eqb j k) s t) (ap₂ (λ job w. atLeast (job .max) w) (job-next p k b) (weight-stays w (p .window)))
       (apart-moved (Start j) (Finish k) w a b))
   judged-next (Finish j) Origin w a b = origin-moved (Finish j) Origin w a b
   judged-next (Finish j) (Start k) w a b =
       rw (place-moved j k)
-      (ap₂ (λ s t. cond (eqb j k) s t) (ap₂ (λ job w. atLeast (negℤ (job .min)) w) (job-next p k b) (stays w (p .window)))
+      (ap₂ (λ s t. cond (eqb j k) s t) (ap₂ (λ job w. atLeast (negℤ (job .min)) w) (job-next p k b) (weight-stays w (p .window)))
       (apart-moved (Finish j) (Start k) w a b))
   judged-next (Finish j) (Finish k) w a b =
-      rw (place-moved j k) (ap₂ (λ s t. cond (eqb j k) s t) (ap judgedSame (stays w (p .window))) (apart-moved (Finish j) (Finish k) w a b))
+      rw (place-moved j k) (ap₂ (λ s t. cond (eqb j k) s t) (ap judgedSame (weight-stays w (p .window))) (apart-moved (Finish j) (Finish k) w a b))
 
   -- ---- by nodes
 
   pub record Moves (y : ℕ) : Type 0 where
     pub event : eventOf (nextNode p y) ≡ nextEvent (eventOf y)
-    pub by : moved p y ≡ movedEvent (eventOf y)
+    pub by : shiftOf p y ≡ movedEvent (eventOf y)
     pub inside : InWindow (eventOf y)
 
   moves : (y : ℕ) → y < nodes (p .jobs) → Moves y
@@ -169,7 +169,7 @@ module _ (p : Plan) where
       })
 
   abbrev pub shifted : ℕ → ℕ → Cell → Cell
-  shifted y z c = plus c (moved p z -ℤ moved p y)
+  shifted y z c = plus c (shiftOf p z -ℤ shiftOf p y)
 
   pub judgement-next : (y z : ℕ) (c : Cell) → y < nodes (p .jobs) → z < nodes (p .jobs)
       → judgement p (nextNode p y) (nextNode p z) (shifted y z c) ≡ judgement p y z c
@@ -201,8 +201,8 @@ lesser-plus w v d false false e f = refl
 lesser-plus w v d true false e f = absurd (omega (reads (le-is true) (any ⊕ any) (any ⊕ any), wholes))
 lesser-plus w v d false true e f = absurd (omega (reads (le-is false) (any ⊕ any) (any ⊕ any), wholes))
 
-least-plus : (c e : Cell) (d : ℤ) → least (plus c d) (plus e d) ≡ plus (least c e) d
-unfolding least plus
+least-plus : (c e : Cell) (d : ℤ) → lesserCell (plus c d) (plus e d) ≡ plus (lesserCell c e) d
+unfolding lesserCell plus
 least-plus off e d = refl
 least-plus (upto w) off d = refl
 least-plus (upto w) (upto v) d = lesser-plus w v d _ _ refl refl
@@ -268,7 +268,7 @@ module _ (p : Plan) where
               judgedSet-at p K g B B-is (nextNode p y) (nextNode p z) (below y a) (below z b)
               ∙ ap (λ j. keptCell j (g (nextNode p y) (nextNode p z))) (judged-same y z a b)
               ∙ ap (keptCell (judgement p y z (f y z))) (same y z a b)
-              ∙ kept-plus (judgement p y z (f y z)) (f y z) (moved p z -ℤ moved p y)
+              ∙ kept-plus (judgement p y z (f y z)) (f y z) (shiftOf p z -ℤ shiftOf p y)
               ∙ ap (shifted p y z) (sym (judgedSet-at p k f (r .0) (r .1) y z a b)),
         )
 
@@ -296,10 +296,10 @@ module _ (p : Plan) where
     finish-is : finishNode (p .jobs + i) ≡ nextNode p (finishNode i)
     finish-is = let e : finishNode (p .jobs + i) ≡ finishNode i + ownNodes p = omega arith in e ∙ sym (next-later p (finishNode i) (omega arith))
 
-    moved-start : moved p (startNode i) ≡ p .window
+    moved-start : shiftOf p (startNode i) ≡ p .window
     moved-start = moved-later p (startNode i) (omega arith)
 
-    moved-finish : moved p (finishNode i) ≡ p .window
+    moved-finish : shiftOf p (finishNode i) ≡ p .window
     moved-finish = moved-later p (finishNode i) (omega arith)
 
     abbrev fᵢ : ℕ
@@ -319,30 +319,30 @@ module _ (p : Plan) where
           ≡ shifted p y z (onlyIf (eqb z sᵢ) (plus (at A y fᵢ) (negℤ (jobAt p i .max))))
       into-start =
           ap₂ onlyIf (ap (eqb nz) start-is ∙ next-eqb z sᵢ) (ap₂ (λ f j. plus (at B ny f) (negℤ (j .max))) finish-is (job-next p i low))
-          ∙ onlyIf-plus (eqb z sᵢ) _ (plus (at A y fᵢ) (negℤ (jobAt p i .max))) (moved p z -ℤ moved p y)
+          ∙ onlyIf-plus (eqb z sᵢ) _ (plus (at A y fᵢ) (negℤ (jobAt p i .max))) (shiftOf p z -ℤ shiftOf p y)
           (λ e.
           ap (λ c. plus c (negℤ (jobAt p i .max))) (same y fᵢ (omega arith) (omega arith))
-          ∙ plus-plus (at A y fᵢ) (moved p fᵢ -ℤ moved p y) (negℤ (jobAt p i .max)) (negℤ (jobAt p i .max)) (moved p z -ℤ moved p y)
-          (turned (moved p fᵢ) (moved p z) (moved p y) (negℤ (jobAt p i .max)) (moved-finish ∙ sym moved-start ∙ ap (moved p) (sym (eqb-true z sᵢ e)))))
+          ∙ plus-plus (at A y fᵢ) (shiftOf p fᵢ -ℤ shiftOf p y) (negℤ (jobAt p i .max)) (negℤ (jobAt p i .max)) (shiftOf p z -ℤ shiftOf p y)
+          (turned (shiftOf p fᵢ) (shiftOf p z) (shiftOf p y) (negℤ (jobAt p i .max)) (moved-finish ∙ sym moved-start ∙ ap (shiftOf p) (sym (eqb-true z sᵢ e)))))
 
       out-of-start : onlyIf (eqb ny (startNode (p .jobs + i))) (plus (at B (finishNode (p .jobs + i)) nz) (jobAt p (p .jobs + i) .min))
           ≡ shifted p y z (onlyIf (eqb y sᵢ) (plus (at A fᵢ z) (jobAt p i .min)))
       out-of-start =
           ap₂ onlyIf (ap (eqb ny) start-is ∙ next-eqb y sᵢ) (ap₂ (λ f j. plus (at B f nz) (j .min)) finish-is (job-next p i low))
-          ∙ onlyIf-plus (eqb y sᵢ) _ (plus (at A fᵢ z) (jobAt p i .min)) (moved p z -ℤ moved p y)
+          ∙ onlyIf-plus (eqb y sᵢ) _ (plus (at A fᵢ z) (jobAt p i .min)) (shiftOf p z -ℤ shiftOf p y)
           (λ e.
           ap (λ c. plus c (jobAt p i .min)) (same fᵢ z (omega arith) (omega arith))
-          ∙ plus-plus (at A fᵢ z) (moved p z -ℤ moved p fᵢ) (jobAt p i .min) (jobAt p i .min) (moved p z -ℤ moved p y)
-          (turned-back (moved p fᵢ) (moved p y) (moved p z) (jobAt p i .min) (moved-finish ∙ sym moved-start ∙ ap (moved p) (sym (eqb-true y sᵢ e)))))
+          ∙ plus-plus (at A fᵢ z) (shiftOf p z -ℤ shiftOf p fᵢ) (jobAt p i .min) (jobAt p i .min) (shiftOf p z -ℤ shiftOf p y)
+          (turned-back (shiftOf p fᵢ) (shiftOf p y) (shiftOf p z) (jobAt p i .min) (moved-finish ∙ sym moved-start ∙ ap (shiftOf p) (sym (eqb-true y sᵢ e)))))
 
       finish-shifted-at : finishCell p (p .jobs + i) B ny nz ≡ shifted p y z (finishCell p i A y z)
       unfolding finishCell
       finish-shifted-at =
-          ap₂ least (same y z (omega arith) (omega arith))
-          (ap₂ least into-start out-of-start
+          ap₂ lesserCell (same y z (omega arith) (omega arith))
+          (ap₂ lesserCell into-start out-of-start
           ∙ least-plus (onlyIf (eqb z sᵢ) (plus (at A y fᵢ) (negℤ (jobAt p i .max)))) (onlyIf (eqb y sᵢ) (plus (at A fᵢ z) (jobAt p i .min)))
-          (moved p z -ℤ moved p y))
-          ∙ least-plus (at A y z) _ (moved p z -ℤ moved p y)
+          (shiftOf p z -ℤ shiftOf p y))
+          ∙ least-plus (at A y z) _ (shiftOf p z -ℤ shiftOf p y)
 
     finish-shifted : MovedCells fᵢ (finishCell p i A) (finishCell p (p .jobs + i) B)
     finish-shifted y z a b = finish-shifted-at y z a b
@@ -356,12 +356,12 @@ module _ (p : Plan) where
       unfolding startCell
       start-shifted y z a b =
           let v = without-finish in
-          ap₂ least (v .2 y z (omega arith) (omega arith))
+          ap₂ lesserCell (v .2 y z (omega arith) (omega arith))
           (ap₂ join
           (ap (λ s. at W (nextNode p y) s) start-is ∙ v .2 y sᵢ (omega arith) (omega arith))
           (ap (λ s. at W s (nextNode p z)) start-is ∙ v .2 sᵢ z (omega arith) (omega arith))
-          ∙ join-moved (at (v .0) y sᵢ) (at (v .0) sᵢ z) (moved p y) (moved p sᵢ) (moved p z))
-          ∙ least-plus (at (v .0) y z) (join (at (v .0) y sᵢ) (at (v .0) sᵢ z)) (moved p z -ℤ moved p y)
+          ∙ join-moved (at (v .0) y sᵢ) (at (v .0) sᵢ z) (shiftOf p y) (shiftOf p sᵢ) (shiftOf p z))
+          ∙ least-plus (at (v .0) y z) (join (at (v .0) y sᵢ) (at (v .0) sᵢ z)) (shiftOf p z -ℤ shiftOf p y)
 
       pub without-start : (B₂ : Rows) → withoutStart p (p .jobs + i) W ≡ bounds B₂
           → (A₂ : Rows) × (withoutStart p i (without-finish .0) ≡ bounds A₂) × MovedCells sᵢ (at A₂) (at B₂)

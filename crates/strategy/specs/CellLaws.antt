@@ -5,7 +5,7 @@ use mathlib.Core.Bool.{Bool, true, false, cond}
 use lib.IntN.{ℤ, pos, _+ℤ_, _-ℤ_}
 use lib.Signed.{_≤ℤ_, leZ}
 use Rattle.whole.specs.Rules.{wholes}
-use Rattle.bounds.specs.Tables.{Cell, off, upto, least, plus, join}
+use Rattle.bounds.specs.Tables.{Cell, off, upto, lesserCell, plus, join}
 use Rattle.bounds.specs.Elimination.{onlyIf}
 use Rattle.strategy.specs.Keeping.{Holds}
 
@@ -13,8 +13,8 @@ lesser-holds : (w v x : ℤ) (b : Bool) → leZ w v ≡ b → Holds (cond b (upt
 lesser-holds w v x true e = omega wholes
 lesser-holds w v x false e = omega wholes
 
-pub least-iff : (c d : Cell) (x : ℤ) → Holds (least c d) x ↔ (Holds c x × Holds d x)
-unfolding least
+pub least-iff : (c d : Cell) (x : ℤ) → Holds (lesserCell c d) x ↔ (Holds c x × Holds d x)
+unfolding lesserCell
 least-iff off d x = (λ h. (tt, h), λ h. h .1)
 least-iff (upto w) off x = (λ h. (h, tt), λ h. h .0)
 least-iff (upto w) (upto v) x = lesser-holds w v x (leZ w v) refl

@@ -20,11 +20,11 @@ use Rattle.bounds.specs.declared.Event.the-variants.{Start, Finish}
 use Rattle.bounds.specs.declared.Judgement.{Judgement}
 use Rattle.bounds.specs.declared.Judgement.the-variants.{Contradiction, LeftOut, Kept}
 use Rattle.bounds.specs.Events.{nodeOf, startNode, finishNode, nodes}
-use Rattle.bounds.specs.Tables.{Cell, off, upto, least, Rows, at, leastOf, Between, judgement, keptCell, bounds, judgedSet}
+use Rattle.bounds.specs.Tables.{Cell, off, upto, lesserCell, Rows, at, leastOf, Between, judgement, keptCell, bounds, judgedSet}
 use Rattle.bounds.specs.BuildLaws.{both-true}
 use Rattle.bounds.specs.Elimination.{startCell, withoutFinish, withoutStart, withoutPlace, eliminated}
 use Rattle.rounds.specs.Given.{placeOf, eventAt, betweenBounds}
-use Rattle.rounds.specs.Rounds.{C0, ownNodes, moved, onNext, joined}
+use Rattle.rounds.specs.Rounds.{C0, ownNodes, shiftOf, onNext, joined}
 use Rattle.rounds.specs.OnNextLaws.{onNext-onto}
 use Rattle.rounds.specs.Next.{onto}
 use Rattle.strategy.specs.SetLaws.{judgedSet-at}
@@ -42,7 +42,7 @@ abbrev Elsewhere : ℕ → ℕ → Between → Type 0
 Elsewhere y z b = nodeOf (b .y) ≡ y → nodeOf (b .z) ≡ z → ⊥
 
 skipped : (y z : ℕ) (b : Between) (c : Cell) (t : Bool) → (eqb (nodeOf (b .y)) y && eqb (nodeOf (b .z)) z) ≡ t → Elsewhere y z b
-    → cond t (least (upto (b .w)) c) c ≡ c
+    → cond t (lesserCell (upto (b .w)) c) c ≡ c
 skipped y z b c false e h = refl
 skipped y z b c true e h =
     let r = both-true (eqb (nodeOf (b .y)) y) (eqb (nodeOf (b .z)) z) e in
@@ -132,14 +132,14 @@ module _ (p : Plan) (good : Accepted p) where
     own-off zero (suc z) = let n = next-later p (suc z) (omega arith) in C0-past p good c0 c0-is 0 (nextNode p (suc z)) (inr (omega arith))
     own-off (suc y) z = let n = next-later p (suc y) (omega arith) in C0-past p good c0 c0-is (nextNode p (suc y)) (nextNode p z) (inl (omega arith))
 
-    alone-cell : (x : Cell) → least off (least x off) ≡ x
-    unfolding least
+    alone-cell : (x : Cell) → lesserCell off (lesserCell x off) ≡ x
+    unfolding lesserCell
     alone-cell off = refl
     alone-cell (upto w) = refl
 
     cell-next : (y z : ℕ) → joinedCell p c0 c (nextNode p y) (nextNode p z) ≡ shifted p y z (at c y z)
     cell-next y z =
-        ap₂ (λ a b. least a (least (onNext p c (nextNode p y) (nextNode p z)) b)) (own-off y z) (between-off y z)
+        ap₂ (λ a b. lesserCell a (lesserCell (onNext p c (nextNode p y) (nextNode p z)) b)) (own-off y z) (between-off y z)
         ∙ alone-cell _
         ∙ onNext-onto p c y z
 
@@ -151,7 +151,7 @@ module _ (p : Plan) (good : Accepted p) where
         judgedSet-at p (nodes (p .jobs + p .jobs)) (joinedCell p c0 c) t t-is (nextNode p y) (nextNode p z) (omega arith) (omega arith)
         ∙ ap (λ x. keptCell (judgement p (nextNode p y) (nextNode p z) x) x) (cell-next y z)
         ∙ ap (λ j. keptCell j (shifted p y z (at c y z))) (judgement-next p y z (at c y z) a b)
-        ∙ kept-plus (judgement p y z (at c y z)) (at c y z) (moved p z -ℤ moved p y)
+        ∙ kept-plus (judgement p y z (at c y z)) (at c y z) (shiftOf p z -ℤ shiftOf p y)
         ∙ ap (shifted p y z) (c-judged y z a b)
 
   pub round-alone : (m : ℕ) (c : Rows) (r : Round p good m c) → (t : Rows) × (eliminated p 0 (p .jobs) (r .before) ≡ bounds t)

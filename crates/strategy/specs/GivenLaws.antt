@@ -23,7 +23,7 @@ use Rattle.plan.specs.EventNames.{isNext}
 use Rattle.plan.specs.Accepted.{BoundAccepted, Accepted}
 use Rattle.bounds.specs.declared.Event.the-variants.{Start, Finish}
 use Rattle.bounds.specs.Events.{eventOf, nodeOf}
-use Rattle.bounds.specs.Tables.{Cell, upto, least, Between, leastOf}
+use Rattle.bounds.specs.Tables.{Cell, upto, lesserCell, Between, leastOf}
 use Rattle.bounds.specs.BuildLaws.{both-true, eventOf-nodeOf}
 use Rattle.rounds.specs.Given.{meant, hasNext, givenBounds, upTo, downTo, inOrder, ranges, orders, ownBounds, betweenBounds}
 use Rattle.strategy.specs.Histories.{History}
@@ -95,7 +95,7 @@ module _ (y z : ℕ) (x : ℤ) where
   PairKept b = nodeOf (b .y) ≡ y → nodeOf (b .z) ≡ z → x ≤ℤ b .w
 
   pairKept-first : (b : Between) (c : Cell) (t : Bool) → (eqb (nodeOf (b .y)) y && eqb (nodeOf (b .z)) z) ≡ t
-      → Holds (cond t (least (upto (b .w)) c) c) x → PairKept b × Holds c x
+      → Holds (cond t (lesserCell (upto (b .w)) c) c) x → PairKept b × Holds c x
   pairKept-first b c true e h =
       let r = least-iff (upto (b .w)) c x .0 h in
       (λ i j. r .0, r .1)
@@ -106,7 +106,7 @@ module _ (y z : ℕ) (x : ℤ) where
   )
 
   first-pairKept : (b : Between) (c : Cell) (t : Bool) → (eqb (nodeOf (b .y)) y && eqb (nodeOf (b .z)) z) ≡ t
-      → PairKept b → Holds c x → Holds (cond t (least (upto (b .w)) c) c) x
+      → PairKept b → Holds c x → Holds (cond t (lesserCell (upto (b .w)) c) c) x
   first-pairKept b c true e s h =
       let r = both-true (eqb (nodeOf (b .y)) y) (eqb (nodeOf (b .z)) z) e in
       least-iff (upto (b .w)) c x .1 (s (eqb-true (nodeOf (b .y)) y (r .0)) (eqb-true (nodeOf (b .z)) z (r .1)), h)

@@ -18,13 +18,13 @@ use Rattle.plan.specs.Accepted.{Accepted}
 use Rattle.plan.specs.ListLaws.{All}
 use Rattle.bounds.specs.declared.Event.the-variants.{Start, Finish}
 use Rattle.bounds.specs.Events.{jobAt, shift, earliest, latest, eventOf, nodeOf, startNode, finishNode, nodes}
-use Rattle.bounds.specs.Tables.{Cell, off, least, plus, Rows, at, leastOf, contradiction, bounds}
+use Rattle.bounds.specs.Tables.{Cell, off, lesserCell, plus, Rows, at, leastOf, contradiction, bounds}
 use Rattle.bounds.specs.BuildLaws.{eventOf-start, eventOf-finish, byNode}
 use Rattle.rounds.specs.Given.{ownBounds, betweenBounds}
-use Rattle.rounds.specs.Rounds.{C0, ownNodes, isOwn, moved, onNext, joined}
+use Rattle.rounds.specs.Rounds.{C0, ownNodes, isOwn, shiftOf, onNext, joined}
 use Rattle.rounds.specs.Next.{onto}
 use Rattle.rounds.specs.OnNextLaws as on-next
-use Rattle.rounds.specs.OnNextLaws.{onto-event, movedBy-event, onNext-onto}
+use Rattle.rounds.specs.OnNextLaws.{onto-event, shiftBy-event, onNext-onto}
 use Rattle.strategy.specs.Histories.{History, onWindow, seenFrom, turn}
 use Rattle.strategy.specs.Strategies.{ranIn}
 use Rattle.strategy.specs.Keeping.{Holds, when, gap, Keeps, RunsInside, OriginBounded, NodesSeen}
@@ -98,8 +98,8 @@ module _ (p : Plan) where
   pub next-later : (y : ℕ) → 0 < y → nextNode p y ≡ y + ownNodes p
   next-later y h = sym (onto-event (p .jobs) y (λ e. omega arith))
 
-  pub moved-later : (y : ℕ) → 0 < y → moved p y ≡ p .window
-  moved-later y h = sym (movedBy-event (p .window) y (λ e. omega arith))
+  pub moved-later : (y : ℕ) → 0 < y → shiftOf p y ≡ p .window
+  moved-later y h = sym (shiftBy-event (p .window) y (λ e. omega arith))
 
   pub event-next-start : (k : ℕ) → eventOf (nextNode p (startNode k)) ≡ Start (p .jobs + k)
   event-next-start k =
@@ -127,10 +127,10 @@ module _ (p : Plan) (u : History) (two : p .jobs + p .jobs ≤ length u) where
       let e : 1 * p .jobs + k ≡ p .jobs + k = omega arith in
       ran-seen p 1 u k (omega arith) ∙ ap₂ (λ w i. onWindow w (ranIn u i)) (one-window (p .window)) e
 
-  when-next : (y : ℕ) → y < nodes (p .jobs) → when (seenFrom p 1 u) (eventOf y) ≡ when u (eventOf (nextNode p y)) -ℤ moved p y
+  when-next : (y : ℕ) → y < nodes (p .jobs) → when (seenFrom p 1 u) (eventOf y) ≡ when u (eventOf (nextNode p y)) -ℤ shiftOf p y
   unfolding eventOf onto
   when-next =
-      byNode (λ y. y < nodes (p .jobs) → when (seenFrom p 1 u) (eventOf y) ≡ when u (eventOf (nextNode p y)) -ℤ moved p y)
+      byNode (λ y. y < nodes (p .jobs) → when (seenFrom p 1 u) (eventOf y) ≡ when u (eventOf (nextNode p y)) -ℤ shiftOf p y)
       (λ h. refl)
       (λ k h. rw (eventOf-start k, event-next-start p k, moved-later p (startNode k) (omega arith)) (ap (λ r. r .start) (ran-next k (omega arith))))
       (λ k h. rw (eventOf-finish k, event-next-finish p k, moved-later p (finishNode k) (omega arith)) (ap (λ r. r .finish) (ran-next k (omega arith))))
@@ -174,7 +174,7 @@ module _ (p : Plan) where
 
 -- before it is judged
 abbrev pub joinedCell : Plan → Rows → Rows → ℕ → ℕ → Cell
-joinedCell p c0 c y z = least (at c0 y z) (least (onNext p c y z) (leastOf (betweenBounds p) y z))
+joinedCell p c0 c y z = lesserCell (at c0 y z) (lesserCell (onNext p c y z) (leastOf (betweenBounds p) y z))
 
 joinedCell-parts : (p : Plan) (c0 c : Rows) (y z : ℕ) (x : ℤ) → Holds (joinedCell p c0 c y z) x
     → Holds (at c0 y z) x × Holds (onNext p c y z) x × Holds (leastOf (betweenBounds p) y z) x
@@ -193,15 +193,15 @@ module _ (p : Plan) (good : Accepted p) (c0 c : Rows) (t0 : WellFormed p (nodes 
   above-next : (y : ℕ) → y < nodes (p .jobs) → 0 < y → (x : ℤ) → Holds (onNext p c 0 (nextNode p y)) x → x ≤ℤ latest p (eventOf (nextNode p y))
   unfolding onto
   above-next y h i x g =
-      let a : Holds (plus (at c 0 y) (moved p y -ℤ moved p 0)) x = rw (onNext-onto p c 0 y) at g in
-      let b = tc .above y h i _ (plus-iff (at c 0 y) (moved p y -ℤ moved p 0) x .0 a) in
+      let a : Holds (plus (at c 0 y) (shiftOf p y -ℤ shiftOf p 0)) x = rw (onNext-onto p c 0 y) at g in
+      let b = tc .above y h i _ (plus-iff (at c 0 y) (shiftOf p y -ℤ shiftOf p 0) x .0 a) in
       rw (latest-next p y h i) (back-above x (latest p (eventOf y)) (p .window) (rw (moved-later p y i) at b))
 
   below-next : (y : ℕ) → y < nodes (p .jobs) → 0 < y → (x : ℤ) → Holds (onNext p c (nextNode p y) 0) x → x ≤ℤ negℤ (earliest p (eventOf (nextNode p y)))
   unfolding onto
   below-next y h i x g =
-      let a : Holds (plus (at c y 0) (moved p 0 -ℤ moved p y)) x = rw (onNext-onto p c y 0) at g in
-      let b = tc .below y h i _ (plus-iff (at c y 0) (moved p 0 -ℤ moved p y) x .0 a) in
+      let a : Holds (plus (at c y 0) (shiftOf p 0 -ℤ shiftOf p y)) x = rw (onNext-onto p c y 0) at g in
+      let b = tc .below y h i _ (plus-iff (at c y 0) (shiftOf p 0 -ℤ shiftOf p y) x .0 a) in
       rw (earliest-next p y h i) (back-below x (earliest p (eventOf y)) (p .window) (rw (moved-later p y i) at b))
 
   later-node : (y : ℕ) → ownNodes p < y → y < nodes (p .jobs + p .jobs) → (x : ℕ) × (x < nodes (p .jobs)) × (0 < x) × (y ≡ nextNode p x)
@@ -236,16 +236,16 @@ gap-moved a b v w = omega (shows eq (any ⊖ any ⊖ (any ⊖ any)) (any ⊖ any
 
 module _ (p : Plan) (c : Rows) (u : History) (two : p .jobs + p .jobs ≤ length u) where
   gap-next : (y z : ℕ) → y < nodes (p .jobs) → z < nodes (p .jobs)
-      → gap (seenFrom p 1 u) y z ≡ gap u (nextNode p y) (nextNode p z) -ℤ (moved p z -ℤ moved p y)
+      → gap (seenFrom p 1 u) y z ≡ gap u (nextNode p y) (nextNode p z) -ℤ (shiftOf p z -ℤ shiftOf p y)
   gap-next y z a b =
       ap₂ (λ v w. v -ℤ w) (when-next p u two z b) (when-next p u two y a)
-      ∙ gap-moved (when u (eventOf (nextNode p z))) (when u (eventOf (nextNode p y))) (moved p z) (moved p y)
+      ∙ gap-moved (when u (eventOf (nextNode p z))) (when u (eventOf (nextNode p y))) (shiftOf p z) (shiftOf p y)
 
   next-keeps : Keeps (nodes (p .jobs + p .jobs)) (onNext p c) u → Keeps (nodes (p .jobs)) (at c) (seenFrom p 1 u)
   unfolding onto
   next-keeps kept y z a b =
       rw (gap-next y z a b)
-      (plus-iff (at c y z) (moved p z -ℤ moved p y) (gap u (nextNode p y) (nextNode p z)) .0
+      (plus-iff (at c y z) (shiftOf p z -ℤ shiftOf p y) (gap u (nextNode p y) (nextNode p z)) .0
       (rw (onNext-onto p c y z) at (kept (nextNode p y) (nextNode p z) (low y a) (low z b))))
     where
       low : (y : ℕ) → y < nodes (p .jobs) → nextNode p y < nodes (p .jobs + p .jobs)
@@ -256,7 +256,7 @@ module _ (p : Plan) (c : Rows) (u : History) (two : p .jobs + p .jobs ≤ length
       → Holds (onNext p c (nextNode p y) (nextNode p z)) (gap u (nextNode p y) (nextNode p z))
   keeps-next-at kept y z a b =
       rw (onNext-onto p c y z)
-      (plus-iff (at c y z) (moved p z -ℤ moved p y) (gap u (nextNode p y) (nextNode p z)) .1
+      (plus-iff (at c y z) (shiftOf p z -ℤ shiftOf p y) (gap u (nextNode p y) (nextNode p z)) .1
       (rw (gap-next y z a b) at (kept y z a b)))
 
   keeps-next : Keeps (nodes (p .jobs)) (at c) (seenFrom p 1 u) → Keeps (nodes (p .jobs + p .jobs)) (onNext p c) u

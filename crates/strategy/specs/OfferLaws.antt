@@ -45,7 +45,7 @@ use Rattle.runs.specs.declared.Turn.{Turn}
 use Rattle.runs.specs.Seen.{timeAt, firstSeen}
 use Rattle.runs.specs.Offers.{turnOf, termAt, offerOf}
 use Rattle.runs.specs.Steps.{OnOffer}
-use Rattle.runs.specs.OfferLaws.{Past, AtLeast, AtMost, AboveLower, BelowUpper, offerAt-from-iff, offerAt-to-iff}
+use Rattle.runs.specs.OfferLaws.{PastTerms, AtOrAbove, AtOrBelow, AboveLower, BelowUpper, offerAt-from-iff, offerAt-to-iff}
 use Rattle.strategy.specs.Keeping.{Holds}
 
 -- ---- what the calendar holds
@@ -173,7 +173,7 @@ module _ (p : Plan) (r : Run) (J count : ℕ) (order : ℤ → ℤ → Type 0) (
 
   -- t is past the origin's bound and every term in force
   abbrev AllPast : Type 0
-  AllPast = Past order (termAt (r .seen) cs row) events ((pos J *ℤ p .window) +ℤ (c (weight (cell 0)) -ℤ p .window)) first (count - first) t
+  AllPast = PastTerms order (termAt (r .seen) cs row) events ((pos J *ℤ p .window) +ℤ (c (weight (cell 0)) -ℤ p .window)) first (count - first) t
 
   has : (k : ℕ) → k < count → hasEvent k events ≡ isOn (cell (suc k))
   has k h = hasEvent-set (listed count (λ e. isOn (cell (suc e)))) k ∙ getD-listed count (λ e. isOn (cell (suc e))) k false h
@@ -246,19 +246,19 @@ module _ (p : Plan) (few : p .jobs ≤ mostJobs) (ts : List Rows) (all : length 
 
   -- one side's terms, as the calendar has them and as the table has them
   past-is : (order : ℤ → ℤ → Type 0) (bits : Terms → ℕ) (base : Terms → ℤ) (cs : List ℤ) (t : ℤ)
-      → Past order (termAt (r .seen) cs ((suc i - 1) * mostEvents)) (bits (getD (calendarOf p ts .terms) (suc i - 1) noTerms))
+      → PastTerms order (termAt (r .seen) cs ((suc i - 1) * mostEvents)) (bits (getD (calendarOf p ts .terms) (suc i - 1) noTerms))
       (beginsAt (p .window) (suc J) .0 +ℤ base (getD (calendarOf p ts .terms) (suc i - 1) noTerms)) from-first (eventsBefore p (suc i - 1) - from-first) t
-      ≡ Past order (termAt (r .seen) cs (i * mostEvents)) (bits (termsOf p i table))
+      ≡ PastTerms order (termAt (r .seen) cs (i * mostEvents)) (bits (termsOf p i table))
       ((pos J *ℤ p .window) +ℤ base (termsOf p i table)) from-first (eventsBefore p i - from-first) t
   past-is order bits base cs t =
       ap₂
       (λ k l.
-      Past order (termAt (r .seen) cs (k * mostEvents)) (bits (getD (calendarOf p ts .terms) k noTerms))
+      PastTerms order (termAt (r .seen) cs (k * mostEvents)) (bits (getD (calendarOf p ts .terms) k noTerms))
       (pos l *ℤ p .window +ℤ base (getD (calendarOf p ts .terms) k noTerms)) from-first (eventsBefore p k - from-first) t)
       (less-one i) (less-one J)
       ∙ ap
       (λ x.
-      Past order (termAt (r .seen) cs (i * mostEvents)) (bits x) (pos J *ℤ p .window +ℤ base x) from-first (eventsBefore p i - from-first) t)
+      PastTerms order (termAt (r .seen) cs (i * mostEvents)) (bits x) (pos J *ℤ p .window +ℤ base x) from-first (eventsBefore p i - from-first) t)
       (terms-at p ts i (omega arith))
 
   abbrev turn : Turn
@@ -266,21 +266,23 @@ module _ (p : Plan) (few : p .jobs ≤ mostJobs) (ts : List Rows) (all : length 
 
   abbrev LowerPast : ℤ → Type 0
   LowerPast t =
-      Past AtLeast (termAt (r .seen) (calendarOf p ts .«at_least») (i * mostEvents)) (eventSet (listed (eventsBefore p i) (λ e. isOn (at table s (suc e)))))
+      PastTerms AtOrAbove (termAt (r .seen) (calendarOf p ts .«at_least») (i * mostEvents))
+      (eventSet (listed (eventsBefore p i) (λ e. isOn (at table s (suc e)))))
       ((pos J *ℤ p .window) +ℤ (negℤ (weight (at table s 0)) -ℤ p .window)) from-first (eventsBefore p i - from-first) t
 
   abbrev UpperPast : ℤ → Type 0
   UpperPast t =
-      Past AtMost (termAt (r .seen) (calendarOf p ts .«at_most») (i * mostEvents)) (eventSet (listed (eventsBefore p i) (λ e. isOn (at table (suc e) s))))
+      PastTerms AtOrBelow (termAt (r .seen) (calendarOf p ts .«at_most») (i * mostEvents))
+      (eventSet (listed (eventsBefore p i) (λ e. isOn (at table (suc e) s))))
       ((pos J *ℤ p .window) +ℤ (weight (at table 0 s) -ℤ p .window)) from-first (eventsBefore p i - from-first) t
 
   lower-is : (t : ℤ) → AboveLower turn (calendarOf p ts .«at_least») (calendarOf p ts .«at_most») r (suc J) (suc i) t ≡ LowerPast t
   unfolding termsOf
-  lower-is t = past-is AtLeast (λ x. x .below .0) (λ x. x .low .0) (calendarOf p ts .«at_least») t
+  lower-is t = past-is AtOrAbove (λ x. x .below .0) (λ x. x .low .0) (calendarOf p ts .«at_least») t
 
   upper-is : (t : ℤ) → BelowUpper turn (calendarOf p ts .«at_least») (calendarOf p ts .«at_most») r (suc J) (suc i) t ≡ UpperPast t
   unfolding termsOf
-  upper-is t = past-is AtMost (λ x. x .above .0) (λ x. x .high .0) (calendarOf p ts .«at_most») t
+  upper-is t = past-is AtOrBelow (λ x. x .above .0) (λ x. x .high .0) (calendarOf p ts .«at_most») t
 
   -- t, on the clock of the table, keeps the start's row and column, as far as they are in force
   pub record StartFits (t : ℤ) : Type 0 where
@@ -296,14 +298,14 @@ module _ (p : Plan) (few : p .jobs ≤ mostJobs) (ts : List Rows) (all : length 
         record {
           row =
               λ y l f.
-              side-out p r J (eventsBefore p i) AtLeast t (λ y. at table s y) negℤ (λ τ. τ -ℤ x)
+              side-out p r J (eventsBefore p i) AtOrAbove t (λ y. at table s y) negℤ (λ τ. τ -ℤ x)
               (lower-term t (tableBegin p J)) (lower-base t (pos J *ℤ p .window) (p .window)) (calendarOf p ts .«at_least») (i * mostEvents)
               (λ e g. least-at p few ts all i e low g) lo lo-is
               (subst (λ (X : Type 0). X) (lower-is t) (offerAt-from-iff turn (calendarOf p ts .«at_least») (calendarOf p ts .«at_most») r (suc J)
               (suc i) t .0 (o .least))) y (omega arith) f;
           column =
               λ y l f.
-              side-out p r J (eventsBefore p i) AtMost t (λ y. at table y s) (λ w. w) (λ τ. x -ℤ τ)
+              side-out p r J (eventsBefore p i) AtOrBelow t (λ y. at table y s) (λ w. w) (λ τ. x -ℤ τ)
               (upper-term t (tableBegin p J)) (upper-base t (pos J *ℤ p .window) (p .window)) (calendarOf p ts .«at_most») (i * mostEvents)
               (λ e g. most-at p few ts all i e low g) hi hi-is
               (subst (λ (X : Type 0). X) (upper-is t) (offerAt-to-iff turn (calendarOf p ts .«at_least») (calendarOf p ts .«at_most») r (suc J) (suc i) t .0
@@ -316,13 +318,13 @@ module _ (p : Plan) (few : p .jobs ≤ mostJobs) (ts : List Rows) (all : length 
           least =
               offerAt-from-iff turn (calendarOf p ts .«at_least») (calendarOf p ts .«at_most») r (suc J) (suc i) t .1
               (subst (λ (X : Type 0). X) (sym (lower-is t))
-              (side-in p r J (eventsBefore p i) AtLeast t (λ y. at table s y) negℤ (λ τ. τ -ℤ x)
+              (side-in p r J (eventsBefore p i) AtOrAbove t (λ y. at table s y) negℤ (λ τ. τ -ℤ x)
               (lower-term t (tableBegin p J)) (lower-base t (pos J *ℤ p .window) (p .window)) (calendarOf p ts .«at_least») (i * mostEvents)
               (λ e g. least-at p few ts all i e low g) lo lo-is (λ y l. f .row y (omega arith))));
           most =
               offerAt-to-iff turn (calendarOf p ts .«at_least») (calendarOf p ts .«at_most») r (suc J) (suc i) t .1
               (subst (λ (X : Type 0). X) (sym (upper-is t))
-              (side-in p r J (eventsBefore p i) AtMost t (λ y. at table y s) (λ w. w) (λ τ. x -ℤ τ)
+              (side-in p r J (eventsBefore p i) AtOrBelow t (λ y. at table y s) (λ w. w) (λ τ. x -ℤ τ)
               (upper-term t (tableBegin p J)) (upper-base t (pos J *ℤ p .window) (p .window)) (calendarOf p ts .«at_most») (i * mostEvents)
               (λ e g. most-at p few ts all i e low g) hi hi-is (λ y l. f .column y (omega arith))));
         }

@@ -15,7 +15,7 @@ use Rattle.plan.specs.Limits.{mostJobs}
 use Rattle.bounds.specs.Events.{eventOf, startNode, finishNode}
 use Rattle.bounds.specs.Tables.{plus, Rows, at}
 use Rattle.bounds.specs.BuildLaws.{eventOf-start, eventOf-finish, byNode}
-use Rattle.rounds.specs.Rounds.{ownNodes, moved}
+use Rattle.rounds.specs.Rounds.{ownNodes, shiftOf}
 use Rattle.events.specs.Bits.{mostEvents}
 use Rattle.runs.specs.declared.Before.the-variants.{Nothing, Window}
 use Rattle.runs.specs.declared.Run.{Run}
@@ -126,10 +126,10 @@ module _ (p : Plan) (r : Run) where
     window-later : (a w : ℤ) → a -ℤ (pos 0 *ℤ w -ℤ w) ≡ a +ℤ w
     window-later a w = let m = split-mul 0 w in omega (shows eq (any ⊖ (any ⊖ any)) (any ⊕ any), wholes)
 
-    first-time : (y : ℕ) → y < startNode i → nodeTime p r 0 (nextNode p y) ≡ when h (eventOf y) +ℤ moved p y
+    first-time : (y : ℕ) → y < startNode i → nodeTime p r 0 (nextNode p y) ≡ when h (eventOf y) +ℤ shiftOf p y
     unfolding eventOf onto
     first-time =
-        byNode (λ y. y < startNode i → nodeTime p r 0 (nextNode p y) ≡ when h (eventOf y) +ℤ moved p y)
+        byNode (λ y. y < startNode i → nodeTime p r 0 (nextNode p y) ≡ when h (eventOf y) +ℤ shiftOf p y)
         (λ l. refl)
         (λ k l.
         later-by (startNode k) (omega arith)
@@ -201,24 +201,24 @@ module _ (p : Plan) (few : p .jobs ≤ mostJobs) (ts : List Rows) (all : length 
     abbrev x : ℤ
     x = t -ℤ tableBegin p 0
 
-    x-is : x ≡ t +ℤ moved p (startNode i)
+    x-is : x ≡ t +ℤ shiftOf p (startNode i)
     x-is = window-later p r h i sh t (p .window) ∙ ap (λ w. t +ℤ w) (sym (moved-later p (startNode i) (omega arith)))
 
-    row-cell : (y : ℕ) → y < startNode i → at table s (nextNode p y) ≡ plus (at w (startNode i) y) (moved p y -ℤ moved p (startNode i))
+    row-cell : (y : ℕ) → y < startNode i → at table s (nextNode p y) ≡ plus (at w (startNode i) y) (shiftOf p y -ℤ shiftOf p (startNode i))
     row-cell y l = ap₂ (λ v s. at v s (nextNode p y)) v-is s-is ∙ same (startNode i) y (omega arith) (omega arith)
 
-    column-cell : (y : ℕ) → y < startNode i → at table (nextNode p y) s ≡ plus (at w y (startNode i)) (moved p (startNode i) -ℤ moved p y)
+    column-cell : (y : ℕ) → y < startNode i → at table (nextNode p y) s ≡ plus (at w y (startNode i)) (shiftOf p (startNode i) -ℤ shiftOf p y)
     column-cell y l = ap₂ (λ v s. at v (nextNode p y) s) v-is s-is ∙ same y (startNode i) (omega arith) (omega arith)
 
-    row-gap : (y : ℕ) → y < startNode i → (nodeTime p r 0 (nextNode p y) -ℤ x) -ℤ (moved p y -ℤ moved p (startNode i)) ≡ when h (eventOf y) -ℤ t
+    row-gap : (y : ℕ) → y < startNode i → (nodeTime p r 0 (nextNode p y) -ℤ x) -ℤ (shiftOf p y -ℤ shiftOf p (startNode i)) ≡ when h (eventOf y) -ℤ t
     row-gap y l =
-        ap₂ (λ a b. (a -ℤ b) -ℤ (moved p y -ℤ moved p (startNode i))) (first-time p r h i sh y l) x-is
-        ∙ gap-row (when h (eventOf y)) (moved p y) t (moved p (startNode i))
+        ap₂ (λ a b. (a -ℤ b) -ℤ (shiftOf p y -ℤ shiftOf p (startNode i))) (first-time p r h i sh y l) x-is
+        ∙ gap-row (when h (eventOf y)) (shiftOf p y) t (shiftOf p (startNode i))
 
-    column-gap : (y : ℕ) → y < startNode i → (x -ℤ nodeTime p r 0 (nextNode p y)) -ℤ (moved p (startNode i) -ℤ moved p y) ≡ t -ℤ when h (eventOf y)
+    column-gap : (y : ℕ) → y < startNode i → (x -ℤ nodeTime p r 0 (nextNode p y)) -ℤ (shiftOf p (startNode i) -ℤ shiftOf p y) ≡ t -ℤ when h (eventOf y)
     column-gap y l =
-        ap₂ (λ a b. (b -ℤ a) -ℤ (moved p (startNode i) -ℤ moved p y)) (first-time p r h i sh y l) x-is
-        ∙ gap-column (when h (eventOf y)) (moved p y) t (moved p (startNode i))
+        ap₂ (λ a b. (b -ℤ a) -ℤ (shiftOf p (startNode i) -ℤ shiftOf p y)) (first-time p r h i sh y l) x-is
+        ∙ gap-column (when h (eventOf y)) (shiftOf p y) t (shiftOf p (startNode i))
 
     next-low : (y : ℕ) → y < startNode i → nextNode p y < s
     unfolding onto
@@ -231,25 +231,25 @@ module _ (p : Plan) (few : p .jobs ≤ mostJobs) (ts : List Rows) (all : length 
           row =
               λ y l.
               subst (Holds (at w (startNode i) y)) (row-gap y l)
-              (plus-iff (at w (startNode i) y) (moved p y -ℤ moved p (startNode i)) (nodeTime p r 0 (nextNode p y) -ℤ x) .0
+              (plus-iff (at w (startNode i) y) (shiftOf p y -ℤ shiftOf p (startNode i)) (nodeTime p r 0 (nextNode p y) -ℤ x) .0
               (subst (λ c. Holds c (nodeTime p r 0 (nextNode p y) -ℤ x)) (row-cell y l) (f .row (nextNode p y) (next-low y l) (next-force p r y))));
           column =
               λ y l.
               subst (Holds (at w y (startNode i))) (column-gap y l)
-              (plus-iff (at w y (startNode i)) (moved p (startNode i) -ℤ moved p y) (x -ℤ nodeTime p r 0 (nextNode p y)) .0
+              (plus-iff (at w y (startNode i)) (shiftOf p (startNode i) -ℤ shiftOf p y) (x -ℤ nodeTime p r 0 (nextNode p y)) .0
               (subst (λ c. Holds c (x -ℤ nodeTime p r 0 (nextNode p y))) (column-cell y l) (f .column (nextNode p y) (next-low y l) (next-force p r y))));
         }
 
     row-at : Allowed w i (λ y. when h (eventOf y)) t → (y : ℕ) → y < startNode i → Holds (at table s (nextNode p y)) (nodeTime p r 0 (nextNode p y) -ℤ x)
     row-at a y l =
         subst (λ c. Holds c (nodeTime p r 0 (nextNode p y) -ℤ x)) (sym (row-cell y l))
-        (plus-iff (at w (startNode i) y) (moved p y -ℤ moved p (startNode i)) (nodeTime p r 0 (nextNode p y) -ℤ x) .1
+        (plus-iff (at w (startNode i) y) (shiftOf p y -ℤ shiftOf p (startNode i)) (nodeTime p r 0 (nextNode p y) -ℤ x) .1
         (subst (Holds (at w (startNode i) y)) (sym (row-gap y l)) (a .row y l)))
 
     column-at : Allowed w i (λ y. when h (eventOf y)) t → (y : ℕ) → y < startNode i → Holds (at table (nextNode p y) s) (x -ℤ nodeTime p r 0 (nextNode p y))
     column-at a y l =
         subst (λ c. Holds c (x -ℤ nodeTime p r 0 (nextNode p y))) (sym (column-cell y l))
-        (plus-iff (at w y (startNode i)) (moved p (startNode i) -ℤ moved p y) (x -ℤ nodeTime p r 0 (nextNode p y)) .1
+        (plus-iff (at w y (startNode i)) (shiftOf p (startNode i) -ℤ shiftOf p y) (x -ℤ nodeTime p r 0 (nextNode p y)) .1
         (subst (Holds (at w y (startNode i))) (sym (column-gap y l)) (a .column y l)))
 
     back-low : (y x : ℕ) → y < s → (x ≡ 0) ⊎ (x + ownNodes p ≡ y) → x < startNode i

@@ -43,8 +43,8 @@ before-finish z s e w min p q = omega wholes
 after-finish : (y s e w max : ℤ) → (s -ℤ y) ≤ℤ (w -ℤ max) → e ≤ℤ max → ((s +ℤ e) -ℤ y) ≤ℤ w
 after-finish y s e w max p q = omega wholes
 
-named-finish : (z f s e w min : ℤ) → f ≡ s +ℤ e → (z -ℤ s) ≤ℤ (w +ℤ min) → min ≤ℤ e → (z -ℤ f) ≤ℤ w
-named-finish z f s e w min d p q = omega wholes
+finish-named : (z f s e w min : ℤ) → f ≡ s +ℤ e → (z -ℤ s) ≤ℤ (w +ℤ min) → min ≤ℤ e → (z -ℤ f) ≤ℤ w
+finish-named z f s e w min d p q = omega wholes
 
 -- ---- moved by a window
 

@@ -66,22 +66,22 @@ fact-iff (le-is true) = leZ-true-split-iff
 fact-iff (le-is false) = leZ-false-split-iff
 
 -- Two pairs of naturals with one difference.
-moved : (f : Fact) (x y u v : ℕ) → x + v ≡ u + y → Counts f x y → Counts f u v
-moved le x y u v e h = omega arith
-moved lt x y u v e h = omega arith
-moved eq x y u v e h = omega arith
-moved eq-true x y u v e h = omega arith
-moved eq-false x y u v e h = omega arith
-moved (lt-is true) x y u v e h = omega arith
-moved (lt-is false) x y u v e h = omega arith
-moved (le-is true) x y u v e h = omega arith
-moved (le-is false) x y u v e h = omega arith
+moved-over : (f : Fact) (x y u v : ℕ) → x + v ≡ u + y → Counts f x y → Counts f u v
+moved-over le x y u v e h = omega arith
+moved-over lt x y u v e h = omega arith
+moved-over eq x y u v e h = omega arith
+moved-over eq-true x y u v e h = omega arith
+moved-over eq-false x y u v e h = omega arith
+moved-over (lt-is true) x y u v e h = omega arith
+moved-over (lt-is false) x y u v e h = omega arith
+moved-over (le-is true) x y u v e h = omega arith
+moved-over (le-is false) x y u v e h = omega arith
 
 pub reads : (f : Fact) (s t : Shape) → Reads f s t
-reads f s t = each s _ (λ a p n e. each t _ (λ b q m d h. moved f (up a + dn b) (up b + dn a) (p + m) (q + n) (omega arith) (fact-iff f a b .0 h)))
+reads f s t = each s _ (λ a p n e. each t _ (λ b q m d h. moved-over f (up a + dn b) (up b + dn a) (p + m) (q + n) (omega arith) (fact-iff f a b .0 h)))
 
 pub shows : (f : Fact) (s t : Shape) → Shows f s t
-shows f s t = each s _ (λ a p n e. each t _ (λ b q m d h. fact-iff f a b .1 (moved f (p + m) (q + n) (up a + dn b) (up b + dn a) (omega arith) h)))
+shows f s t = each s _ (λ a p n e. each t _ (λ b q m d h. fact-iff f a b .1 (moved-over f (p + m) (q + n) (up a + dn b) (up b + dn a) (omega arith) h)))
 
 -- ---- one number
 

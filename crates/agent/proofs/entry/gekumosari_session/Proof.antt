@@ -9,7 +9,7 @@ use mir.Val.{ofZ, toZ}
 use mir.Facts.{sfits-lit, toZ-pos}
 use Rattle.lines.specs.declared.Refusal.the-variants.{NoRoom}
 use Rattle.lines.specs.Refusals.{number}
-use Rattle.agent.specs.EntryLaws.{EntryTold, entry-length, NoRoomTold, entry-refused}
+use Rattle.agent.specs.EntryLaws.{EntryAnswered, entry-length, EntryNoRoom, entry-refused}
 use borrow.Author.Needs.{needs}
 use Rattle.agent.proofs.entry.gekumosari_session.Statement.{statement}
 use Rattle.agent.proofs.entry.gekumosari_session.Tie as tie
@@ -22,7 +22,7 @@ enum-known-told c = search needs
 
 -- the length
 length-told : (c : tie.After-known-told) → let s = c .before .before .before .before .before .before .before .before .before in
-    EntryTold (now (s .args .text)) (now (s .args .out)) (c .before .told .given .0 .0)
+    EntryAnswered (now (s .args .text)) (now (s .args .out)) (c .before .told .given .0 .0)
 length-told c =
     let at-answer = c .before .before .before .before .before in
     let s = at-answer .before .before .before .before in
@@ -46,7 +46,7 @@ number-requires c κs = search needs
 
 -- the refusal
 refused-told : (c : tie.After-number) → let s = c .before .before .before .before .before .before .before .before .before .before in
-    NoRoomTold (now (s .args .text)) (now (s .args .out)) (c .number .result)
+    EntryNoRoom (now (s .args .text)) (now (s .args .out)) (c .number .result)
 refused-told c =
     let at-answer = c .before .before .before .before .before .before in
     let s = at-answer .before .before .before .before in

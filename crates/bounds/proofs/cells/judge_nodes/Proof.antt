@@ -4,7 +4,7 @@ use lib.IntN.{ℤ, _-ℤ_}
 use mir.Syntax.{w32}
 use mir.Val.{toZ, ofZ}
 use mir.Facts.{toZ-ofZ}
-use Rattle.bounds.specs.Spans.{timeAt, judgedBy}
+use Rattle.bounds.specs.Spans.{timeOfNode, judgedBy}
 use Rattle.bounds.specs.SpansLaws.{judgedAt-by}
 use Rattle.bounds.proofs.Gaps.{gap-fits, gap-back}
 use borrow.Author.Needs.{needs}
@@ -64,8 +64,8 @@ returns : tie.Need-returns
 returns c =
     let s = c .before .before .before .before .before .before .before in
     let a = s .args in
-    let early = timeAt (a .early .now) in
-    let late = timeAt (a .late .now) in
+    let early = timeOfNode (a .early .now) in
+    let late = timeOfNode (a .late .now) in
     let answer : c .judge .result
     ≡ judgedBy (between (early (a .z)) (late (a .y))) (between (late (a .z)) (early (a .y))) (between (late (a .z)) (late (a .y)))
     (between (early (a .z)) (early (a .y)))

@@ -12,7 +12,7 @@ use mir.Facts.{toZ-ofZ}
 use Rattle.whole.specs.SplitLaws.{told-fits}
 use Rattle.events.specs.Bits.{bitsOf}
 use Rattle.events.specs.BitsLaws.{nextEvent-from}
-use Rattle.bounds.specs.Flat.{place, weightAt, Weighed, flat, Flat, putAt, eachNode, joinedAt, joinedCells}
+use Rattle.bounds.specs.Flat.{place, weightAt, WeightInRange, flat, Flat, putAt, eachNode, joinedAt, joinedCells}
 use Rattle.bounds.specs.FlatLaws.{putAt-same, eachNode-stop, eachNode-past, eachNode-end, HasBounded-same, joinedCells-skips}
 use Rattle.bounds.proofs.Sums.{weights-fit}
 use Rattle.bounds.proofs.eliminate.join_cells.Statement.{statement}
@@ -77,7 +77,7 @@ put-requires c κs =
       search,
       search,
       weights-fit (told-fits w32 (weightAt (l .weights) (a .s) (l .z)) (c .before .v .given)) (s .fits .w)
-          (subst Weighed (sym (same-row t (l .z))) (s .pre .row (l .z) low)) (s .pre .weighed) (s .pre .on),
+          (subst WeightInRange (sym (same-row t (l .z))) (s .pre .row (l .z) low)) (s .pre .weighed) (s .pre .on),
     )
 
 -- after `put`: the turn, and that what it answers is the step

@@ -5,7 +5,7 @@ use mathlib.Core.Path.{_≡_, refl, sym, _∙_, ap, subst}
 use native.Mathlib.Omega.{arith}
 use lib.IntN.{pos}
 use lib.ListN.{getD}
-use Rattle.bounds.specs.Flat.{place, Weighed, eachNode, joinedRow, joinedRows}
+use Rattle.bounds.specs.Flat.{place, WeightInRange, eachNode, joinedRow, joinedRows}
 use Rattle.bounds.specs.FlatLaws.{eachNode-stop, eachNode-past, eachNode-end, boundedNodes-has, HasBounded-same, joinedRow-same}
 use Rattle.bounds.proofs.eliminate.join_rows.Statement.{statement}
 use Rattle.bounds.proofs.eliminate.join_rows.Tie as tie
@@ -38,8 +38,8 @@ join-row-requires c κs =
       bounded =
           HasBounded-same (a .weights .now) (l .weights) (a .s) _ (λ z h. l .inv .2 (place (a .s) z) (omega arith))
           (boundedNodes-has (a .weights .now) (a .s) _ (c .before .before .before .bounded-nodes .ensures));
-      weighed = subst Weighed (sym (l .inv .2 (place (l .y) (a .s)) (omega arith))) (s .pre .column (l .y) low);
-      row = λ z h. subst Weighed (sym (l .inv .2 (place (a .s) z) (omega arith))) (s .pre .row z h);
+      weighed = subst WeightInRange (sym (l .inv .2 (place (l .y) (a .s)) (omega arith))) (s .pre .column (l .y) low);
+      row = λ z h. subst WeightInRange (sym (l .inv .2 (place (a .s) z) (omega arith))) (s .pre .row z h);
     }
 
 returns : tie.Need-returns Inv-loop μ-loop

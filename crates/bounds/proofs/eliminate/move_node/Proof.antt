@@ -7,7 +7,7 @@ use lib.ListN.{getD}
 use mir.Syntax.{w32}
 use mir.Facts.{toZ-ofZ}
 use Rattle.whole.specs.SplitLaws.{told-fits}
-use Rattle.bounds.specs.Flat.{place, weightAt, Weighed, flat, putAt}
+use Rattle.bounds.specs.Flat.{place, weightAt, WeightInRange, flat, putAt}
 use Rattle.bounds.specs.FlatLaws.{putAt-same, movedAt-stop, movedAt-past}
 use Rattle.bounds.proofs.Sums.{moved-fits}
 use Rattle.bounds.proofs.eliminate.move_node.Statement.{statement}
@@ -85,7 +85,7 @@ put-requires-2 c κs =
       s .pre .times (a .s) (omega (arith, s .pre .order, s .pre .node)),
       s .pre .times (a .y) (omega (arith, s .pre .before, s .pre .node)),
       moved-fits (told-fits w32 (weightAt (r .put .last .0) (a .f) (a .y)) (c .before .back .given)) (s .fits .more)
-          (subst Weighed (sym (back-same r)) (s .pre .row))
+          (subst WeightInRange (sym (back-same r)) (s .pre .row))
           (s .pre .more-moves),
     )
 

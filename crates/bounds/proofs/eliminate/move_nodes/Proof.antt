@@ -8,7 +8,7 @@ use lib.ListN.{getD}
 use mir.Syntax.{w32}
 use mir.Val.{toZ, ofZ}
 use mir.Facts.{toZ-ofZ}
-use Rattle.bounds.specs.Flat.{place, weightAt, Weighed, Moving, eachNode, movedAt, movedRows}
+use Rattle.bounds.specs.Flat.{place, weightAt, WeightInRange, MoveInRange, eachNode, movedAt, movedRows}
 use Rattle.bounds.specs.FlatLaws.{eachNode-stop, eachNode-past, eachNode-end, movedAt-same}
 use Rattle.bounds.proofs.eliminate.move_nodes.Statement.{statement}
 use Rattle.bounds.proofs.eliminate.move_nodes.Tie as tie
@@ -38,10 +38,10 @@ move-node-requires c κs =
       node = s .pre .node;
       order = s .pre .order;
       before = low;
-      less-moves = subst Moving (sym (toZ-ofZ (s .fits .less))) (s .pre .less-moves);
-      more-moves = subst Moving (sym (toZ-ofZ (s .fits .more))) (s .pre .more-moves);
-      column = subst Weighed (sym (l .inv .2 (l .y) low)) (s .pre .column (l .y) low);
-      row = subst Weighed (sym (l .inv .3 (l .y) low)) (s .pre .row (l .y) low);
+      less-moves = subst MoveInRange (sym (toZ-ofZ (s .fits .less))) (s .pre .less-moves);
+      more-moves = subst MoveInRange (sym (toZ-ofZ (s .fits .more))) (s .pre .more-moves);
+      column = subst WeightInRange (sym (l .inv .2 (l .y) low)) (s .pre .column (l .y) low);
+      row = subst WeightInRange (sym (l .inv .3 (l .y) low)) (s .pre .row (l .y) low);
     }
 
 returns : tie.Need-returns Inv-loop μ-loop

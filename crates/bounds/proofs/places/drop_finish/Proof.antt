@@ -9,53 +9,53 @@ use mir.Syntax.{w32}
 use mir.Val.{toZ, ofZ}
 use Rattle.plan.specs.declared.Plan.{Plan}
 use Rattle.bounds.specs.Events.{startNode, finishNode, jobAt}
-use Rattle.bounds.specs.Spans.{timeAt, Timed}
+use Rattle.bounds.specs.Spans.{timeOfNode, TimesInRange}
 use Rattle.bounds.specs.Flat.{setIn, MovesRows, movedRows}
 use Rattle.bounds.specs.FlatLaws.{movedRows-length}
-use Rattle.bounds.specs.Fit.{StandingOf}
-use Rattle.bounds.specs.ClockedLaws.{nodes-room, less-is, more-is, finish-moves, finish-is}
+use Rattle.bounds.specs.Held.{TableHeldFor}
+use Rattle.bounds.specs.TimesHeldLaws.{nodes-room, less-is, more-is, finish-moves, finish-is}
 use Rattle.bounds.proofs.Gaps.{gap-fits, gap-back}
 use borrow.Author.Needs.{needs}
 use Rattle.bounds.proofs.places.drop_finish.Statement.{statement}
 use Rattle.bounds.proofs.places.drop_finish.Tie as tie
 
-start-timed : (s : tie.Start) → Timed (s .args .early .now) (s .args .late .now) (startNode (s .args .k))
+start-timed : (s : tie.Start) → TimesInRange (s .args .early .now) (s .args .late .now) (startNode (s .args .k))
 start-timed s =
     let g = s .pre .stands in
-    let room = nodes-room (g .clocked .accepted) in
+    let room = nodes-room (g .times-held .accepted) in
     let last = g .room in
-    g .clocked .timed (startNode (s .args .k)) (omega arith)
+    g .times-held .timed (startNode (s .args .k)) (omega arith)
 
-finish-timed : (s : tie.Start) → Timed (s .args .early .now) (s .args .late .now) (finishNode (s .args .k))
+finish-timed : (s : tie.Start) → TimesInRange (s .args .early .now) (s .args .late .now) (finishNode (s .args .k))
 finish-timed s =
     let g = s .pre .stands in
-    let room = nodes-room (g .clocked .accepted) in
+    let room = nodes-room (g .times-held .accepted) in
     let last = g .room in
-    g .clocked .timed (finishNode (s .args .k)) (omega arith)
+    g .times-held .timed (finishNode (s .args .k)) (omega arith)
 
 -- a time, and what lies between two times, as the code has them
 abbrev told : ℤ → ℤ
 told t = toZ w32 (ofZ w32 t)
 
 abbrev less : (s : tie.Start) → ℤ
-less s = told (told (timeAt (s .args .late .now) (startNode (s .args .k))) -ℤ told (timeAt (s .args .late .now) (finishNode (s .args .k))))
+less s = told (told (timeOfNode (s .args .late .now) (startNode (s .args .k))) -ℤ told (timeOfNode (s .args .late .now) (finishNode (s .args .k))))
 
 abbrev more : (s : tie.Start) → ℤ
-more s = told (told (timeAt (s .args .early .now) (finishNode (s .args .k))) -ℤ told (timeAt (s .args .early .now) (startNode (s .args .k))))
+more s = told (told (timeOfNode (s .args .early .now) (finishNode (s .args .k))) -ℤ told (timeOfNode (s .args .early .now) (startNode (s .args .k))))
 
 module _ (s : tie.Start) (p : Plan)
-    (g : StandingOf p (s .args .early .now) (s .args .late .now) (suc (finishNode (s .args .k))) (s .args .weights .now)) where
+    (g : TableHeldFor p (s .args .early .now) (s .args .late .now) (suc (finishNode (s .args .k))) (s .args .weights .now)) where
   less-max : less s ≡ negℤ (jobAt p (s .args .k) .max)
   less-max =
       let a = s .args in
       gap-back (start-timed s .late-in) (finish-timed s .late-in)
-      ∙ less-is p (a .early .now) (a .late .now) (g .clocked) (a .k) (a .weights .now) (g .room) (g .fit)
+      ∙ less-is p (a .early .now) (a .late .now) (g .times-held) (a .k) (a .weights .now) (g .room) (g .fit)
 
   more-min : more s ≡ jobAt p (s .args .k) .min
   more-min =
       let a = s .args in
       gap-back (finish-timed s .early-in) (start-timed s .early-in)
-      ∙ more-is p (a .early .now) (a .late .now) (g .clocked) (a .k) (a .weights .now) (g .room) (g .fit)
+      ∙ more-is p (a .early .now) (a .late .now) (g .times-held) (a .k) (a .weights .now) (g .room) (g .fit)
 
 mul-s : tie.Need-mul-s
 mul-s c = search needs
@@ -115,7 +115,7 @@ move-nodes-requires c κs =
     let g = s .pre .stands in
     subst₂ (λ less more. MovesRows (a .early .now) (a .late .now) (startNode (a .k)) (finishNode (a .k)) less more (a .weights .now)) (sym (less-max s p g))
     (sym (more-min s p g))
-    (finish-moves p (a .early .now) (a .late .now) (g .clocked) (a .k) (a .weights .now) (g .room) (g .fit))
+    (finish-moves p (a .early .now) (a .late .now) (g .times-held) (a .k) (a .weights .now) (g .room) (g .fit))
 
 returns : tie.Need-returns
 returns c =
@@ -127,7 +127,7 @@ returns c =
           (r .ensures
           ∙ ap₂ (λ less more. movedRows (a .early .now) (a .late .now) (startNode (a .k)) (finishNode (a .k)) less more (a .weights .now)) (less-max s p g)
           (more-min s p g))
-          ∙ finish-is p (a .early .now) (a .late .now) (g .clocked) (a .k) (a .weights .now) (g .room) (g .fit) (g .size),
+          ∙ finish-is p (a .early .now) (a .late .now) (g .times-held) (a .k) (a .weights .now) (g .room) (g .fit) (g .size),
       ap (λ r. length (r .weights)) (r .ensures)
           ∙ movedRows-length (a .early .now) (a .late .now) (startNode (a .k)) (finishNode (a .k)) (less s) (more s) (a .weights .now),
     )

@@ -1,6 +1,6 @@
--- `bounds::places::drop_place` meets its contract: its finish, and then its start, by the laws of `StandingLaws`.
+-- `bounds::places::drop_place` meets its contract: its finish, and then its start, by the laws of `TableHeldLaws`.
 use mathlib.Core.Path.{sym, _∙_}
-use Rattle.bounds.specs.StandingLaws.{finish-standing, start-standing, place-found, place-left}
+use Rattle.bounds.specs.TableHeldLaws.{finish-table-held, start-table-held, place-found, place-left}
 use Rattle.bounds.proofs.places.drop_place.Statement.{statement}
 use Rattle.bounds.proofs.places.drop_place.Tie as tie
 
@@ -8,7 +8,7 @@ drop-finish-requires : tie.Need-drop-finish-requires
 drop-finish-requires c κs =
     let s = c .before in
     let a = s .args in
-    record { plan = s .pre .plan; stands = finish-standing (s .pre .plan) (a .early .now) (a .late .now) (a .k) (a .weights .now) (s .pre .stands) }
+    record { plan = s .pre .plan; stands = finish-table-held (s .pre .plan) (a .early .now) (a .late .now) (a .k) (a .weights .now) (s .pre .stands) }
 
 returns : tie.Need-returns
 returns c =
@@ -17,7 +17,7 @@ returns c =
       λ p g.
           sym
           (place-found p (a .early .now) (a .late .now) (a .k) (a .weights .now) (f .result) (f .last .0)
-          (f .ensures .0 p (finish-standing p (a .early .now) (a .late .now) (a .k) (a .weights .now) g))
+          (f .ensures .0 p (finish-table-held p (a .early .now) (a .late .now) (a .k) (a .weights .now) g))
           (c .if1 .taken)),
       f .ensures .1,
     )
@@ -28,10 +28,10 @@ drop-start-requires c κs =
     let a = s .args in
     let f = c .before .before .drop-finish in
     let p = s .pre .plan in
-    let g = finish-standing p (a .early .now) (a .late .now) (a .k) (a .weights .now) (s .pre .stands) in
+    let g = finish-table-held p (a .early .now) (a .late .now) (a .k) (a .weights .now) (s .pre .stands) in
     record {
       plan = p;
-      stands = start-standing p (a .early .now) (a .late .now) (a .k) (a .weights .now) (f .result) (f .last .0) (f .ensures .0 p g) g (c .before .if1 .left)
+      stands = start-table-held p (a .early .now) (a .late .now) (a .k) (a .weights .now) (f .result) (f .last .0) (f .ensures .0 p g) g (c .before .if1 .left)
           (f .ensures .1);
     }
 
@@ -42,9 +42,9 @@ returns-2 c =
     let left = c .before .before .if1 .left in
     let r = c .drop-start in (
       λ p whole.
-          let g = finish-standing p (a .early .now) (a .late .now) (a .k) (a .weights .now) whole in
+          let g = finish-table-held p (a .early .now) (a .late .now) (a .k) (a .weights .now) whole in
           let e = f .ensures .0 p g in
-          r .ensures .0 p (start-standing p (a .early .now) (a .late .now) (a .k) (a .weights .now) (f .result) (f .last .0) e g left (f .ensures .1))
+          r .ensures .0 p (start-table-held p (a .early .now) (a .late .now) (a .k) (a .weights .now) (f .result) (f .last .0) e g left (f .ensures .1))
           ∙ sym (place-left p (a .early .now) (a .late .now) (a .k) (a .weights .now) (f .result) (f .last .0) e left),
       r .ensures .1 ∙ f .ensures .1,
     )

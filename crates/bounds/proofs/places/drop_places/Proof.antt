@@ -9,9 +9,9 @@ use Rattle.bounds.specs.Events.{nodes}
 use Rattle.bounds.specs.Tables.{bounds}
 use Rattle.bounds.specs.Elimination.{eliminated}
 use Rattle.bounds.specs.Flat.{rowsOf}
-use Rattle.bounds.specs.Fit.{StandingOf}
+use Rattle.bounds.specs.Held.{TableHeldFor}
 use Rattle.bounds.specs.PlacesLaws.{eliminated-end}
-use Rattle.bounds.specs.StandingLaws.{last-standing, places-found, places-left, places-standing}
+use Rattle.bounds.specs.TableHeldLaws.{last-table-held, places-found, places-left, places-table-held}
 use Rattle.bounds.proofs.places.drop_places.Statement.{statement}
 use Rattle.bounds.proofs.places.drop_places.Tie as tie
 
@@ -19,9 +19,9 @@ abbrev Inv-loop : tie.InvT-loop
 Inv-loop weights₀ early late low count left₀ weights left =
     (left ≤ count)
     × (length weights ≡ length weights₀)
-    × ((p : Plan) → StandingOf p early late (nodes (low + count)) weights₀
+    × ((p : Plan) → TableHeldFor p early late (nodes (low + count)) weights₀
     → (eliminated p low count (rowsOf (nodes (low + count)) weights₀) ≡ eliminated p low left (rowsOf (nodes (low + left)) weights))
-    × (StandingOf p early late (nodes (low + left)) weights))
+    × (TableHeldFor p early late (nodes (low + left)) weights))
 
 abbrev μ-loop : tie.MeasureT-loop
 μ-loop weights₀ early late low count left₀ weights left = left
@@ -36,7 +36,7 @@ add-k : tie.Need-add-k Inv-loop μ-loop
 add-k c =
     let g = c .before .before .pre .stands in
     let room = g .room in
-    let most = g .clocked .accepted .jobs-most in
+    let most = g .times-held .accepted .jobs-most in
     omega (arith, c .before .loop .inv .0)
 
 drop-place-requires : tie.Need-drop-place-requires Inv-loop μ-loop
@@ -47,7 +47,7 @@ drop-place-requires c κs =
     let p = s .pre .plan in
     record {
       plan = p;
-      stands = last-standing p (a .early .now) (a .late .now) (a .low) (l .left) (l .weights) (c .before .loop-test .taken)
+      stands = last-table-held p (a .early .now) (a .late .now) (a .low) (l .left) (l .weights) (c .before .loop-test .taken)
           (l .inv .2 p (s .pre .stands) .1);
     }
 
@@ -62,7 +62,7 @@ returns c =
           sym
           (i .0
           ∙ places-found p (a .early .now) (a .late .now) (a .low) (l .left) (l .weights) some (r .result) (r .last .0)
-          (r .ensures .0 p (last-standing p (a .early .now) (a .late .now) (a .low) (l .left) (l .weights) some (i .1)))
+          (r .ensures .0 p (last-table-held p (a .early .now) (a .late .now) (a .low) (l .left) (l .weights) some (i .1)))
           (c .if1 .taken)),
       r .ensures .1 ∙ l .inv .1,
     )
@@ -81,9 +81,9 @@ loop-again c =
       r .ensures .1 ∙ l .inv .1,
       λ p g.
           let i = l .inv .2 p g in
-          let e = r .ensures .0 p (last-standing p (a .early .now) (a .late .now) (a .low) (l .left) (l .weights) some (i .1)) in (
+          let e = r .ensures .0 p (last-table-held p (a .early .now) (a .late .now) (a .low) (l .left) (l .weights) some (i .1)) in (
             i .0 ∙ places-left p (a .early .now) (a .late .now) (a .low) (l .left) (l .weights) some (r .result) (r .last .0) e left,
-            places-standing p (a .early .now) (a .late .now) (a .low) (l .left) (l .weights) some (r .result) (r .last .0) e (i .1) left (r .ensures .1),
+            places-table-held p (a .early .now) (a .late .now) (a .low) (l .left) (l .weights) some (r .result) (r .last .0) e (i .1) left (r .ensures .1),
           ),
     )
 

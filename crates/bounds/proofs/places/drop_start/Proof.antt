@@ -5,7 +5,7 @@ use lib.ListN.{length}
 use Rattle.bounds.specs.Events.{startNode}
 use Rattle.bounds.specs.Flat.{setIn}
 use Rattle.bounds.specs.FlatLaws.{joinedRows-length}
-use Rattle.bounds.specs.ClockedLaws.{start-joins, start-is}
+use Rattle.bounds.specs.TimesHeldLaws.{start-joins, start-is}
 use Rattle.bounds.proofs.places.drop_start.Statement.{statement}
 use Rattle.bounds.proofs.places.drop_start.Tie as tie
 
@@ -20,7 +20,7 @@ join-rows-requires c κs =
     let s = c .before in
     let a = s .args in
     let g = s .pre .stands in
-    start-joins (s .pre .plan) (a .early .now) (a .late .now) (g .clocked) (a .k) (a .weights .now) (g .room) (g .fit)
+    start-joins (s .pre .plan) (a .early .now) (a .late .now) (g .times-held) (a .k) (a .weights .now) (g .room) (g .fit)
 
 returns : tie.Need-returns
 returns c =
@@ -28,7 +28,7 @@ returns c =
     let r = c .join-rows in (
       λ p g.
           ap (λ r. setIn (startNode (a .k)) (r .found) (r .weights)) (r .ensures)
-          ∙ start-is p (a .early .now) (a .late .now) (g .clocked) (a .k) (a .weights .now) (g .room) (g .fit) (g .size),
+          ∙ start-is p (a .early .now) (a .late .now) (g .times-held) (a .k) (a .weights .now) (g .room) (g .fit) (g .size),
       ap (λ r. length (r .weights)) (r .ensures) ∙ joinedRows-length (a .early .now) (a .late .now) (startNode (a .k)) (a .weights .now),
     )
 

@@ -8,8 +8,8 @@ use Rattle.plan.specs.declared.Plan.{Plan}
 use Rattle.plan.specs.Limits.{mostJobs}
 use Rattle.bounds.specs.declared.Event.the-variants.{Origin}
 use Rattle.bounds.specs.Events.{nodes, earliest, latest}
-use Rattle.bounds.specs.EventTimesLaws.{JobIn, job-in}
-use Rattle.bounds.specs.FillLaws.{Filled, filled-origin, filled-place, filled-clocked}
+use Rattle.bounds.specs.EventTimesLaws.{JobInRange, job-in}
+use Rattle.bounds.specs.FillLaws.{Filled, filled-origin, filled-place, filled-times-held}
 use Rattle.bounds.proofs.Gaps.{gap-fits, gap-back, total-fits, total-back, chain-fits, chain-back}
 use Rattle.bounds.proofs.times.times_of.Statement.{statement}
 use Rattle.bounds.proofs.times.times_of.Tie as tie
@@ -43,10 +43,10 @@ shift-at-requires : tie.Need-shift-at-requires Inv-loop μ-loop
 shift-at-requires c κs = tt
 
 -- the numbers of the place
-place-in : (c : tie.After-shift-at Inv-loop μ-loop) → JobIn (c .before .job-at .result) (c .shift-at .result)
+place-in : (c : tie.After-shift-at Inv-loop μ-loop) → JobInRange (c .before .job-at .result) (c .shift-at .result)
 place-in c =
     let s = c .before .before .before .before .before in
-    subst₂ JobIn (sym (c .before .job-at .ensures)) (sym (c .shift-at .ensures))
+    subst₂ JobInRange (sym (c .before .job-at .ensures)) (sym (c .shift-at .ensures))
     (job-in (s .args .p) (s .pre) (c .before .before .before .loop .k) (omega arith))
 
 room : (c : tie.After-shift-at Inv-loop μ-loop) → c .before .before .before .loop .k < mostJobs + mostJobs
@@ -166,7 +166,7 @@ returns c =
     let l = c .before .loop in
     let p = s .args .p in
     let all : nodes (l .k) ≡ nodes (p .jobs + p .jobs) = let most = l .inv .0 in omega arith in
-    filled-clocked p (s .pre) (l .early) (l .late) (subst (λ n. Filled (earliest p) n (l .early)) all (l .inv .1))
+    filled-times-held p (s .pre) (l .early) (l .late) (subst (λ n. Filled (earliest p) n (l .early)) all (l .inv .1))
     (subst (λ n. Filled (latest p) n (l .late)) all (l .inv .2))
 
 pub times-of-spec : {M : Type 1} → statement M

@@ -34,7 +34,7 @@ calendar-of-requires c κs =
     let o = verdict-settled p (s .settle .result) (s .settle .ensures .0) _ (c .before .before .before .before .enum-told .given .1) in
     let joins = s .settle .ensures .1 .0 in (
       record {
-        clocked = timed s .times-of .ensures;
+        times-held = timed s .times-of .ensures;
         room = omega arith;
         size = s .settle .ensures .1 .1;
         fit = joins .fits _ (o .set) (o .is);

@@ -6,14 +6,15 @@ use lib.ListN.{length}
 use Rattle.calendars.specs.declared.Calendar.{Calendar}
 use Rattle.calendars.specs.CalendarText.{jobTexts, mostJobBytes}
 use Rattle.calendars.specs.CalendarTextLaws.{left-job, left-jobs}
-use Rattle.text.specs.LeftLaws.{Left, left-whole}
+use Rattle.text.specs.LeftLaws.{LeftToWrite, left-whole}
 use Rattle.calendars.proofs.print.put_jobs.Statement.{statement}
 use Rattle.calendars.proofs.print.put_jobs.Tie as tie
 
 abbrev Inv-loop : tie.InvT-loop
 Inv-loop out₀ at jobs terms least most end₀ i₀ out end i =
     let c : Calendar = record { terms = terms; «at_least» = least; «at_most» = most } in
-    (i ≤ jobs) × (end ≤ at + mostJobBytes * i) × (length out ≡ length out₀) × Left out₀ at (jobTexts jobs c 0 jobs) out end (jobTexts jobs c i (jobs - i))
+    (i ≤ jobs) × (end ≤ at + mostJobBytes * i) × (length out ≡ length out₀) × LeftToWrite out₀ at (jobTexts jobs c 0 jobs) out end
+    (jobTexts jobs c i (jobs - i))
 
 abbrev μ-loop : tie.MeasureT-loop
 μ-loop out₀ at jobs terms least most end₀ i₀ out end i = jobs - i

@@ -11,7 +11,7 @@ use Rattle.events.specs.Bits.{bitsOf, mostBits, countFrom, nextEvent}
 use Rattle.events.specs.BitsLaws.{nextEvent-from, countFrom-next, countFrom-none}
 use Rattle.calendars.specs.CalendarText.{termLines, mostTermBytes}
 use Rattle.calendars.specs.CalendarTextLaws.{stored-term-near, left-term, left-terms}
-use Rattle.text.specs.LeftLaws.{Left, left-whole}
+use Rattle.text.specs.LeftLaws.{LeftToWrite, left-whole}
 use borrow.Author.Needs.{needs}
 use Rattle.calendars.proofs.print.put_terms.Statement.{statement}
 use Rattle.calendars.proofs.print.put_terms.Tie as tie
@@ -19,7 +19,7 @@ use Rattle.calendars.proofs.print.put_terms.Tie as tie
 abbrev Inv-loop : tie.InvT-loop
 Inv-loop out₀ at key jobs set cs row count end₀ e₀ left₀ out end e left =
     (e ≤ count) × (end ≤ at + mostTermBytes * e) × (length out ≡ length out₀) × (countFrom (bitsOf set) e (mostBits - e) ≡ left)
-    × Left out₀ at (termLines jobs key (bitsOf set) cs row 0 count) out end (termLines jobs key (bitsOf set) cs row e (count - e))
+    × LeftToWrite out₀ at (termLines jobs key (bitsOf set) cs row 0 count) out end (termLines jobs key (bitsOf set) cs row e (count - e))
 
 abbrev μ-loop : tie.MeasureT-loop
 μ-loop out₀ at key jobs set cs row count end₀ e₀ left₀ out end e left = count - e

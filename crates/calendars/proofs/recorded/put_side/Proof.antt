@@ -12,7 +12,7 @@ use mir.Val.{toZ, ofZ}
 use mir.Facts.{toZ-ofZ}
 use Rattle.whole.specs.SplitLaws.{told-fits}
 use Rattle.bounds.specs.Tables.{listed}
-use Rattle.bounds.specs.Flat.{isBound, Weighed}
+use Rattle.bounds.specs.Flat.{isBound, WeightInRange}
 use Rattle.bounds.specs.BuildLaws.{listed-nil}
 use Rattle.bounds.specs.FlatLaws.{isBound-read}
 use Rattle.events.specs.Bits.{bitsOf, eventSet, withIf}
@@ -64,7 +64,7 @@ on : (c : tie.After-weight-on Inv-loop μ-loop) → not (eqb (ofZ w32 (c .weight
 on c = let fits = told-fits w32 (c .weight-on .result) (c .weight-on .ok) in isBound-read fits ∙ ap isBound (sym (toZ-ofZ fits))
 
 c-on-requires : tie.Need-c-on-requires Inv-loop μ-loop
-c-on-requires c κs = subst Weighed (sym (read c)) (c .before .before .before .before .pre .2 (c .before .before .loop .e) (c .before .loop-test .taken))
+c-on-requires c κs = subst WeightInRange (sym (read c)) (c .before .before .before .before .pre .2 (c .before .before .loop .e) (c .before .loop-test .taken))
 
 mul-c : tie.Need-mul-c Inv-loop μ-loop
 mul-c c = let h = c .before .before .before .before .before .pre .1 in omega arith

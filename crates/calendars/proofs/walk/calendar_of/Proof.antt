@@ -5,7 +5,7 @@ use native.Mathlib.Omega.{arith}
 use lib.ListN.{length}
 use Rattle.bounds.specs.Events.{startNode, finishNode, nodes}
 use Rattle.bounds.specs.Flat.{rowsOf, cells}
-use Rattle.bounds.specs.Fit.{StandingOf}
+use Rattle.bounds.specs.Held.{TableHeldFor}
 use Rattle.calendars.specs.CalendarsLaws.{Walked, Walked-start, Walked-some, Walked-finish, Walked-last, Walked-more, Walked-end}
 use Rattle.calendars.proofs.walk.calendar_of.Statement.{statement}
 use Rattle.calendars.proofs.walk.calendar_of.Tie as tie
@@ -25,7 +25,7 @@ loop-holds c =
     let s = c .before .before .before .before .before in
     let none = c .before .before .before .before .empty-calendar in
     let g = s .pre .0 in
-    (Walked-start (s .args .p) (g .clocked .accepted) (s .args .joined .now) (none .result) (g .fit) (s .pre .1) (none .ensures (s .args .p)), g .size)
+    (Walked-start (s .args .p) (g .times-held .accepted) (s .args .joined .now) (none .result) (g .fit) (s .pre .1) (none .ensures (s .args .p)), g .size)
 
 sub-left : tie.Need-sub-left Inv-loop μ-loop
 sub-left c = omega arith
@@ -33,7 +33,7 @@ sub-left c = omega arith
 add-k : tie.Need-add-k Inv-loop μ-loop
 add-k c =
     let places = c .before .loop .inv .0 .places in
-    let most = c .before .before .before .before .before .before .before .pre .0 .clocked .accepted .jobs-most in
+    let most = c .before .before .before .before .before .before .before .pre .0 .times-held .accepted .jobs-most in
     omega arith
 
 -- with the weights lent: the entry, and the loop at its test
@@ -52,22 +52,23 @@ some : (c : tie.After-weights2 Inv-loop μ-loop)
 some c =
     let s = entry c in
     let l = test c .loop in
-    Walked-some (s .args .p) (s .pre .0 .clocked .accepted) _ (l .left) (l .weights) (l .terms) (l .least) (l .most) (c .before .loop-test .taken) (l .inv .0)
+    Walked-some (s .args .p) (s .pre .0 .times-held .accepted) _ (l .left) (l .weights) (l .terms) (l .least) (l .most) (c .before .loop-test .taken)
+    (l .inv .0)
 
 -- the table before the job's finish stands
 finish-stands : (c : tie.After-weights2 Inv-loop μ-loop)
     → let a = entry c .args in
     let l = test c .loop in
-    StandingOf (a .p) (a .early .now) (a .late .now) (suc (finishNode (a .p .jobs + (l .left - 1)))) (l .weights)
+    TableHeldFor (a .p) (a .early .now) (a .late .now) (suc (finishNode (a .p .jobs + (l .left - 1)))) (l .weights)
 finish-stands c =
     let s = entry c in
     let l = test c .loop in
     let places = some c .places in
     record {
-      clocked = s .pre .0 .clocked;
+      times-held = s .pre .0 .times-held;
       room = omega arith;
       size = l .inv .1;
-      fit = Walked-finish (s .args .p) (s .pre .0 .clocked .accepted) _ (l .left - 1) (l .weights) (l .terms) (l .least) (l .most) (some c);
+      fit = Walked-finish (s .args .p) (s .pre .0 .times-held .accepted) _ (l .left - 1) (l .weights) (l .terms) (l .least) (l .most) (some c);
     }
 
 drop-finish-requires : tie.Need-drop-finish-requires Inv-loop μ-loop
@@ -76,16 +77,16 @@ drop-finish-requires c κs = record { plan = entry c .args .p; stands = finish-s
 -- and the table before its start
 start-stands : (c : tie.After-drop-finish Inv-loop μ-loop)
     → let a = entry (c .before) .args in
-    StandingOf (a .p) (a .early .now) (a .late .now) (suc (startNode (a .p .jobs + (test (c .before) .loop .left - 1)))) (c .drop-finish .last .0)
+    TableHeldFor (a .p) (a .early .now) (a .late .now) (suc (startNode (a .p .jobs + (test (c .before) .loop .left - 1)))) (c .drop-finish .last .0)
 start-stands c =
     let s = entry (c .before) in
     let l = test (c .before) .loop in
     let places = some (c .before) .places in
     record {
-      clocked = s .pre .0 .clocked;
+      times-held = s .pre .0 .times-held;
       room = omega arith;
       size = c .drop-finish .ensures .1 ∙ l .inv .1;
-      fit = Walked-last (s .args .p) (s .pre .0 .clocked .accepted) _ (l .left - 1) (l .weights) (l .terms) (l .least) (l .most) (some (c .before))
+      fit = Walked-last (s .args .p) (s .pre .0 .times-held .accepted) _ (l .left - 1) (l .weights) (l .terms) (l .least) (l .most) (some (c .before))
           (c .drop-finish .result) (c .drop-finish .last .0)
           (c .drop-finish .ensures .0 (s .args .p) (finish-stands (c .before)));
     }
@@ -93,7 +94,7 @@ start-stands c =
 put-terms-of-requires : tie.Need-put-terms-of-requires Inv-loop μ-loop
 put-terms-of-requires c κs =
     let places = some (c .before .before .before .before) .places in (
-      entry (c .before .before .before .before) .pre .0 .clocked .accepted,
+      entry (c .before .before .before .before) .pre .0 .times-held .accepted,
       omega arith,
       start-stands (c .before .before .before) .fit,
     )
@@ -102,14 +103,14 @@ mul-terms : tie.Need-mul-terms Inv-loop μ-loop
 mul-terms c =
     let w = c .before .before .before .before .before in
     let places = some w .places in
-    let most = entry w .pre .0 .clocked .accepted .jobs-most in
+    let most = entry w .pre .0 .times-held .accepted .jobs-most in
     omega arith
 
 array-set-from-terms : tie.Need-array-set-from-terms Inv-loop μ-loop
 array-set-from-terms c =
     let w = c .before .before .before .before .before in
     let places = some w .places in
-    let most = entry w .pre .0 .clocked .accepted .jobs-most in
+    let most = entry w .pre .0 .times-held .accepted .jobs-most in
     omega arith
 
 drop-start-requires : tie.Need-drop-start-requires Inv-loop μ-loop
@@ -126,7 +127,7 @@ loop-again c =
     let l = test w .loop in
     let did = c .before .before .put-terms-of in
     let started = c .drop-start in (
-      Walked-more (s .args .p) (s .pre .0 .clocked .accepted) _ (l .left - 1) (l .weights) (l .terms) (l .least) (l .most)
+      Walked-more (s .args .p) (s .pre .0 .times-held .accepted) _ (l .left - 1) (l .weights) (l .terms) (l .least) (l .most)
           (some w) (f .drop-finish .result) (f .drop-finish .last .0)
           (f .drop-finish .ensures .0 (s .args .p) (finish-stands w))
           (started .result)
@@ -146,7 +147,7 @@ returns c =
     let s = c .before .before .before .before .before .before .before in
     let l = c .before .loop in
     let none : l .left ≡ 0 = omega arith in
-    Walked-end (s .args .p) (s .pre .0 .clocked .accepted) _ (l .weights) (l .terms) (l .least) (l .most)
+    Walked-end (s .args .p) (s .pre .0 .times-held .accepted) _ (l .weights) (l .terms) (l .least) (l .most)
     (subst (λ (n : ℕ). Walked (s .args .p) (rowsOf (nodes (s .args .p .jobs + s .args .p .jobs)) (s .args .joined .now)) n (l .weights) (l .terms) (l .least)
     (l .most)) none (l .inv .0))
 

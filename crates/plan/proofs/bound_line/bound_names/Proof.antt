@@ -6,7 +6,7 @@ use denote.Ref.{now}
 use Rattle.text.specs.Bytes.{bytes}
 use Rattle.text.specs.Lines.{hasKey}
 use Rattle.text.specs.LineLaws.{hasKey-fits}
-use Rattle.plan.specs.BoundNames.{withFirst, withSecond}
+use Rattle.plan.specs.BoundNames.{thenSecond, thenNumber}
 use Rattle.plan.specs.BoundLaws.{nameTo-fits, namesIn-other, namesIn-key}
 use borrow.Author.Needs.{needs}
 use Rattle.plan.proofs.bound_line.bound_names.Statement.{statement}
@@ -43,7 +43,7 @@ returns-2 : tie.Need-returns-2
 returns-2 c =
     let e = c .before .before .before in
     let l = now (e .before .before .before .before .args .line) in
-    sym (namesIn-key l (has-key-there e) ∙ ap (withFirst l) (sym (c .before .before .name-to .ensures) ∙ c .enum-told .given .1))
+    sym (namesIn-key l (has-key-there e) ∙ ap (thenSecond l) (sym (c .before .before .name-to .ensures) ∙ c .enum-told .given .1))
 
 name-to-requires-2 : tie.Need-name-to-requires-2
 unfolding bytes
@@ -65,8 +65,8 @@ returns-3 c =
     let l = now (e .before .before .before .before .args .line) in
     sym
     (namesIn-key l (has-key-there e)
-    ∙ ap (withFirst l) (sym (f .before .before .before .name-to .ensures) ∙ f .before .a .given .1)
-    ∙ ap (withSecond (f .before .a .given .0 .0)) (sym (c .before .before .name-to2 .ensures) ∙ c .enum-told2 .given .1))
+    ∙ ap (thenSecond l) (sym (f .before .before .before .name-to .ensures) ∙ f .before .a .given .1)
+    ∙ ap (thenNumber (f .before .a .given .0 .0)) (sym (c .before .before .name-to2 .ensures) ∙ c .enum-told2 .given .1))
 
 returns-4 : tie.Need-returns-4
 returns-4 c =
@@ -75,8 +75,8 @@ returns-4 c =
     let l = now (e .before .before .before .before .args .line) in
     sym
     (namesIn-key l (has-key-there e)
-    ∙ ap (withFirst l) (sym (f .before .before .before .name-to .ensures) ∙ f .before .a .given .1)
-    ∙ ap (withSecond (f .before .a .given .0 .0)) (sym (c .before .before .before .name-to2 .ensures) ∙ c .before .b .given .1))
+    ∙ ap (thenSecond l) (sym (f .before .before .before .name-to .ensures) ∙ f .before .a .given .1)
+    ∙ ap (thenNumber (f .before .a .given .0 .0)) (sym (c .before .before .before .name-to2 .ensures) ∙ c .before .b .given .1))
 
 pub bound-names-spec : {M : Type 1} → statement M
 bound-names-spec =

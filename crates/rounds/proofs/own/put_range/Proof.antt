@@ -6,7 +6,7 @@ use lib.IntN.{pos, _-ℤ_}
 use mir.Syntax.{w32}
 use mir.Val.{toZ, ofZ}
 use mir.Facts.{toZ-ofZ}
-use Rattle.bounds.specs.Spans.{timeAt}
+use Rattle.bounds.specs.Spans.{timeOfNode}
 use Rattle.bounds.specs.Flat.{flat, putAt, putBounds}
 use Rattle.bounds.specs.BoundsLaws.{putBounds-stop, putBounds-past}
 use Rattle.rounds.specs.PutLaws.{upBound, downBound, up-is, down-is}
@@ -28,7 +28,7 @@ put-requires c κs =
     let a = s .args in (
       s .pre .0 0 (omega arith),
       s .pre .0 (a .y) (s .pre .1),
-      λ e. plus-zero-fits (timeAt (a .late .now) (a .y)) (s .pre .0 (a .y) (s .pre .1) .late-in),
+      λ e. plus-zero-fits (timeOfNode (a .late .now) (a .y)) (s .pre .0 (a .y) (s .pre .1) .late-in),
     )
 
 -- what the first `put` answers
@@ -60,13 +60,13 @@ element-copy-out-earliest c = search needs
 sub-back : tie.Need-sub-back
 sub-back c =
     let s = c .before .before .before .before .before in
-    zero-less-fits (timeAt (s .args .early .now) (s .args .y)) (s .pre .0 (s .args .y) (s .pre .1) .early-in)
+    zero-less-fits (timeOfNode (s .args .early .now) (s .args .y)) (s .pre .0 (s .args .y) (s .pre .1) .early-in)
 
 put-requires-2 : tie.Need-put-requires-2
 put-requires-2 c κs =
     let s = c .before .before .before .before .before .before in
     let a = s .args in
-    let t = timeAt (a .early .now) (a .y) in
+    let t = timeOfNode (a .early .now) (a .y) in
     let in-range = s .pre .0 (a .y) (s .pre .1) .early-in in
     let node = s .pre .1 in (
       s .pre .0 _ (omega arith),
@@ -81,7 +81,7 @@ returns-2 c =
     let r = c .before .before .before .before in
     let in-range = s .pre .0 (a .y) (s .pre .1) .early-in in
     c .put2 .ensures
-    ∙ ap (λ v. putAt (a .early .now) (a .late .now) (a .y) 0 v (pos 0) (r .put .last .0)) (zero-less-back (timeAt (a .early .now) (a .y)) in-range)
+    ∙ ap (λ v. putAt (a .early .now) (a .late .now) (a .y) 0 v (pos 0) (r .put .last .0)) (zero-less-back (timeOfNode (a .early .now) (a .y)) in-range)
     ∙ down-is (a .early .now) (a .late .now) (a .y) (r .put .last .0)
     ∙ putBounds-past (a .early .now) (a .late .now) (upBound (a .late .now) (a .y) ∷ []) (downBound (a .early .now) (a .y) ∷ []) (a .weights .now)
     (r .put .result)

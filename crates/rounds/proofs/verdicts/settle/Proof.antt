@@ -3,11 +3,11 @@ use mathlib.Core.Path.{_≡_, sym, _∙_, ap}
 use mathlib.Core.Bool.{false}
 use native.Mathlib.Omega.{arith}
 use lib.ListN.{length, length-replicate}
-use Rattle.bounds.specs.Flat.{flat, putBounds, noBound, noBounds, cells}
+use Rattle.bounds.specs.Flat.{flat, putBounds, noBoundMark, noBounds, cells}
 use Rattle.bounds.specs.FlatLaws.{putBounds-length}
 use Rattle.rounds.specs.Given.{ownBounds, betweenBounds}
 use Rattle.rounds.specs.JoinedLaws.{own-none}
-use Rattle.rounds.specs.SettleLaws.{verdict-none, none-on, first-none, own-standing, between-none}
+use Rattle.rounds.specs.SettleLaws.{verdict-none, none-on, first-none, own-table-held, between-none}
 use Rattle.rounds.proofs.verdicts.settle.Statement.{statement}
 use Rattle.rounds.proofs.verdicts.settle.Tie as tie
 
@@ -25,7 +25,7 @@ module _ (c : tie.After-put-own) where
 
   own-length : length (c .put-own .last .0) ≡ cells
   own-length = ap (λ r. length (r .weights)) own-ensures ∙ putBounds-length (start .args .early .now) (start .args .late .now) (ownBounds (start .args .p))
-      noBounds ∙ length-replicate cells noBound
+      noBounds ∙ length-replicate cells noBoundMark
 
   -- where it finds no contradiction, the array holds C(0)
   own-put : c .put-own .result ≡ false → flat false (c .put-own .last .0)
@@ -57,7 +57,7 @@ contradicted-requires c κs =
     let o = c .before .before .before .before .before .before in
     let s = start o in
     let a = s .args in (
-      own-standing (a .p) (a .early .now) (a .late .now) (s .pre .0) (o .put-own .last .0) (own-put o (c .before .before .before .before .before .if1 .left)),
+      own-table-held (a .p) (a .early .now) (a .late .now) (s .pre .0) (o .put-own .last .0) (own-put o (c .before .before .before .before .before .if1 .left)),
       omega arith,
     )
 

@@ -14,7 +14,7 @@ use Rattle.plan.specs.Accepted.{Accepted}
 use Rattle.bounds.specs.Events.{nodes}
 use Rattle.bounds.specs.Elimination.{eliminated}
 use Rattle.bounds.specs.Flat.{rowsOf, setIn, flat, cells}
-use Rattle.bounds.specs.Fit.{Fit, StandingOf}
+use Rattle.bounds.specs.Held.{JudgedTable, TableHeldFor}
 use Rattle.rounds.specs.Rounds.{unsettled, roundsFrom, outcome}
 use Rattle.rounds.specs.Next.{Nexts, nextRows}
 use Rattle.rounds.specs.Settling.{SettledOn}
@@ -25,16 +25,16 @@ use Rattle.rounds.specs.SettleLaws.{
   none-on,
   unsettled-on,
   rounds-end,
-  own-fit,
+  own-judged-table,
   own-size,
   first-round,
   Carrying,
-  carried-standing,
+  carried-table-held,
   carried-nexts,
   joined-none,
-  joined-standing,
+  joined-table-held,
   remains-none,
-  remains-fit,
+  remains-judged-table,
   round-later,
   round-settled,
   round-settled-on,
@@ -47,7 +47,7 @@ Inv-loop p early late carried₀ joined₀ jobs window rounds count m₀ carried
     (1 ≤ m)
     × (m ≤ p .rounds + 1)
     × (outcome p ≡ roundsFrom p (rowsOf (nodes (p .jobs)) carried₀) m ((p .rounds + 1) - m) (rowsOf (nodes (p .jobs)) carried))
-    × (Fit p (nodes (p .jobs)) (rowsOf (nodes (p .jobs)) carried))
+    × (JudgedTable p (nodes (p .jobs)) (rowsOf (nodes (p .jobs)) carried))
     × (length carried ≡ cells)
     × (joined ≡ joined₀)
 
@@ -69,7 +69,7 @@ loop-holds c =
       omega arith,
       omega arith,
       first-round (a .p) (a .early .now) (a .late .now) (s .pre .0) (a .carried .now) (s .pre .1 .own-put) ∙ ap (λ n. roundsFrom (a .p) c0 1 n c0) all,
-      own-fit (a .p) (a .early .now) (a .late .now) (s .pre .0) (a .carried .now) (s .pre .1 .own-put),
+      own-judged-table (a .p) (a .early .now) (a .late .now) (s .pre .0) (a .carried .now) (s .pre .1 .own-put),
       own-size (a .p) (a .early .now) (a .late .now) (s .pre .0) (a .carried .now) (s .pre .1 .own-put),
       refl,
     )
@@ -93,7 +93,7 @@ carrying : (c : tie.After-put-next-arg Inv-loop μ-loop)
 carrying c =
     let s = entry c in
     let l = test c .loop in
-    record { clocked = s .pre .0; based = s .pre .1; some = omega arith; before = l .inv .2; fit = l .inv .3; size = l .inv .4 }
+    record { times-held = s .pre .0; based = s .pre .1; some = omega arith; before = l .inv .2; fit = l .inv .3; size = l .inv .4 }
 
 window-fits : (p : Plan) → Accepted p → SFits w32 (p .window)
 window-fits p a = let l = a .window-least in let m = a .window-most in omega wholes
@@ -121,7 +121,7 @@ put-is c =
 contradicted-requires : tie.Need-contradicted-requires Inv-loop μ-loop
 contradicted-requires c κs =
     let most = entry (c .before .before .before) .pre .0 .accepted .rounds-most in
-    (carried-standing (carrying (c .before .before .before)), omega arith)
+    (carried-table-held (carrying (c .before .before .before)), omega arith)
 
 returns : tie.Need-returns Inv-loop μ-loop
 returns c =
@@ -141,8 +141,8 @@ returns c =
 -- the joined table stands
 joining : (c : tie.After-put-next Inv-loop μ-loop) → c .put-next .result ≡ false
     → let a = entry (c .before) .args in
-    StandingOf (a .p) (a .early .now) (a .late .now) (nodes (a .p .jobs + a .p .jobs)) (c .put-next .last .0)
-joining c f = joined-standing (carrying (c .before)) (c .put-next .result) (c .put-next .last .0) (put-is c) f
+    TableHeldFor (a .p) (a .early .now) (a .late .now) (nodes (a .p .jobs + a .p .jobs)) (c .put-next .last .0)
+joining c f = joined-table-held (carrying (c .before)) (c .put-next .result) (c .put-next .last .0) (put-is c) f
 
 drop-places-requires : tie.Need-drop-places-requires Inv-loop μ-loop
 drop-places-requires c κs = record {
@@ -160,7 +160,7 @@ remains-is c = c .drop-places .ensures .0 (entry (joined-by c .before) .args .p)
 contradicted-requires-2 : tie.Need-contradicted-requires-2 Inv-loop μ-loop
 contradicted-requires-2 c κs =
     let most = entry (c .before .before .before .before .before .before) .pre .0 .accepted .rounds-most in
-    (carried-standing (carrying (c .before .before .before .before .before .before)), omega arith)
+    (carried-table-held (carrying (c .before .before .before .before .before .before)), omega arith)
 
 returns-2 : tie.Need-returns-2 Inv-loop μ-loop
 returns-2 c =
@@ -240,7 +240,8 @@ loop-again c =
           ∙ ap (λ rest. roundsFrom (a .p) (rowsOf (nodes (a .p .jobs)) (a .carried .now)) (l .m + 1) rest
           (rowsOf (nodes (a .p .jobs)) (r .drop-places .last .0)))
           (one-less (a .p .rounds) (l .m)),
-      remains-fit (carrying (n .before)) (n .put-next .result) (n .put-next .last .0) (put-is n) joined (r .drop-places .result) (r .drop-places .last .0)
+      remains-judged-table (carrying (n .before)) (n .put-next .result) (n .put-next .last .0) (put-is n) joined (r .drop-places .result)
+          (r .drop-places .last .0)
           (remains-is r) left,
       r .drop-places .ensures .1 ∙ joins,
       l .inv .5,

@@ -8,7 +8,7 @@ use Rattle.lines.specs.WrittenLaws.{stored-as}
 use Rattle.runs.specs.declared.Run.{Run}
 use Rattle.runs.specs.Inside.{Inside}
 use Rattle.session.specs.Sessions.{answers}
-use Rattle.session.specs.JudgedLaws.{judged-inside, judged-settled, judged-refused}
+use Rattle.session.specs.DecidedLaws.{judged-inside, judged-settled, judged-refused}
 use Rattle.session.proofs.judged.put_session.Statement.{statement}
 use Rattle.session.proofs.judged.put_session.Tie as tie
 

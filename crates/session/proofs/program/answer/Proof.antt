@@ -2,7 +2,7 @@
 use native.Mathlib.Omega.{arith}
 use denote.Ref.{now}
 use Rattle.session.specs.HeadLaws.{head-accepted, head-refused}
-use Rattle.session.specs.JudgedLaws.{judged-decided}
+use Rattle.session.specs.DecidedLaws.{judged-decided}
 use Rattle.lines.specs.WrittenLaws.{wrote-as}
 use borrow.Author.Needs.{needs}
 use Rattle.session.proofs.program.answer.Statement.{statement}

@@ -1,11 +1,11 @@
--- `start_in`: `auto` by `startIn-auto`, else a time by `startIn-time` and then `timed-value` or `timed-bad`.
+-- `start_in`: `auto` by `startIn-auto`, else a time by `startIn-time` and then `timeStep-value` or `timeStep-bad`.
 use mathlib.Core.Path.{sym, ap, _∙_}
 use denote.Ref.{now}
 use Rattle.text.specs.Bytes.{bytes}
 use Rattle.runs.specs.declared.Step.the-variants.{Start}
 use Rattle.runs.specs.declared.Choice.the-variants.{At}
 use Rattle.session.specs.declared.StepLine.the-variants.{Bad}
-use Rattle.session.specs.StepReadLaws.{startIn-auto, startIn-time, timed-value, timed-bad}
+use Rattle.session.specs.StepReadLaws.{startIn-auto, startIn-time, timeStep-value, timeStep-bad}
 use borrow.Author.Needs.{needs}
 use Rattle.session.proofs.read.start_in.Statement.{statement}
 use Rattle.session.proofs.read.start_in.Tie as tie
@@ -38,7 +38,7 @@ returns-2 c =
     let s = now (c .before .before .before .before .before .before .before .before .args .s) in
     sym
     (startIn-time s (sym (c .before .before .before .before .before .is-text .ensures) ∙ c .before .before .before .before .if1 .left)
-    ∙ timed-value (λ t. Start (At t)) s _ (sym (c .before .before .before .read-number .ensures) ∙ c .before .n .given .1))
+    ∙ timeStep-value (λ t. Start (At t)) s _ (sym (c .before .before .before .read-number .ensures) ∙ c .before .n .given .1))
 
 returns-3 : tie.Need-returns-3
 unfolding bytes
@@ -48,7 +48,7 @@ returns-3 c =
     ap Bad (c .line-lacks .ensures)
     ∙ sym
     (startIn-time s (sym (q .before .before .before .before .before .is-text .ensures) ∙ q .before .before .before .before .if1 .left)
-    ∙ timed-bad (λ t. Start (At t)) s _ (sym (q .before .before .before .read-number .ensures) ∙ q .before .n2 .given .1))
+    ∙ timeStep-bad (λ t. Start (At t)) s _ (sym (q .before .before .before .read-number .ensures) ∙ q .before .n2 .given .1))
 
 pub start-in-spec : {M : Type 1} → statement M
 start-in-spec =

@@ -1,4 +1,5 @@
--- `put_answers`: the invariant is `Going`, that whatever writes the answers that are left has written all of them, and that the run after them is the run
+-- `put_answers`: the invariant is `AnswersSoFar`, that whatever writes the answers that are left has written all of them, and that the run after them is the
+-- run
 -- after all; one law a way, `going-..`. A step is the same three calls as on values: whose turn it is, the answer, what it makes of the run.
 use Prim.Native.Nat.{ℕ, _+_, _*_, _-_, _≤_, _<_}
 use mathlib.Core.Path.{_≡_, refl, sym, ap, subst, _∙_}
@@ -28,17 +29,17 @@ use Rattle.runs.specs.Inside.{runOf, StepInside}
 use Rattle.runs.specs.InsideLaws.{inside-step, inside-move, inside-job}
 use Rattle.runs.specs.StepLaws.{turnOf-made, moved-made}
 use Rattle.session.specs.StepRead.{stepLine}
-use Rattle.session.specs.StepAt.{stepTold, stepRefusal}
+use Rattle.session.specs.StepAt.{stepReading, stepRefusal}
 use Rattle.session.specs.AnswerText.{answerJob, answerLine, endsSession}
 use Rattle.session.specs.AnswerJobLaws.{answer-job}
-use Rattle.session.specs.GoingLaws.{Going, going-start, going-end, going-refused, going-last, going-more}
+use Rattle.session.specs.AnswersLaws.{AnswersSoFar, answersSoFar-start, answersSoFar-end, answersSoFar-refused, answersSoFar-last, answersSoFar-more}
 use borrow.Author.Needs.{needs}
 use Rattle.session.proofs.steps.put_answers.Statement.{statement}
 use Rattle.session.proofs.steps.put_answers.Tie as tie
 
 abbrev Inv-loop : tie.InvT-loop
 Inv-loop text from line out₀ at p c phase₀ before₀ seen₀ place₀ number₀ end₀ out phase before seen place number end =
-    Going p c text out₀ from line at (runOf phase₀ before₀ seen₀) out (runOf phase before seen) place number end
+    AnswersSoFar p c text out₀ from line at (runOf phase₀ before₀ seen₀) out (runOf phase before seen) place number end
 
 abbrev μ-loop : tie.MeasureT-loop
 μ-loop text from line out₀ at p c phase₀ before₀ seen₀ place₀ number₀ end₀ out phase before seen place number end =
@@ -48,7 +49,7 @@ loop-holds : tie.Need-loop-holds Inv-loop μ-loop
 loop-holds c =
     let s = c .before .before .before in
     let a = s .args in
-    going-start (a .t4) (a .t5) (now (a .text)) (now (a .out)) (a .from) (a .line) (a .at) (a .run) (s .pre .0) (s .pre .1 .1 .1 .1)
+    answersSoFar-start (a .t4) (a .t5) (now (a .text)) (now (a .out)) (a .from) (a .line) (a .at) (a .run) (s .pre .0) (s .pre .1 .1 .1 .1)
 
 read-step-at-requires : tie.Need-read-step-at-requires Inv-loop μ-loop
 read-step-at-requires c κs = omega arith
@@ -86,7 +87,7 @@ module _ (c : tie.After-step-refusal Inv-loop μ-loop) where
   line-refused =
       let told = c .before .before .enum-told .given .1 in
       c .before .before .before .before .read-step-at .ensures .0
-      ∙ ap (stepTold _ _ _) told
+      ∙ ap (stepReading _ _ _) told
       ∙ ap (λ (x : Refusal). refused x (rest faulty-loop)) (sym (c .step-refusal .ensures ∙ ap stepRefusal told))
 
 put-refused-requires : tie.Need-put-refused-requires Inv-loop μ-loop
@@ -102,7 +103,7 @@ returns c =
     let a = start l .args in
     let w = c .before .before .put-refused in
     let d =
-    going-refused (a .t4) (a .t5) (now (a .text)) (now (a .out)) (a .from) (a .line) (a .at) (a .run) (l .loop .out) (run l) (l .loop .place)
+    answersSoFar-refused (a .t4) (a .t5) (now (a .text)) (now (a .out)) (a .from) (a .line) (a .at) (a .run) (l .loop .out) (run l) (l .loop .place)
     (l .loop .number) (l .loop .end)
     (l .loop .inv) (f .before .before .before .before .before .loop-test .taken) (w .last .0) (w .result) (omega (arith, w .ensures .1)) _ (line-refused f)
     (w .ensures .0) in
@@ -145,7 +146,7 @@ module _ (c : tie.After-jobs-done Inv-loop μ-loop) where
   answered = stepped (begin .args .t4) (begin .args .t5) now-run step
 
   step-read : stepLine (rest at-loop) (at-loop .loop .number) ≡ read step (drop next (now (begin .args .text))) (at-loop .loop .number + 1)
-  step-read = c .before .before .before .before .read-step-at .ensures .0 ∙ ap (stepTold _ _ _) (c .before .before .read .given .1)
+  step-read = c .before .before .before .before .read-step-at .ensures .0 ∙ ap (stepReading _ _ _) (c .before .before .read .given .1)
 
 mul-job : tie.Need-mul-job Inv-loop μ-loop
 mul-job c = let j = job-most c in omega arith
@@ -233,7 +234,8 @@ returns-2 c =
     let a = begin k .args in
     let l = at-loop k in
     let w =
-    going-last (a .t4) (a .t5) (now (a .text)) (now (a .out)) (a .from) (a .line) (a .at) (a .run) (l .loop .out) (run l) (l .loop .place) (l .loop .number)
+    answersSoFar-last (a .t4) (a .t5) (now (a .text)) (now (a .out)) (a .from) (a .line) (a .at) (a .run) (l .loop .out) (run l) (l .loop .place)
+    (l .loop .number)
     (l .loop .end)
     (l .loop .inv) (k .before .before .before .before .before .loop-test .taken) _ _ (put m .put-answer .ensures .1) (step k) (next k) (answered k)
     (step-read k) refl (stored m)
@@ -259,10 +261,11 @@ loop-again c =
     let l = at-loop k in
     subst
     (λ (r : Run).
-    Going (a .t4) (a .t5) (now (a .text)) (now (a .out)) (a .from) (a .line) (a .at) (a .run) (put m .put-answer .last .0) r (next k) (l .loop .number + 1)
+    AnswersSoFar (a .t4) (a .t5) (now (a .text)) (now (a .out)) (a .from) (a .line) (a .at) (a .run) (put m .put-answer .last .0) r (next k)
+    (l .loop .number + 1)
     (put m .put-answer .result))
     (run-is m)
-    (going-more (a .t4) (a .t5) (now (a .text)) (now (a .out)) (a .from) (a .line) (a .at) (a .run) (l .loop .out) (run l) (l .loop .place)
+    (answersSoFar-more (a .t4) (a .t5) (now (a .text)) (now (a .out)) (a .from) (a .line) (a .at) (a .run) (l .loop .out) (run l) (l .loop .place)
     (l .loop .number) (l .loop .end)
     (l .loop .inv) (k .before .before .before .before .before .loop-test .taken) _ _ (put m .put-answer .ensures .1) (step k) (next k) (answered k)
     (step-read k) refl (stored m)
@@ -277,7 +280,8 @@ returns-3 c =
     let l = c .before in
     let a = start l .args in
     let w =
-    going-end (a .t4) (a .t5) (now (a .text)) (now (a .out)) (a .from) (a .line) (a .at) (a .run) (l .loop .out) (run l) (l .loop .place) (l .loop .number)
+    answersSoFar-end (a .t4) (a .t5) (now (a .text)) (now (a .out)) (a .from) (a .line) (a .at) (a .run) (l .loop .out) (run l) (l .loop .place)
+    (l .loop .number)
     (l .loop .end)
     (l .loop .inv) (c .loop-test .left) in
     (w .stored, (w .left, w .short))

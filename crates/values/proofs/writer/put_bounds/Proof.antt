@@ -5,7 +5,7 @@ use mathlib.Core.List.{List}
 use native.Mathlib.Omega.{arith}
 use lib.ListN.{length, take}
 use Rattle.plan.specs.Limits.{mostBounds}
-use Rattle.text.specs.LeftLaws.{Left, leftFrom, left-places, left-next, left-stop, left-out}
+use Rattle.text.specs.LeftLaws.{LeftToWrite, leftFrom, left-places, left-next, left-stop, left-out}
 use Rattle.plan.specs.declared.Bound.{Bound}
 use Rattle.plan.specs.PlanLines.{noBound}
 use Rattle.plan.specs.PlanWritten.{boundsText}
@@ -18,7 +18,7 @@ text ds = boundsText ds
 
 abbrev Inv-loop : tie.InvT-loop
 Inv-loop out₀ at bounds bound end₀ i₀ out end i =
-    (i ≤ mostBounds) × (end ≤ at + 73 * i) × (length out ≡ length out₀) × Left out₀ at (text (take bounds bound)) out end (leftFrom text bound bounds i)
+    (i ≤ mostBounds) × (end ≤ at + 73 * i) × (length out ≡ length out₀) × LeftToWrite out₀ at (text (take bounds bound)) out end (leftFrom text bound bounds i)
 
 abbrev μ-loop : tie.MeasureT-loop
 μ-loop out₀ at bounds bound end₀ i₀ out end i = bounds - i

@@ -5,7 +5,7 @@ use mathlib.Core.List.{List, []}
 use native.Mathlib.Omega.{arith}
 use lib.ListN.{length, take}
 use Rattle.plan.specs.Limits.{mostJobs}
-use Rattle.text.specs.LeftLaws.{Left, leftFrom, left-places, left-next, left-stop, left-out}
+use Rattle.text.specs.LeftLaws.{LeftToWrite, leftFrom, left-places, left-next, left-stop, left-out}
 use Rattle.plan.specs.declared.Job.{Job}
 use Rattle.plan.specs.PlanLines.{noJob}
 use Rattle.plan.specs.PlanWritten.{jobsText}
@@ -18,7 +18,7 @@ text js = jobsText js []
 
 abbrev Inv-loop : tie.InvT-loop
 Inv-loop out₀ at jobs job end₀ i₀ out end i =
-    (i ≤ mostJobs) × (end ≤ at + 120 * i) × (length out ≡ length out₀) × Left out₀ at (text (take jobs job)) out end (leftFrom text job jobs i)
+    (i ≤ mostJobs) × (end ≤ at + 120 * i) × (length out ≡ length out₀) × LeftToWrite out₀ at (text (take jobs job)) out end (leftFrom text job jobs i)
 
 abbrev μ-loop : tie.MeasureT-loop
 μ-loop out₀ at jobs job end₀ i₀ out end i = jobs - i

@@ -23,18 +23,18 @@ use Rattle.runs.specs.ValueLimits.{isCalendar}
 use Rattle.runs.specs.KeepsLaws.{newRun-is}
 use Rattle.runs.specs.MadeLaws.{made-inside}
 use Rattle.runs.specs.Inside.{Inside}
-use Rattle.session.specs.Sessions.{answers, toldSession, judgedSession}
-use Rattle.session.specs.Judged.{Judged}
+use Rattle.session.specs.Sessions.{answers, verdictSession, judgedSession}
+use Rattle.session.specs.Decided.{PlanDecided}
 
 -- ---- a plan that was decided
 
-pub judged-decided : (p : Plan) → Accepted p → (v : Verdict) (c : Calendar) → v ≡ verdict p → c ≡ madeCalendar p (outcome p) → Judged p v c
+pub judged-decided : (p : Plan) → Accepted p → (v : Verdict) (c : Calendar) → v ≡ verdict p → c ≡ madeCalendar p (outcome p) → PlanDecided p v c
 judged-decided p a v c e d =
     record { accepted = a; verdict = e; calendar = d; inside = λ m t o. ap (isCalendar p) (d ∙ ap (madeCalendar p) o) ∙ made-inside p a m t o }
 
 -- ---- what a judged session prints
 
-module _ (p : Plan) (v : Verdict) (c : Calendar) (j : Judged p v c) where
+module _ (p : Plan) (v : Verdict) (c : Calendar) (j : PlanDecided p v c) where
   pub judged-inside : (w : VerdictTold) → w ≡ verdictTold v → (m : ℕ) → w ≡ told.Settled m → Inside p c newRun
   judged-inside w d m e = of (outcome p) refl (sym (told-settled v m (sym d ∙ e)) ∙ j .verdict)
     where
@@ -45,14 +45,14 @@ module _ (p : Plan) (v : Verdict) (c : Calendar) (j : Judged p v c) where
 
   -- by its verdict: settled, or refused
   module _ (s : List ℕ) (n : ℕ) (w : VerdictTold) (d : w ≡ verdictTold v) where
-    judged-told : toldSession p w c s n ≡ judgedSession p (outcome p) s n
+    judged-told : verdictSession p w c s n ≡ judgedSession p (outcome p) s n
     unfolding judgedSession
     judged-told =
-        ap (λ (w : VerdictTold). toldSession p w c s n) (d ∙ ap verdictTold (j .verdict))
-        ∙ ap (λ (c : Calendar). toldSession p (verdictTold (verdict p)) c s n) (j .calendar)
+        ap (λ (w : VerdictTold). verdictSession p w c s n) (d ∙ ap verdictTold (j .verdict))
+        ∙ ap (λ (c : Calendar). verdictSession p (verdictTold (verdict p)) c s n) (j .calendar)
 
     pub judged-settled : (m : ℕ) → w ≡ told.Settled m → answers p c newRun s n ≡ judgedSession p (outcome p) s n
-    judged-settled m e = sym (ap (λ (w : VerdictTold). toldSession p w c s n) e) ∙ judged-told
+    judged-settled m e = sym (ap (λ (w : VerdictTold). verdictSession p w c s n) e) ∙ judged-told
 
     pub judged-refused : (x : Refusal) → w ≡ told.Refused x → refusedLine x ≡ judgedSession p (outcome p) s n
-    judged-refused x e = sym (ap (λ (w : VerdictTold). toldSession p w c s n) e) ∙ judged-told
+    judged-refused x e = sym (ap (λ (w : VerdictTold). verdictSession p w c s n) e) ∙ judged-told

@@ -11,7 +11,7 @@ use Rattle.rounds.specs.Rounds.{settled, outcome, verdict}
 use Rattle.calendars.specs.Calendars.{madeCalendar}
 use Rattle.runs.specs.ValueLimits.{isCalendar}
 
-pub record Judged (p : Plan) (v : Verdict) (c : Calendar) : Type 0 where
+pub record PlanDecided (p : Plan) (v : Verdict) (c : Calendar) : Type 0 where
   pub accepted : Accepted p
   pub verdict : v ≡ verdict p
   pub calendar : c ≡ madeCalendar p (outcome p)

@@ -13,34 +13,34 @@ use Rattle.bounds.specs.Events.{earliest, latest, eventOf, nodes}
 use Rattle.bounds.specs.Judgements.{judged}
 use Rattle.bounds.specs.Tables.{Cell, upto, Rows, at}
 use Rattle.bounds.specs.Spans.{Times}
-use Rattle.bounds.specs.Flat.{AllTimed, rowsOf, cells}
+use Rattle.bounds.specs.Flat.{AllTimesInRange, rowsOf, cells}
 
 -- a cell that holds a bound of at most w
-pub record AtMost (c : Cell) (w : ℤ) : Type 0 where
+pub record CellAtMost (c : Cell) (w : ℤ) : Type 0 where
   pub weight : ℤ
   pub held : c ≡ upto weight
   pub most : weight ≤ℤ w
 
 -- a table on k nodes
-pub record Fit (p : Plan) (k : ℕ) (t : Rows) : Type 0 where
+pub record JudgedTable (p : Plan) (k : ℕ) (t : Rows) : Type 0 where
   pub kept : (y z : ℕ) (w : ℤ) → y < k → z < k → at t y z ≡ upto w → judged p (eventOf y) (eventOf z) w ≡ Kept
-  pub above : (y : ℕ) → 0 < y → y < k → AtMost (at t 0 y) (latest p (eventOf y))
-  pub below : (y : ℕ) → 0 < y → y < k → AtMost (at t y 0) (negℤ (earliest p (eventOf y)))
+  pub above : (y : ℕ) → 0 < y → y < k → CellAtMost (at t 0 y) (latest p (eventOf y))
+  pub below : (y : ℕ) → 0 < y → y < k → CellAtMost (at t y 0) (negℤ (earliest p (eventOf y)))
 
 -- two arrays that hold the times of an accepted plan, of both windows
-pub record Clocked (p : Plan) (early late : List ℤ) : Type 0 where
+pub record TimesHeld (p : Plan) (early late : List ℤ) : Type 0 where
   pub accepted : Accepted p
   pub times : Times p (nodes (p .jobs + p .jobs)) early late
-  pub timed : AllTimed early late
+  pub timed : AllTimesInRange early late
 
 -- with these, an array that holds a table on so many of the plan's nodes: what the elimination of its last events rests on
-pub record StandingOf (p : Plan) (early late : List ℤ) (k : ℕ) (ws : List ℤ) : Type 0 where
-  pub clocked : Clocked p early late
+pub record TableHeldFor (p : Plan) (early late : List ℤ) (k : ℕ) (ws : List ℤ) : Type 0 where
+  pub times-held : TimesHeld p early late
   pub room : k ≤ nodes (p .jobs + p .jobs)
   pub size : length ws ≡ cells
-  pub fit : Fit p k (rowsOf k ws)
+  pub fit : JudgedTable p k (rowsOf k ws)
 
 -- and the same of some plan
-pub record Standing (early late : List ℤ) (k : ℕ) (ws : List ℤ) : Type 0 where
+pub record TableHeld (early late : List ℤ) (k : ℕ) (ws : List ℤ) : Type 0 where
   pub plan : Plan
-  pub stands : StandingOf plan early late k ws
+  pub stands : TableHeldFor plan early late k ws

@@ -12,8 +12,8 @@ use Rattle.bounds.specs.Events.{startNode, finishNode, nodes}
 use Rattle.bounds.specs.Tables.{contradiction, bounds}
 use Rattle.bounds.specs.Elimination.{withoutStart, withoutFinish, withoutPlace, eliminated}
 use Rattle.bounds.specs.Flat.{rowsOf, setIn}
-use Rattle.bounds.specs.Fit.{Fit, StandingOf}
-use Rattle.bounds.specs.FitLaws.{withoutFinish-fit}
+use Rattle.bounds.specs.Held.{JudgedTable, TableHeldFor}
+use Rattle.bounds.specs.JudgedTableLaws.{withoutFinish-judged-table}
 use Rattle.bounds.specs.PlacesLaws.{
   setIn-found,
   setIn-left,
@@ -21,7 +21,7 @@ use Rattle.bounds.specs.PlacesLaws.{
   place-next,
   withoutPlace-none,
   withoutPlace-some,
-  withoutPlace-fit,
+  withoutPlace-judged-table,
   eliminated-none,
   eliminated-some,
 }
@@ -29,8 +29,8 @@ use Rattle.bounds.specs.PlacesLaws.{
 -- ---- one place
 
 module _ (p : Plan) (early late : List ℤ) (k : ℕ) (ws : List ℤ) where
-  pub finish-standing : StandingOf p early late (nodes (k + 1)) ws → StandingOf p early late (suc (finishNode k)) ws
-  finish-standing g = subst (λ n. StandingOf p early late n ws) (sym (place-next k)) g
+  pub finish-table-held : TableHeldFor p early late (nodes (k + 1)) ws → TableHeldFor p early late (suc (finishNode k)) ws
+  finish-table-held g = subst (λ n. TableHeldFor p early late n ws) (sym (place-next k)) g
 
   -- what its finish leaves
   module _ (found : Bool) (us : List ℤ) (e : setIn (finishNode k) found us ≡ withoutFinish p k (rowsOf (suc (finishNode k)) ws)) where
@@ -45,16 +45,17 @@ module _ (p : Plan) (early late : List ℤ) (k : ℕ) (ws : List ℤ) where
         withoutPlace-some p k (rowsOf (nodes (k + 1)) ws) (rowsOf (suc (startNode k)) us)
         (sym finish-is ∙ setIn-left (finishNode k) found us f ∙ ap (λ n. bounds (rowsOf n us)) (finish-next k))
 
-    pub start-standing : StandingOf p early late (suc (finishNode k)) ws → found ≡ false → length us ≡ length ws
-        → StandingOf p early late (suc (startNode k)) us
-    start-standing g f size =
+    pub start-table-held : TableHeldFor p early late (suc (finishNode k)) ws → found ≡ false → length us ≡ length ws
+        → TableHeldFor p early late (suc (startNode k)) us
+    start-table-held g f size =
         let room = g .room in
         record {
-          clocked = g .clocked;
+          times-held = g .times-held;
           room = omega arith;
           size = size ∙ g .size;
-          fit = subst (λ n. Fit p n (rowsOf n us)) (finish-next k)
-              (withoutFinish-fit p k (rowsOf (suc (finishNode k)) ws) (rowsOf (finishNode k) us) (g .fit) (sym e ∙ setIn-left (finishNode k) found us f));
+          fit = subst (λ n. JudgedTable p n (rowsOf n us)) (finish-next k)
+              (withoutFinish-judged-table p k (rowsOf (suc (finishNode k)) ws) (rowsOf (finishNode k) us) (g .fit)
+              (sym e ∙ setIn-left (finishNode k) found us f));
         }
 
 -- ---- the last of several places
@@ -63,8 +64,8 @@ last-place : (low left : ℕ) → 0 < left → nodes (low + left) ≡ nodes (low
 last-place low left h = omega arith
 
 module _ (p : Plan) (early late : List ℤ) (low left : ℕ) (ws : List ℤ) (some : 0 < left) where
-  pub last-standing : StandingOf p early late (nodes (low + left)) ws → StandingOf p early late (nodes (low + (left - 1) + 1)) ws
-  last-standing g = subst (λ n. StandingOf p early late n ws) (last-place low left some) g
+  pub last-table-held : TableHeldFor p early late (nodes (low + left)) ws → TableHeldFor p early late (nodes (low + (left - 1) + 1)) ws
+  last-table-held g = subst (λ n. TableHeldFor p early late n ws) (last-place low left some) g
 
   module _ (found : Bool) (us : List ℤ)
       (e : setIn (nodes (low + (left - 1))) found us ≡ withoutPlace p (low + (left - 1)) (rowsOf (nodes (low + (left - 1) + 1)) ws)) where
@@ -81,15 +82,15 @@ module _ (p : Plan) (early late : List ℤ) (low left : ℕ) (ws : List ℤ) (so
         eliminated-some p low left (rowsOf (nodes (low + left)) ws) some (rowsOf (nodes (low + (left - 1))) us)
         (sym place-is ∙ setIn-left (nodes (low + (left - 1))) found us f)
 
-    pub places-standing : StandingOf p early late (nodes (low + left)) ws → found ≡ false → length us ≡ length ws
-        → StandingOf p early late (nodes (low + (left - 1))) us
-    places-standing g f size =
+    pub places-table-held : TableHeldFor p early late (nodes (low + left)) ws → found ≡ false → length us ≡ length ws
+        → TableHeldFor p early late (nodes (low + (left - 1))) us
+    places-table-held g f size =
         let room = g .room in
         record {
-          clocked = g .clocked;
+          times-held = g .times-held;
           room = omega arith;
           size = size ∙ g .size;
-          fit = withoutPlace-fit p (low + (left - 1)) (rowsOf (nodes (low + (left - 1) + 1)) ws) (rowsOf (nodes (low + (left - 1))) us)
-              (last-standing g .fit)
+          fit = withoutPlace-judged-table p (low + (left - 1)) (rowsOf (nodes (low + (left - 1) + 1)) ws) (rowsOf (nodes (low + (left - 1))) us)
+              (last-table-held g .fit)
               (sym e ∙ setIn-left (nodes (low + (left - 1))) found us f);
         }

@@ -23,7 +23,7 @@ use Rattle.bounds.specs.Tables.{
   Cell,
   off,
   upto,
-  least,
+  lesserCell,
   plus,
   at,
   build,
@@ -38,37 +38,47 @@ use Rattle.bounds.specs.Tables.{
   judgedSet,
 }
 use Rattle.bounds.specs.BuildLaws.{at-build}
-use Rattle.bounds.specs.TablesLaws.{least-off, anyBelow-ext, build-ext, JudgedCell, KeptCell, judged-again, judged-kept, judgedSet-none, judgedSet-kept}
+use Rattle.bounds.specs.TablesLaws.{
+  lesserCell-off,
+  anyBelow-ext,
+  build-ext,
+  JudgedCell,
+  KeptCell,
+  judged-again,
+  judged-kept,
+  judgedSet-none,
+  judgedSet-kept,
+}
 use Rattle.bounds.specs.Spans.{Times}
 use Rattle.bounds.specs.SpansLaws.{judgedAt-is}
-use Rattle.bounds.specs.Flat.{noBound, place, cellOf, cellAt, rowsOf, putAt, cells}
-use Rattle.bounds.specs.FlatLaws.{putAt-same, putAt-length, Outcome}
+use Rattle.bounds.specs.Flat.{noBoundMark, place, cellOf, cellAt, rowsOf, putAt, cells}
+use Rattle.bounds.specs.FlatLaws.{putAt-same, putAt-length, FlatOutcome}
 use Rattle.bounds.specs.PutLaws.{putAt-left}
 use Rattle.bounds.specs.StartLaws.{place-one}
 
 -- ---- the lesser of three
 
 lesser-of-three : (w v u : ℤ) (a b : Bool) → leZ w v ≡ a → leZ v u ≡ b
-    → least (cond a (upto w) (upto v)) (upto u) ≡ least (upto w) (cond b (upto v) (upto u))
-unfolding least
+    → lesserCell (cond a (upto w) (upto v)) (upto u) ≡ lesserCell (upto w) (cond b (upto v) (upto u))
+unfolding lesserCell
 lesser-of-three w v u true true e f = let top : leZ w u ≡ true = omega whole in rw (e, top)
 lesser-of-three w v u true false e f = refl
 lesser-of-three w v u false true e f = rw (e, f)
 lesser-of-three w v u false false e f = let top : leZ w u ≡ false = omega whole in rw (f, top)
 
-pub least-assoc : (c d e : Cell) → least (least c d) e ≡ least c (least d e)
-unfolding least
+pub least-assoc : (c d e : Cell) → lesserCell (lesserCell c d) e ≡ lesserCell c (lesserCell d e)
+unfolding lesserCell
 least-assoc off d e = refl
 least-assoc (upto w) off e = refl
 least-assoc (upto w) (upto v) off = by (leZ w v)
   where
-    by : (b : Bool) → least (cond b (upto w) (upto v)) off ≡ cond b (upto w) (upto v)
+    by : (b : Bool) → lesserCell (cond b (upto w) (upto v)) off ≡ cond b (upto w) (upto v)
     by true = refl
     by false = refl
 least-assoc (upto w) (upto v) (upto u) = lesser-of-three w v u (leZ w v) (leZ v u) refl refl
 
-pub least-comm : (c d : Cell) → least c d ≡ least d c
-unfolding least
+pub least-comm : (c d : Cell) → lesserCell c d ≡ lesserCell d c
+unfolding lesserCell
 least-comm off off = refl
 least-comm off (upto v) = refl
 least-comm (upto w) off = refl
@@ -111,8 +121,8 @@ judgedSet-same p k f g h =
 -- ---- what is left of a cell does for the cell
 
 -- a bound that is left out, beside another
-beside-left-out : (p : Plan) (y z : ℕ) (w : ℤ) (e : Cell) → judged p (eventOf y) (eventOf z) w ≡ LeftOut → SameLeft p y z (least (upto w) e) e
-unfolding least judgement
+beside-left-out : (p : Plan) (y z : ℕ) (w : ℤ) (e : Cell) → judged p (eventOf y) (eventOf z) w ≡ LeftOut → SameLeft p y z (lesserCell (upto w) e) e
+unfolding lesserCell judgement
 beside-left-out p y z w off h = record { sound = ap isContradiction h; left = ap (λ j. keptCell j (upto w)) h }
 beside-left-out p y z w (upto v) h = by (leZ w v) refl
   where
@@ -124,8 +134,8 @@ beside-left-out p y z w (upto v) h = by (leZ w v) refl
 
 -- a contradiction, beside another bound
 beside-none : (p : Plan) (y z : ℕ) (w : ℤ) (e : Cell) → judged p (eventOf y) (eventOf z) w ≡ Contradiction
-    → isContradiction (judgement p y z (least (upto w) e)) ≡ true
-unfolding least judgement
+    → isContradiction (judgement p y z (lesserCell (upto w) e)) ≡ true
+unfolding lesserCell judgement
 beside-none p y z w off h = ap isContradiction h
 beside-none p y z w (upto v) h = by (leZ w v) refl
   where
@@ -134,28 +144,28 @@ beside-none p y z w (upto v) h = by (leZ w v) refl
     by false q = ap isContradiction (judged-none p (eventOf y) (eventOf z) w v (omega whole) h)
 
 left-does-by : (p : Plan) (y z : ℕ) (w : ℤ) (e : Cell) (j : Judgement) → judged p (eventOf y) (eventOf z) w ≡ j → isContradiction j ≡ false
-    → SameLeft p y z (least (upto w) e) (least (keptCell j (upto w)) e)
-unfolding least
+    → SameLeft p y z (lesserCell (upto w) e) (lesserCell (keptCell j (upto w)) e)
+unfolding lesserCell
 left-does-by p y z w e Contradiction h s = clash (cc)
 left-does-by p y z w e LeftOut h s = beside-left-out p y z w e h
 left-does-by p y z w e Kept h s = same-left p y z refl
 
 left-does-cell : (p : Plan) (y z : ℕ) (c e : Cell) → isContradiction (judgement p y z c) ≡ false
-    → SameLeft p y z (least c e) (least (keptCell (judgement p y z c) c) e)
+    → SameLeft p y z (lesserCell c e) (lesserCell (keptCell (judgement p y z c) c) e)
 unfolding judgement
 left-does-cell p y z off e s = same-left p y z refl
 left-does-cell p y z (upto w) e s = left-does-by p y z w e (judged p (eventOf y) (eventOf z) w) refl s
 
-left-does : (p : Plan) (y z : ℕ) {c d : Cell} (e : Cell) → JudgedCell p y z c d → SameLeft p y z (least c e) (least d e)
-left-does p y z {c} e j = subst (λ d. SameLeft p y z (least c e) (least d e)) (sym (j .left)) (left-does-cell p y z c e (j .sound))
+left-does : (p : Plan) (y z : ℕ) {c d : Cell} (e : Cell) → JudgedCell p y z c d → SameLeft p y z (lesserCell c e) (lesserCell d e)
+left-does p y z {c} e j = subst (λ d. SameLeft p y z (lesserCell c e) (lesserCell d e)) (sym (j .left)) (left-does-cell p y z c e (j .sound))
 
 none-by : (p : Plan) (y z : ℕ) (w : ℤ) (e : Cell) (j : Judgement) → judged p (eventOf y) (eventOf z) w ≡ j → isContradiction j ≡ true
-    → isContradiction (judgement p y z (least (upto w) e)) ≡ true
+    → isContradiction (judgement p y z (lesserCell (upto w) e)) ≡ true
 none-by p y z w e Contradiction h s = beside-none p y z w e h
 none-by p y z w e LeftOut h s = clash (cc)
 none-by p y z w e Kept h s = clash (cc)
 
-none-stays : (p : Plan) (y z : ℕ) (c e : Cell) → isContradiction (judgement p y z c) ≡ true → isContradiction (judgement p y z (least c e)) ≡ true
+none-stays : (p : Plan) (y z : ℕ) (c e : Cell) → isContradiction (judgement p y z c) ≡ true → isContradiction (judgement p y z (lesserCell c e)) ≡ true
 unfolding judgement
 none-stays p y z off e s = clash (cc)
 none-stays p y z (upto w) e s = none-by p y z w e (judged p (eventOf y) (eventOf z) w) refl s
@@ -173,22 +183,22 @@ at-place P u x y z a b f g = at-place-by P u x y z a b (eqb (place u x) (place y
 -- ---- towards a set
 
 -- an array and the cells still to be put lead to a set on k nodes
-pub record Towards (p : Plan) (k : ℕ) (rest : ℕ → ℕ → Cell) (set : Set) (ws : List ℤ) : Type 0 where
+pub record LeadsTo (p : Plan) (k : ℕ) (rest : ℕ → ℕ → Cell) (set : Set) (ws : List ℤ) : Type 0 where
   pub len : length ws ≡ cells
   pub kept : (y z : ℕ) → y < k → z < k → KeptCell p y z (cellAt ws y z)
-  pub leads : set ≡ judgedSet p k (λ y z. least (cellAt ws y z) (rest y z))
+  pub leads : set ≡ judgedSet p k (λ y z. lesserCell (cellAt ws y z) (rest y z))
 
 module _ (p : Plan) (k : ℕ) (early late : List ℤ) (times : Times p k early late) (small : k ≤ mostNodes) (set : Set) (ws : List ℤ) where
-  pub putAt-towards : (rest more : ℕ → ℕ → Cell) → Towards p k more set ws → (y z : ℕ) → y < k → z < k → (v a : ℤ)
-      → (eqZ v noBound ≡ false → (v +ℤ a) <ℤ noBound)
-      → more y z ≡ least (plus (cellOf v) a) (rest y z)
+  pub putAt-leads-to : (rest more : ℕ → ℕ → Cell) → LeadsTo p k more set ws → (y z : ℕ) → y < k → z < k → (v a : ℤ)
+      → (eqZ v noBoundMark ≡ false → (v +ℤ a) <ℤ noBoundMark)
+      → more y z ≡ lesserCell (plus (cellOf v) a) (rest y z)
       → ((u x : ℕ) → u < k → x < k → (place u x ≡ place y z → ⊥) → more u x ≡ rest u x)
-      → Outcome (Towards p k rest set) (set ≡ contradiction) (putAt early late y z v a ws)
-  putAt-towards rest more t y z h l v a low here there =
+      → FlatOutcome (LeadsTo p k rest set) (set ≡ contradiction) (putAt early late y z v a ws)
+  putAt-leads-to rest more t y z h l v a low here there =
       let c = cellAt ws y z in
       let d = plus (cellOf v) a in
       let r = putAt early late y z v a ws in
-      let whole-cell : least c (more y z) ≡ least (least c d) (rest y z) = ap (least c) here ∙ sym (least-assoc c d (rest y z)) in
+      let whole-cell : lesserCell c (more y z) ≡ lesserCell (lesserCell c d) (rest y z) = ap (lesserCell c) here ∙ sym (least-assoc c d (rest y z)) in
       let o = putAt-left p early late y z ws (judgedAt-is p k early late times y z h l) (omega (arith, t .len)) (t .kept y z h l) v a low in
       let same : (u x : ℕ) → (place u x ≡ place y z → ⊥) → cellAt (r .weights) u x ≡ cellAt ws u x
       = λ u x n. ap cellOf (putAt-same early late y z v a ws (place u x) (pos 0) n) in
@@ -201,7 +211,7 @@ module _ (p : Plan) (k : ℕ) (early late : List ℤ) (times : Times p k early l
               z = z;
               y-node = h;
               z-node = l;
-              found = ap (λ c. isContradiction (judgement p y z c)) whole-cell ∙ none-stays p y z (least c d) (rest y z) (o .fails f);
+              found = ap (λ c. isContradiction (judgement p y z c)) whole-cell ∙ none-stays p y z (lesserCell c d) (rest y z) (o .fails f);
             });
         keeps = λ f.
             record {
@@ -213,20 +223,21 @@ module _ (p : Plan) (k : ℕ) (early late : List ℤ) (times : Times p k early l
               leads = t .leads
                   ∙ judgedSet-same p k _ _
                   (λ u x m n.
-                  at-place (λ u x. SameLeft p u x (least (cellAt ws u x) (more u x)) (least (cellAt (r .weights) u x) (rest u x))) u x y z (omega arith)
+                  at-place (λ u x. SameLeft p u x (lesserCell (cellAt ws u x) (more u x)) (lesserCell (cellAt (r .weights) u x) (rest u x))) u x y z
                   (omega arith)
-                  (λ q. same-left p u x (ap₂ least (sym (same u x q)) (there u x m n q)))
+                  (omega arith)
+                  (λ q. same-left p u x (ap₂ lesserCell (sym (same u x q)) (there u x m n q)))
                   (let e = left-does p y z (rest y z) (o .keeps f) in
                   let g = same-left p y z whole-cell in
                   record { sound = g .sound ∙ e .sound; left = g .left ∙ e .left }));
             };
       }
 
-  pub towards-end : (rest : ℕ → ℕ → Cell) → ((y z : ℕ) → y < k → z < k → rest y z ≡ off) → Towards p k rest set ws → set ≡ bounds (rowsOf k ws)
-  towards-end rest none t =
+  pub leads-to-end : (rest : ℕ → ℕ → Cell) → ((y z : ℕ) → y < k → z < k → rest y z ≡ off) → LeadsTo p k rest set ws → set ≡ bounds (rowsOf k ws)
+  leads-to-end rest none t =
       t .leads
       ∙ judgedSet-kept p k _ (cellAt ws)
       (λ y z h l.
       subst (λ c. JudgedCell p y z c (cellAt ws y z))
-      (sym (ap (least (cellAt ws y z)) (none y z h l) ∙ least-off (cellAt ws y z)))
+      (sym (ap (lesserCell (cellAt ws y z)) (none y z h l) ∙ lesserCell-off (cellAt ws y z)))
       (judged-again p y z (cellAt ws y z) (t .kept y z h l)))
