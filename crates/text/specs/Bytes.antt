@@ -1,7 +1,6 @@
 -- A quoted text as the list of its bytes, so that the definitions can show what stands in a line.
 use Rattle.std.specs.Prelude.{ℕ, List, [], ◌∷◌}
 use Prim.Native.Char.{code}
-use Prim.Native.String as String
 use Prim.Native.String.{String}
 
 -- every quoted text here is ASCII, where a character's code is its byte

@@ -1,28 +1,29 @@
 // Bytes of a text: where a line ends, its key, and its decimal number, read and written. This crate knows nothing of refusals.
+#![tactic(auto)]
 
 // What the text of a number can lack: the form of a number, or its range.
-#[derive(Drop)]
+#[derive(Clone, Copy)]
 pub enum NumberFault {
     Form,
     Range,
 }
 
 // A number as it was read: its value, or what it lacks.
-#[derive(Drop)]
+#[derive(Clone, Copy)]
 pub enum Number {
     Value(i64),
     Bad(NumberFault),
 }
 
 // Digits without a leading zero, as they were read: their number, or `TOO_LARGE` for all numbers from there on.
-#[derive(Drop)]
+#[derive(Clone, Copy)]
 enum Digits {
     Value(u64),
     Bad,
 }
 
 // A place of a text, at which a line begins, and the text.
-#[derive(Drop)]
+#[derive(Clone, Copy)]
 struct LineReader<'a> {
     text: &'a [u8],
     at: usize,
