@@ -1,4 +1,5 @@
 // Bounds between events, their judgement, and the elimination of one event from a set of them.
+#![tactic(auto)]
 
 mod bounded;
 mod cells;
@@ -15,7 +16,7 @@ pub use times::times_of;
 
 // The events of a bound z - y <= w. Jobs are counted by their place from the first job of this window on, so that the next window's
 // places follow this window's: with three jobs, place 4 is the next window's second job.
-#[derive(Drop)]
+#[derive(Clone, Copy)]
 pub enum Event {
     Origin,
     Start(usize),
@@ -23,14 +24,14 @@ pub enum Event {
 }
 
 // The earliest and the latest of each node of two windows; the places past the last node are no part of it.
-#[derive(Drop)]
+#[derive(Clone, Copy)]
 pub struct Spans {
     pub early: [i32; Table::SIDE],
     pub late: [i32; Table::SIDE],
 }
 
 // What the judgement of a bound says.
-#[derive(Drop)]
+#[derive(Clone, Copy)]
 pub enum Judgement {
     Contradiction,
     LeftOut,
@@ -38,7 +39,7 @@ pub enum Judgement {
 }
 
 // A set of bounds: for each ordered pair of events the least weight, or the mark for no bound.
-#[derive(Drop)]
+#[derive(Clone, Copy)]
 pub struct Table {
     pub weights: [i32; Table::SIZE],
 }

@@ -1,4 +1,5 @@
 // The calendar of a settled plan, and its text.
+#![tactic(auto)]
 
 use clock::WindowTime;
 use events::Events;
@@ -7,7 +8,7 @@ use rounds::Verdict;
 // What bounds the start of one job: the origin's two bounds on the window's own clock, and the events that bound it from below and
 // from above. Events are numbered in the calendar's order: the previous window's events first, by job, s before f, then the present window's. The origin is
 // not among them.
-#[derive(Drop)]
+#[derive(Clone, Copy)]
 pub struct Terms {
     pub low: WindowTime,
     pub high: WindowTime,
@@ -21,7 +22,7 @@ pub const MOST_TERMS: usize = plan::MOST_JOBS * events::MOST_EVENTS;
 
 // A calendar. The c of event e for the job at place i stands at i * MOST_EVENTS + e, of `at_least` in start >= E + c and of `at_most` in
 // start <= E + c; places that no bit names are no part of the calendar, and hold zeros where the calendar was made here.
-#[derive(Drop)]
+#[derive(Clone, Copy)]
 pub struct Calendar {
     pub terms: [Terms; plan::MOST_JOBS],
     pub at_least: [i32; MOST_TERMS],
@@ -29,7 +30,7 @@ pub struct Calendar {
 }
 
 // What is decided of a plan: its verdict and, where it is settled, its calendar; beside any other verdict a calendar that says nothing.
-#[derive(Drop)]
+#[derive(Clone, Copy)]
 pub struct Decision {
     pub verdict: Verdict,
     pub calendar: Calendar,
@@ -39,7 +40,7 @@ pub struct Decision {
 pub const MOST_BYTES: usize = 32_768;
 
 // The two sides of a start: the events that bound it from below, and those that bound it from above.
-#[derive(Drop)]
+#[derive(Clone, Copy)]
 enum Side {
     Below,
     Above,

@@ -1,4 +1,5 @@
 // Sets of events.
+#![tactic(auto)]
 
 mod sets;
 
@@ -6,7 +7,7 @@ mod sets;
 pub const MOST_EVENTS: usize = 4 * plan::MOST_JOBS;
 
 // A set of events, by their numbers; or of a table's nodes, which are the origin and the events. Only this crate knows what holds it.
-#[derive(Drop)]
+#[derive(Clone, Copy)]
 pub struct Events(u64);
 
 // As many events as a u64 has bits.

@@ -1,11 +1,12 @@
 // What all texts share: their lines, keys with numbers, the refusals of the whole product and the line that reports one, and the result of writing into a
 // lent slice. This crate knows nothing of plans.
+#![tactic(auto)]
 
 // The most bytes that a text can have.
 pub const LONGEST_TEXT: usize = 65_536;
 
 // What a line can lack, in the order in which a line is judged: its form, the range of a number, a proper pair.
-#[derive(Drop)]
+#[derive(Clone, Copy)]
 pub enum Fault {
     Form,
     Range,
@@ -13,7 +14,7 @@ pub enum Fault {
 }
 
 // Why something is refused. The definition `number` gives the paper's number of each case, `value` the D that is printed with it.
-#[derive(Drop)]
+#[derive(Clone, Copy)]
 pub enum Refusal {
     // 1: a line lacks the form required; line 0 where the text is too long.
     Form(usize),
@@ -42,21 +43,21 @@ pub enum Refusal {
 }
 
 // What the reader of a text answers, and the judge of a value as its text would be.
-#[derive(Drop)]
+#[derive(Clone, Copy)]
 pub enum TextAnswer {
     Accepted,
     Refused(Refusal),
 }
 
 // A refusal, and where its faulty line begins.
-#[derive(Drop)]
+#[derive(Clone, Copy)]
 pub struct FaultyLine {
     pub refusal: Refusal,
     pub at: usize,
 }
 
 // The result of writing into a lent slice: the length written; or the refusal, which is 12, or the value's own where a value is judged before it is written.
-#[derive(Drop)]
+#[derive(Clone, Copy)]
 pub enum Written {
     Length(usize),
     Refused(Refusal),

@@ -1,1 +1,2 @@
 // The front page of the proofs: specs alone.
+#![tactic(auto)]

@@ -1,4 +1,5 @@
 // Rounds and the verdict on a plan.
+#![tactic(auto)]
 
 use lines::Refusal;
 
@@ -13,7 +14,7 @@ pub use told::tell_verdict;
 pub use verdicts::settle;
 
 // The verdict on a plan: settled in a round, no strategy for so many windows, or neither in so many rounds.
-#[derive(Drop)]
+#[derive(Clone, Copy)]
 pub enum Verdict {
     Settled(u64),
     NoStrategy(u64),
@@ -21,7 +22,7 @@ pub enum Verdict {
 }
 
 // A verdict as answers state it: settled in a round, or a refusal.
-#[derive(Drop)]
+#[derive(Clone, Copy)]
 pub enum VerdictTold {
     Settled(u64),
     Refused(Refusal),

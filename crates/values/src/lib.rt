@@ -1,4 +1,5 @@
 // A plan as a value: judged as its text would be, written out as its text, and decided.
+#![tactic(auto)]
 
 use calendars::Calendar;
 use rounds::VerdictTold;
@@ -10,7 +11,7 @@ const BOUNDS_AT_MOST: u64 = plan::MOST_BOUNDS as u64;
 
 // What is decided of a plan that was handed over as a value: settled in a round, or refused, by 1, 2 or 3 with the line that its text would have, or by 4 or 5;
 // beside a refusal a calendar that says nothing.
-#[derive(Drop)]
+#[derive(Clone, Copy)]
 pub struct ValueDecision {
     pub verdict: VerdictTold,
     pub calendar: Calendar,
