@@ -4,14 +4,10 @@ use mir.Facts.{to_z-of_z}
 use mir.Syntax.{w32}
 use mir.Val.{to_z, of_z}
 use Rattle.whole.specs.Widths.{i32-fits}
-use Rattle.plan.proofs.narrow.narrow.Statement.{statement}
-use Rattle.plan.proofs.narrow.narrow.Tie as tie
+use Rattle.plan.proofs.narrow.narrow.Goals as goal
 
-cast-result : tie.Need-overflow-cast-result
-cast-result c = rw (to_z-of_z c.ranges.z) (i32-fits c.args.z c.requires.0 c.requires.1)
+pub overflow_cast-result : goal.overflow_cast-result
+overflow_cast-result c = rw (to_z-of_z c.ranges.z) (i32-fits c.args.z c.requires.0 c.requires.1)
 
-returns : tie.Need-returns
+pub returns : goal.returns
 returns c = ap (λ z. to_z w32 (of_z w32 z)) (to_z-of_z c.ranges.z) ∙ to_z-of_z (i32-fits c.args.z c.requires.0 c.requires.1)
-
-pub narrow-spec : {M : Type 1} → statement M
-narrow-spec = tie.close (tie.spec cast-result returns)
