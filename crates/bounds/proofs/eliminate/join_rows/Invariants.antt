@@ -1,0 +1,19 @@
+-- `bounds::eliminate::join_rows` meets its contract. The loop's invariant: what remains to be done from row y on gives the whole answer, and
+-- from row y on nothing has changed, so that the set is still that of row s.
+use Prim.Native.Nat.{ℕ, ◌≤◌, ◌<◌, ◌-◌}
+use mathlib.Core.Path.{◌≡◌, refl, sym, ◌∙◌, ap, subst}
+use native.Mathlib.Omega.{arith}
+use lib.IntN.{pos}
+use lib.ListN.{get_or}
+use Rattle.bounds.specs.Flat.{place, WeightInRange, each_node, joined_row, joined_rows}
+use Rattle.bounds.specs.FlatLaws.{each_node-stop, each_node-past, each_node-end, bounded_nodes-has, HasBounded-same, joined_row-same}
+use Rattle.bounds.proofs.eliminate.join_rows.Given as goal
+
+abbrev pub invariant-loop-y : goal.invariant-loop-y
+invariant-loop-y l =
+    (l.y ≤ l.s)
+    × (joined_rows l.early l.late l.s l.initial.weights ≡ each_node (joined_row l.early l.late l.s) l.y (l.s - l.y) l.weights)
+    × ((i : ℕ) → place l.y 0 ≤ i → get_or l.weights i (pos 0) ≡ get_or l.initial.weights i (pos 0))
+
+abbrev pub decreases-loop-y : goal.decreases-loop-y
+decreases-loop-y l = l.s - l.y

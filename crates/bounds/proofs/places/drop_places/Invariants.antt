@@ -1,0 +1,26 @@
+-- `bounds::places::drop_places` meets its contract. The loop's invariant: of each plan for which the array stood, the places that are left give the whole
+-- answer, and the array stands still.
+use Prim.Native.Nat.{◌+◌, ◌-◌, ◌≤◌}
+use mathlib.Core.Path.{◌≡◌, refl, sym, ◌∙◌, ap}
+use native.Mathlib.Omega.{arith}
+use lib.ListN.{length}
+use Rattle.plan.specs.declared.Plan.{Plan}
+use Rattle.bounds.specs.Events.{nodes}
+use Rattle.bounds.specs.Tables.{bounds}
+use Rattle.bounds.specs.Elimination.{eliminated}
+use Rattle.bounds.specs.Flat.{rows_of}
+use Rattle.bounds.specs.Held.{TableHeldFor}
+use Rattle.bounds.specs.PlacesLaws.{eliminated-end}
+use Rattle.bounds.specs.TableHeldLaws.{last-table-held, places-found, places-left, places-table-held}
+use Rattle.bounds.proofs.places.drop_places.Given as goal
+
+abbrev pub invariant-loop-left : goal.invariant-loop-left
+invariant-loop-left l =
+    (l.left ≤ l.count)
+    × (length l.weights ≡ length l.initial.weights)
+    × ((p : Plan) → TableHeldFor p l.early l.late (nodes (l.low + l.count)) l.initial.weights
+    → (eliminated p l.low l.count (rows_of (nodes (l.low + l.count)) l.initial.weights) ≡ eliminated p l.low l.left (rows_of (nodes (l.low + l.left)) l.weights))
+    × (TableHeldFor p l.early l.late (nodes (l.low + l.left)) l.weights))
+
+abbrev pub decreases-loop-left : goal.decreases-loop-left
+decreases-loop-left l = l.left
