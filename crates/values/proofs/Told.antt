@@ -21,14 +21,14 @@ use Rattle.plan.specs.contracts.Bound as bound
 use Rattle.plan.specs.contracts.Plan as plan
 
 -- what is known of each element of an array
-each-told : (R : RattleType) {A : Type 0} (to : A → R.Denot) (P : A → Type 0) → ((x : A) (u : Val) → shadow (R.own (to x) (u ∷ [])) → P x)
-    → (xs : List A) (us : List Val) → shadow (each R.Denot R.own (map to xs) us) → All P xs
-each-told R to P f [] [] h = tt
-each-told R to P f [] (u ∷ us) h = absurd h
-each-told R to P f (x ∷ xs) [] h = absurd h
-each-told R to P f (x ∷ xs) (u ∷ us) h = (f x u h.0, each-told R to P f xs us h.1)
+each-told : (R : RattleType) (P : R.Denot → Type 0) → ((x : R.Denot) (u : Val) → shadow (R.own_val x (u ∷ [])) → P x)
+    → (xs : List R.Denot) (us : List Val) → shadow (each R.Denot R.own_val xs us) → All P xs
+each-told R P f [] [] h = tt
+each-told R P f [] (u ∷ us) h = absurd h
+each-told R P f (x ∷ xs) [] h = absurd h
+each-told R P f (x ∷ xs) (u ∷ us) h = (f x u h.0, each-told R P f xs us h.1)
 
-job-fits : (j : Job) (u : Val) → shadow ((job.the_field).row.own_val ((job.the_type).to j) (u ∷ [])) → JobFits j
+job-fits : (j : Job) (u : Val) → shadow ((job.the_row).own_val j (u ∷ [])) → JobFits j
 job-fits j u h =
     let f = h.1.1 in
     record {
@@ -38,7 +38,7 @@ job-fits j u h =
       deadline = i32-wide (record { sfits = f.1.1.1.0.1 });
     }
 
-bound-fits : (d : Bound) (u : Val) → shadow ((bound.the_field).row.own_val ((bound.the_type).to d) (u ∷ [])) → BoundFits d
+bound-fits : (d : Bound) (u : Val) → shadow ((bound.the_row).own_val d (u ∷ [])) → BoundFits d
 bound-fits d u h =
     let f = h.1.1 in
     let a : d.a.job < 256 = f.0.1.1.1.1.0.1 in
@@ -51,16 +51,15 @@ plan-fits p vss h =
     let ds = h.1.1.1.1.1.1.0 in
     record {
       placed = record {
-        job-places = sym (length-map p.job (job.the_type).to) ∙ js.1.0.1;
-        bound-places = sym
-            (length-map p.bound (bound.the_type).to) ∙ ds.1.0.1;
+        job-places = js.1.0.1;
+        bound-places = ds.1.0.1;
       };
       window = i32-wide (record { sfits = h.0.1 });
       rounds = h.1.0.1;
       last = h.1.1.0.1;
       jobs = h.1.1.1.0.1;
       bounds = h.1.1.1.1.1.0.1;
-      job-fits = All-take JobFits p.jobs p.job (each-told (job.the_field).row (job.the_type).to JobFits job-fits p.job js.0 js.1.1);
+      job-fits = All-take JobFits p.jobs p.job (each-told job.the_row JobFits job-fits p.job js.0 js.1.1);
       bound-fits = All-take BoundFits p.bounds p.bound
-          (each-told (bound.the_field).row (bound.the_type).to BoundFits bound-fits p.bound ds.0 ds.1.1);
+          (each-told bound.the_row BoundFits bound-fits p.bound ds.0 ds.1.1);
     }

@@ -1,0 +1,12 @@
+-- `judge_bounds`: after i bounds stands `BoundsHeld`, with one law a way.
+use Prim.Native.Nat.{◌-◌}
+use native.Mathlib.Omega.{arith}
+use borrow.Author.Rules.{rules}
+use Rattle.values.specs.JudgedWays.{BoundsHeld, BoundsHeld-start, BoundsHeld-stop, BoundsHeld-past, BoundsHeld-end}
+use Rattle.values.proofs.bound_values.judge_bounds.Given as goal
+
+abbrev pub invariant-loop-i : goal.invariant-loop-i
+invariant-loop-i l = BoundsHeld l.p l.given l.line l.i
+
+abbrev pub decreases-loop-i : goal.decreases-loop-i
+decreases-loop-i l = l.bounds - l.i
