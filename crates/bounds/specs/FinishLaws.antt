@@ -1,6 +1,6 @@
 -- The elimination of a finish in an array is its elimination in the table that the array holds. At node y two cells are written, (y, s) and (s, y), of
 -- which neither is written again, and both are made of cells of the finish, which are never written.
-use Rattle.std.specs.Prelude.{ℕ, suc, ◌+◌, ◌≤◌, ◌<◌, ◌≡◌, refl, ◌⊎◌, Bool, cond, List, eqb, ℤ, pos, neg_ℤ, ◌+ℤ◌, ◌<ℤ◌, length}
+use Rattle.std.specs.Prelude.{ℕ, suc, ◌+◌, ◌≤◌, ◌<◌, ◌≡◌, refl, Bool, cond, List, eqb, ℤ, pos, neg_ℤ, ◌+ℤ◌, ◌<ℤ◌, length}
 use Rattle.std.proofs.Math.Path.{sym, ap, subst}
 use Rattle.std.proofs.Common.{ap₂, subst₂, ◌∙◌, ⊎_elim, arith, SFits}
 use Rattle.std.proofs.Math.Bool.{true, false}

@@ -1,6 +1,6 @@
 -- Bounds put one after the other lead to a judged set. An array with judged cells, and the cells that are still to be put, stand for the set that is
 -- judged of both together. A put moves one bound from the one to the other, and the set stays the same.
-use Rattle.std.specs.Prelude.{ℕ, ◌+◌, ◌≤◌, ◌<◌, ◌≡◌, refl, Bool, true, false, cond, List, eqb, ℤ, pos, ◌+ℤ◌, ◌<ℤ◌, length}
+use Rattle.std.specs.Prelude.{ℕ, ◌≤◌, ◌<◌, ◌≡◌, refl, Bool, true, false, cond, List, eqb, ℤ, pos, ◌+ℤ◌, ◌<ℤ◌, length}
 use Rattle.std.proofs.Common.{sym, ap, ap₂, subst, subst₂, ◌∙◌, arith, eqb-true}
 use Rattle.std.specs.Int.Signed.{le_z}
 use Rattle.std.proofs.lemmas.Bool.{eqb-false}

@@ -7,7 +7,7 @@ use Rattle.plan.specs.declared.Plan.{Plan}
 use Rattle.lines.specs.declared.Refusal.{Refusal}
 use Rattle.lines.specs.declared.Refusal.TheVariants as refusal
 use Rattle.lines.specs.Reading.{Reading, read, refused, line}
-use Rattle.lines.specs.Refusals.{number, value, refused_line}
+use Rattle.lines.specs.Refusals.{refused_line}
 use Rattle.lines.specs.Reading as reading
 use Rattle.plan.specs.PlanLines.{plan_alone}
 use Rattle.lines.specs.Keyed.{keyed}

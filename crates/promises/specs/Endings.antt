@@ -2,7 +2,7 @@
 -- dispatch program's output ends with the line of that refusal (`refused-ends`); where it is not, every line was taken, and the output is the answers to all
 -- steps, none of which ends a session (`taken-whole`). For no step of a settled plan's session is answered by 1 or 2 (`goes_on`): an auto start outside the
 -- range of T is not reached (`auto-taken`).
-use Prim.Native.Nat.{ℕ, zero, suc, ◌-◌, ◌≤◌, ◌<◌}
+use Prim.Native.Nat.{ℕ, zero, suc, ◌≤◌, ◌<◌}
 use Rattle.std.specs.Prelude.{◌≡◌, false}
 use Rattle.std.proofs.Math.Path.{refl, ap}
 use Rattle.std.proofs.Common.{sym, subst, ◌∙◌}

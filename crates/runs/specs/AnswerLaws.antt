@@ -3,7 +3,7 @@
 -- refusals only the opening gives 11 (`answer-empty`). And the other way: while an opening is open, an ask is answered by its offer and a start is taken
 -- exactly if it is on offer (`ask-offered`, `start-taken`, `start-refused`, `start-auto`); a finish is final exactly inside its times (`finish-inside`,
 -- `finish-outside`).
-use Rattle.std.specs.Prelude.{ℕ, ◌+◌, ◌-◌, ◌≤◌, ◌≡◌, Bool, ◌&&◌, List, ltb, ℤ, ◌+ℤ◌, ◌≤ℤ◌}
+use Rattle.std.specs.Prelude.{ℕ, ◌≤◌, ◌≡◌, Bool, ◌&&◌, List, ltb, ℤ, ◌+ℤ◌, ◌≤ℤ◌}
 use Rattle.std.proofs.Math.Path.{refl, ap}
 use Rattle.std.proofs.Common.{sym, subst, ◌∙◌, arith, ltb-false}
 use Rattle.std.proofs.Math.Bool.{true, false, cond}

@@ -1,6 +1,6 @@
 -- A step with a plan that is accepted, by what is outside its limits (`accepted_step-..`); and a step on values, whose plan is judged first (`step-refused`,
 -- `step-accepted`). A step on values inside their limits is that step of the run (`step-inside`), one whose time is outside is refused (`step-outside`).
-use Rattle.std.specs.Prelude.{◌-◌, ◌≡◌, refl, Bool, true, false, ◌&&◌}
+use Rattle.std.specs.Prelude.{◌≡◌, refl, Bool, true, false, ◌&&◌}
 use Rattle.std.proofs.Common.{sym, ap, ap₂, ◌∙◌}
 use Rattle.plan.specs.declared.Plan.{Plan}
 use Rattle.lines.specs.declared.TextAnswer.{TextAnswer}
@@ -11,7 +11,6 @@ use Rattle.plan.specs.PlanWritten.{judged_plan}
 use Rattle.values.specs.PlanJudged.{judged_answer}
 use Rattle.values.specs.JudgedLaws.{judged_answer-none, judged_answer-some, accepted-judged}
 use Rattle.calendars.specs.declared.Calendar.{Calendar}
-use Rattle.runs.specs.declared.Answer.TheVariants.{Refused}
 use Rattle.runs.specs.declared.Run.{Run}
 use Rattle.runs.specs.declared.Step.{Step}
 use Rattle.runs.specs.ValueLimits.{is_run, is_calendar}

@@ -1,7 +1,7 @@
 -- The laws of answers, printed.
 -- A line is stored part by part: window, job and time (`turn_text-stored`), an offer's two ends (`offer_line-stored`).
 
-use Rattle.std.specs.Prelude.{ℕ, ◌+◌, ◌≡◌, List, [], ◌∷◌, ◌++◌, ℤ}
+use Rattle.std.specs.Prelude.{ℕ, ◌≡◌, List, [], ◌∷◌, ◌++◌, ℤ}
 use Rattle.std.proofs.Common.{append_assoc}
 use Rattle.text.specs.Bytes.{bytes}
 use Rattle.text.specs.Lines.{LF, comma}

@@ -16,7 +16,7 @@ use Rattle.rounds.specs.declared.VerdictTold.{VerdictTold}
 use Rattle.rounds.specs.declared.VerdictTold.TheVariants as told
 use Rattle.calendars.specs.declared.Calendar.{Calendar}
 use Rattle.rounds.specs.Rounds.{Outcome, settled, no_strategy, unsettled, outcome, verdict_of, verdict, verdict_told}
-use Rattle.calendars.specs.Calendars.{calendar, made_calendar}
+use Rattle.calendars.specs.Calendars.{made_calendar}
 use Rattle.rounds.specs.TextVerdictLaws.{told-settled}
 use Rattle.runs.specs.Steps.{new_run}
 use Rattle.runs.specs.ValueLimits.{is_calendar}

@@ -1,6 +1,6 @@
 -- Which answers go on: an opening is shut by a refusal that goes on (`opening-goes-on`), so no step ends a session but an auto start outside the range of T;
 -- where that is answered while the run waits and lasts, none does (`answer-goes`).
-use Rattle.std.specs.Prelude.{ℕ, ◌-◌, ◌≤◌, ◌≡◌, Bool, cond, List, ltb, ℤ, ◌+ℤ◌}
+use Rattle.std.specs.Prelude.{ℕ, ◌≤◌, ◌≡◌, Bool, cond, List, ltb, ℤ, ◌+ℤ◌}
 use Rattle.std.proofs.Math.Path.{refl}
 use Rattle.std.proofs.Math.Bool.{true, false}
 use Rattle.std.specs.Int.Signed.{lt_z}

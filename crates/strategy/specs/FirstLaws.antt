@@ -13,7 +13,6 @@ use Rattle.plan.specs.declared.Plan.{Plan}
 use Rattle.plan.specs.EventNames.{is_next}
 use Rattle.plan.specs.Accepted.{BoundAccepted, Accepted}
 use Rattle.plan.specs.ListLaws.{All}
-use Rattle.bounds.specs.declared.Event.TheVariants.{Start, Finish}
 use Rattle.bounds.specs.declared.Judgement.{Judgement}
 use Rattle.bounds.specs.declared.Judgement.TheVariants.{Contradiction, LeftOut, Kept}
 use Rattle.bounds.specs.Events.{node_of, start_node, finish_node, nodes}

@@ -1,7 +1,7 @@
 -- The bounds of a plan before they are judged, and what they say of times: a window's own bounds and those between windows are kept exactly if
 -- the plan's bounds are, where each start leaves its job the longest running time before the deadline (that is the start's latest). The list of which
 -- these sets are made holds the bounds at the plan's places and no others (`places-listed`).
-use Prim.Native.Nat.{ℕ, zero, suc, ◌-◌, ◌≤◌, ◌<◌}
+use Prim.Native.Nat.{ℕ, zero, suc, ◌-◌, ◌<◌}
 use Rattle.std.specs.Prelude.{◌≡◌, ◌↔◌, Bool, cond, ◌&&◌, eqb, ℤ, ◌-ℤ◌, ◌≤ℤ◌, length, get_or}
 use Rattle.std.proofs.Math.Path.{refl, subst}
 use Rattle.std.proofs.Common.{sym, ap, ◌∙◌, arith, length-take, get_or-take, eq-eqb, eqb-true}

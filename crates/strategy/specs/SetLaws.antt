@@ -1,7 +1,7 @@
 -- A set that is judged: what stands in its table, and that times in range keep the judged set exactly if they keep the set before. A set that
 -- is a contradiction is kept by no times, if every job runs as long as it can, or if every job runs as short. Range is no premise: the bounds
 -- to and from the origin are never left out, and they say it.
-use Rattle.std.specs.Prelude.{ℕ, ◌+◌, ◌-◌, ◌≤◌, ◌<◌, ◌≡◌, refl, ◌↔◌, ◌⊎◌, Bool, true, false, cond, ℤ, pos, ◌-ℤ◌, ◌≤ℤ◌, get_or}
+use Rattle.std.specs.Prelude.{ℕ, ◌+◌, ◌-◌, ◌≤◌, ◌<◌, ◌≡◌, refl, ◌↔◌, ◌⊎◌, Bool, true, false, cond, ℤ, pos, ◌≤ℤ◌, get_or}
 use Rattle.std.proofs.Common.{sym, ◌∙◌, mod-eq_of_lt}
 use Rattle.std.proofs.Math.Path.{ap, subst}
 use native.Mathlib.Omega.{arith}

@@ -1,6 +1,6 @@
 -- A start after which there is a strategy lies between the release and the deadline of its job, on its window's clock (`start-released`, `start-in_time`); so
 -- in a window up to `last` it is in the range of T (`start-time`).
-use Rattle.std.specs.Prelude.{ℕ, suc, ◌+◌, ◌*◌, ◌-◌, ◌≤◌, ◌<◌, ◌≡◌, refl, Bool, true, false, ◌&&◌, [], ◌∷◌, ◌++◌, ℤ, pos, negsuc, ◌+ℤ◌, ◌-ℤ◌, ◌*ℤ◌, ◌≤ℤ◌, length}
+use Rattle.std.specs.Prelude.{ℕ, suc, ◌+◌, ◌*◌, ◌≤◌, ◌<◌, ◌≡◌, refl, Bool, true, false, ◌&&◌, [], ◌∷◌, ◌++◌, ℤ, pos, negsuc, ◌+ℤ◌, ◌-ℤ◌, ◌*ℤ◌, ◌≤ℤ◌, length}
 use Rattle.std.proofs.Common.{subst, ap, ◌∙◌, arith, mul-zero}
 use Rattle.std.specs.Int.Signed.{le_z}
 use Rattle.whole.specs.Split.{Within, dn}

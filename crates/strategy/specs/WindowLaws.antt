@@ -19,7 +19,6 @@ use Rattle.plan.specs.EventNames.{is_next}
 use Rattle.plan.specs.PlanWritten.{bounds_of}
 use Rattle.plan.specs.Accepted.{Accepted}
 use Rattle.plan.specs.ListLaws.{All}
-use Rattle.bounds.specs.declared.Event.TheVariants.{Start, Finish}
 use Rattle.bounds.specs.Events.{job_at, shift, earliest, latest, node_of, nodes}
 use Rattle.bounds.specs.BuildLaws.{either_true, neither-true}
 use Rattle.rounds.specs.Given.{place_of, event_at, meant, has_next, in_order, own_bounds, between_bounds}

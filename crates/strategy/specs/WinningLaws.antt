@@ -1,6 +1,6 @@
 -- The offer of a run that shows its history, from which the game can still be won: it is not empty, and t is on offer exactly if the game is won after a start
 -- at t (`offer-some`, `offer-winning`, `winning-offer`).
-use Rattle.std.specs.Prelude.{ℕ, zero, suc, ◌+◌, ◌-◌, ◌≤◌, ◌<◌, ◌≡◌, List, [], ℤ, ◌≤ℤ◌, length, get_or}
+use Rattle.std.specs.Prelude.{ℕ, zero, suc, ◌+◌, ◌<◌, ◌≡◌, List, [], ℤ, ◌≤ℤ◌, length, get_or}
 use Rattle.std.proofs.Common.{sym, subst, ◌∙◌, arith}
 use Rattle.std.proofs.Math.Path.{ap}
 use Rattle.whole.specs.Rules.{wholes}

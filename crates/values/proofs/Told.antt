@@ -1,9 +1,7 @@
 -- What is known of all numbers of a plan that a local holds: the arrays have their sizes, and each number fits its type (`plan-fits`).
-use mathlib.Core.Path.{sym, ◌∙◌}
-use mathlib.Core.List.{List, [], ◌∷◌, map}
+use mathlib.Core.List.{List, [], ◌∷◌}
 use Prim.Native.Nat.{◌<◌}
 use native.Mathlib.Omega.{arith}
-use lib.ListN.{length-map}
 use denote.Array.{each}
 use denote.RattleType.{RattleType, Valss}
 use denote.Shadow.{shadow}

@@ -1,7 +1,7 @@
 -- A plan as a value is judged good exactly where it is accepted: `judged_plan-accepted` (of the answer `judged_answer-accepted`) and `accepted-judged`, by way
 -- of the judgement line by line (`judged_by_lines-accepted`, `accepted-by_lines`). That this is the judgement of the text stands in `JudgedLines`, and the
 -- text's length in `JudgedLength`.
-use Rattle.std.specs.Prelude.{◌≡◌, Bool, not, ◌&&◌, ℕ, suc, ◌+◌, ◌*◌, ◌-◌, ◌≤◌, ◌<◌, ℤ, pos, negsuc, length, take, get_or, ◌≤ℤ◌}
+use Rattle.std.specs.Prelude.{◌≡◌, Bool, not, ◌&&◌, ℕ, suc, ◌+◌, ◌*◌, ◌≤◌, ◌<◌, ℤ, pos, negsuc, length, take, get_or, ◌≤ℤ◌}
 use Rattle.std.proofs.Math.Path.{refl}
 use Rattle.std.proofs.Common.{sym, ◌∙◌, ap, arith, length-take, get_or-take, take-take, SFits}
 use Rattle.std.proofs.Math.Bool.{true, false, cond}
@@ -20,7 +20,7 @@ use Rattle.plan.specs.declared.Plan.{Plan}
 use Rattle.lines.specs.declared.TextAnswer.{TextAnswer}
 use Rattle.lines.specs.declared.TextAnswer.TheVariants as answer
 use Rattle.lines.specs.declared.Refusal.{Refusal}
-use Rattle.lines.specs.declared.Refusal.TheVariants.{Form, Range}
+use Rattle.lines.specs.declared.Refusal.TheVariants.{Form}
 use Rattle.lines.specs.Reading.{longest_text, Reading, read, refused}
 use Rattle.plan.specs.Limits.{longest_window, most_rounds, most_windows, most_jobs, longest_running, latest_deadline, most_bounds, least_c, greatest_c}
 use Rattle.plan.specs.PlanLines.{is_job, is_wrong_pair, no_job, no_bound, plan_alone}

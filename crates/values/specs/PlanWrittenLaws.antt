@@ -1,7 +1,7 @@
 -- The laws by which the writer of a plan is right.
 -- The lines of jobs (`jobs_text-more`) and of bounds (`bounds_text-more`) stand before what follows them. What writers did: a name, a bound's line
 -- (`stored-name`, `stored-bound`), the jobs, and the lines after them (`stored-jobs`).
-use Rattle.std.specs.Prelude.{ℕ, ◌+◌, ◌-◌, ◌≡◌, refl, List, [], ◌∷◌, ◌++◌, ℤ}
+use Rattle.std.specs.Prelude.{ℕ, ◌≡◌, refl, List, [], ◌∷◌, ◌++◌, ℤ}
 use Rattle.std.proofs.Common.{append_assoc, SFits, to_z, of_z}
 use Rattle.std.specs.Int.{w32, w64}
 use Rattle.text.specs.Lent.{Stored}

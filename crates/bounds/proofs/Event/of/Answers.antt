@@ -1,5 +1,4 @@
 -- `bounds::Event::of` meets its contract, by the laws of `EventsLaws` on a node's number.
-use borrow.Author.Rules.{rules}
 use Rattle.bounds.specs.EventsLaws.{event_of-zero, event_of-odd, event_of-even}
 use Rattle.bounds.proofs.Event.of.Goals as goal
 

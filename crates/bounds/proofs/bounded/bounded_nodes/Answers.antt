@@ -1,4 +1,4 @@
-use Prim.Native.Nat.{◌+◌, ◌-◌, ◌≤◌}
+use Prim.Native.Nat.{◌+◌, ◌-◌}
 use mathlib.Core.Path.{◌≡◌, sym, ap, ap₂, ◌∙◌}
 use mathlib.Core.Bool.{not}
 use native.Mathlib.Omega.{arith}
@@ -6,7 +6,7 @@ use lib.Dec.{eqb}
 use mir.Syntax.{w32}
 use mir.Val.{of_z}
 use Rattle.whole.specs.SplitLaws.{told-fits}
-use Rattle.events.specs.Bits.{bits_of, with_first}
+use Rattle.events.specs.Bits.{with_first}
 use Rattle.events.specs.BitsLaws.{event_set-nil}
 use Rattle.bounds.specs.Flat.{weight_at, is_bounded}
 use Rattle.bounds.specs.FlatLaws.{is_bound-read, bounded_from, bounded_from-room, bounded_from-end, bounded_from-more, bounded_from-all}

@@ -7,7 +7,6 @@ use mir.Facts.{to_z-of_z}
 use Rattle.bounds.specs.Spans.{time_of_node, judged_by}
 use Rattle.bounds.specs.SpansLaws.{judged_at-by}
 use Rattle.bounds.proofs.Gaps.{gap-fits, gap_back}
-use borrow.Author.Rules.{rules}
 use Rattle.bounds.proofs.cells.judge_nodes.Goals as goal
 
 pub overflow_sub-low : goal.overflow_sub-low

@@ -9,7 +9,6 @@ use Rattle.bounds.specs.Spans.{judged_at}
 use Rattle.bounds.specs.Flat.{weight_at, place, flat}
 use Rattle.bounds.specs.FlatLaws.{is-mark, no-mark, put_at-none, put_at-more, put_at-judged}
 use Rattle.bounds.proofs.Sums.{sum_fits, sum_back, sum-test}
-use borrow.Author.Rules.{rules}
 use Rattle.bounds.proofs.cells.put.Goals as goal
 
 pub returns-then-v-eq-NO_BOUND : goal.returns-then-v-eq-NO_BOUND

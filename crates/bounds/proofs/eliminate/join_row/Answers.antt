@@ -1,5 +1,4 @@
 -- `bounds::eliminate::join_row` meets its contract: the two cases of `joined_row`.
-use borrow.Author.Rules.{rules}
 use mathlib.Core.Path.{sym, ◌∙◌, ap, subst}
 use mir.Syntax.{w32}
 use mir.Facts.{to_z-of_z}

@@ -1,9 +1,9 @@
-use Prim.Native.Nat.{ℕ, ◌≤◌, ◌<◌, ◌-◌}
+use Prim.Native.Nat.{◌<◌, ◌-◌}
 use mathlib.Core.Path.{◌≡◌, refl, sym, ◌∙◌, ap, subst}
 use native.Mathlib.Omega.{arith}
 use lib.IntN.{pos}
 use lib.ListN.{get_or}
-use Rattle.bounds.specs.Flat.{place, WeightInRange, each_node, joined_row, joined_rows}
+use Rattle.bounds.specs.Flat.{place, WeightInRange, joined_row}
 use Rattle.bounds.specs.FlatLaws.{each_node-stop, each_node-past, each_node-end, bounded_nodes-has, HasBounded-same, joined_row-same}
 use Rattle.bounds.proofs.eliminate.join_rows.Goals as goal
 

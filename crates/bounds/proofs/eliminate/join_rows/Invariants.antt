@@ -1,12 +1,10 @@
 -- `bounds::eliminate::join_rows` meets its contract. The loop's invariant: what remains to be done from row y on gives the whole answer, and
 -- from row y on nothing has changed, so that the set is still that of row s.
-use Prim.Native.Nat.{ℕ, ◌≤◌, ◌<◌, ◌-◌}
-use mathlib.Core.Path.{◌≡◌, refl, sym, ◌∙◌, ap, subst}
-use native.Mathlib.Omega.{arith}
+use Prim.Native.Nat.{ℕ, ◌≤◌, ◌-◌}
+use mathlib.Core.Path.{◌≡◌}
 use lib.IntN.{pos}
 use lib.ListN.{get_or}
-use Rattle.bounds.specs.Flat.{place, WeightInRange, each_node, joined_row, joined_rows}
-use Rattle.bounds.specs.FlatLaws.{each_node-stop, each_node-past, each_node-end, bounded_nodes-has, HasBounded-same, joined_row-same}
+use Rattle.bounds.specs.Flat.{place, each_node, joined_row, joined_rows}
 use Rattle.bounds.proofs.eliminate.join_rows.Given as goal
 
 abbrev pub invariant-loop-y : goal.invariant-loop-y

@@ -1,5 +1,4 @@
 -- `bounds::eliminate::move_node` meets its contract: two puts, of which the first leaves the finish's own cells as they are.
-use borrow.Author.Rules.{rules}
 use mathlib.Core.Path.{◌≡◌, sym, ◌∙◌, ap, ap₂, subst}
 use native.Mathlib.Omega.{arith}
 use lib.IntN.{pos}
@@ -48,8 +47,7 @@ put-requires-2 c =
     ∙ put_at-same a.early.now a.late.now a.y a.s (weight_at a.weights.now a.y a.f) a.less a.weights.now (place a.f a.y)
     (pos 0)
     (λ e. omega (arith, c.requires.before, c.requires.order, c.requires.node)) in
-    let a = c.args in
-    (
+    let a = c.args in (
       c.requires.times a.s (omega (arith, c.requires.order, c.requires.node)),
       c.requires.times a.y (omega (arith, c.requires.before, c.requires.node)),
       moved-fits (told-fits w32 (weight_at c.put.new.weights a.f a.y) c.back-1.given) c.ranges.more

@@ -1,4 +1,4 @@
-use Prim.Native.Nat.{ℕ, ◌≤◌, ◌<◌, ◌-◌}
+use Prim.Native.Nat.{ℕ, ◌<◌, ◌-◌}
 use mathlib.Core.Path.{◌≡◌, refl, sym, ◌∙◌, ap, ap₂, subst}
 use native.Mathlib.Omega.{arith}
 use lib.IntN.{pos}
@@ -6,7 +6,7 @@ use lib.ListN.{get_or}
 use mir.Syntax.{w32}
 use mir.Val.{to_z, of_z}
 use mir.Facts.{to_z-of_z}
-use Rattle.bounds.specs.Flat.{place, weight_at, WeightInRange, MoveInRange, each_node, moved_at, moved_rows}
+use Rattle.bounds.specs.Flat.{place, WeightInRange, MoveInRange, moved_at, moved_rows}
 use Rattle.bounds.specs.FlatLaws.{each_node-stop, each_node-past, each_node-end, moved_at-same}
 use Rattle.bounds.proofs.eliminate.move_nodes.Goals as goal
 

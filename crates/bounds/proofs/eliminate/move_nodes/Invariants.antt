@@ -1,15 +1,8 @@
 -- `bounds::eliminate::move_nodes` meets its contract. The loop's invariant: what remains to be done from node y on gives the whole answer, and the
 -- finish's own cells are as they were.
 use Prim.Native.Nat.{ℕ, ◌≤◌, ◌<◌, ◌-◌}
-use mathlib.Core.Path.{◌≡◌, refl, sym, ◌∙◌, ap, ap₂, subst}
-use native.Mathlib.Omega.{arith}
-use lib.IntN.{pos}
-use lib.ListN.{get_or}
-use mir.Syntax.{w32}
-use mir.Val.{to_z, of_z}
-use mir.Facts.{to_z-of_z}
-use Rattle.bounds.specs.Flat.{place, weight_at, WeightInRange, MoveInRange, each_node, moved_at, moved_rows}
-use Rattle.bounds.specs.FlatLaws.{each_node-stop, each_node-past, each_node-end, moved_at-same}
+use mathlib.Core.Path.{◌≡◌}
+use Rattle.bounds.specs.Flat.{weight_at, each_node, moved_at, moved_rows}
 use Rattle.bounds.proofs.eliminate.move_nodes.Given as goal
 
 abbrev pub invariant-loop-y : goal.invariant-loop-y

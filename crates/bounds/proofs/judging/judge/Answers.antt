@@ -1,5 +1,4 @@
 -- `bounds::judging::judge` meets its contract: each arm knows y and z, and answers by the clause of `judged_by` for them.
-use borrow.Author.Rules.{rules}
 use borrow.Author.Tests.{eq-eqb, ne_eqb}
 use mir.Facts.{to_z-of_z}
 use Rattle.bounds.specs.Spans.{judged_by}

@@ -15,7 +15,6 @@ use Rattle.bounds.specs.FlatLaws.{moved_rows-length}
 use Rattle.bounds.specs.Held.{TableHeldFor}
 use Rattle.bounds.specs.TimesHeldLaws.{nodes-room, less-is, more-is, finish-moves, finish-is}
 use Rattle.bounds.proofs.Gaps.{gap-fits, gap_back}
-use borrow.Author.Rules.{rules}
 use Rattle.bounds.proofs.places.drop_finish.Goals as goal
 
 -- a time, and what lies between two times, as the code has them
@@ -94,10 +93,13 @@ returns c =
     gap_back finish-timed.early-in start-timed.early-in
     ∙ more-is p a.early.now a.late.now g.times-held a.k a.weights.now g.room g.fit in
     let a = c.args in
-    let r = c.move_nodes in  record { weights_after = λ p g.
+    let r = c.move_nodes in record {
+      weights_after = λ p g.
           ap (λ r. set_in (finish_node a.k) r.found r.weights)
           (r.ensures
           ∙ ap₂ (λ less more. moved_rows a.early.now a.late.now (start_node a.k) (finish_node a.k) less more a.weights.now) (less-max p g)
           (more-min p g))
-          ∙ finish-is p a.early.now a.late.now g.times-held a.k a.weights.now g.room g.fit g.size; weights_len_unchanged = ap (λ r. length r.weights) r.ensures
-          ∙ moved_rows-length a.early.now a.late.now (start_node a.k) (finish_node a.k) less more a.weights.now }
+          ∙ finish-is p a.early.now a.late.now g.times-held a.k a.weights.now g.room g.fit g.size;
+      weights_len_unchanged = ap (λ r. length r.weights) r.ensures
+          ∙ moved_rows-length a.early.now a.late.now (start_node a.k) (finish_node a.k) less more a.weights.now;
+    }

@@ -1,13 +1,9 @@
-use Prim.Native.Nat.{◌+◌, ◌-◌, ◌≤◌}
+use Prim.Native.Nat.{◌+◌}
 use mathlib.Core.Path.{◌≡◌, refl, sym, ◌∙◌, ap}
 use native.Mathlib.Omega.{arith}
-use lib.ListN.{length}
-use Rattle.plan.specs.declared.Plan.{Plan}
 use Rattle.bounds.specs.Events.{nodes}
 use Rattle.bounds.specs.Tables.{bounds}
-use Rattle.bounds.specs.Elimination.{eliminated}
 use Rattle.bounds.specs.Flat.{rows_of}
-use Rattle.bounds.specs.Held.{TableHeldFor}
 use Rattle.bounds.specs.PlacesLaws.{eliminated-end}
 use Rattle.bounds.specs.TableHeldLaws.{last-table-held, places-found, places-left, places-table-held}
 use Rattle.bounds.proofs.places.drop_places.Goals as goal
@@ -38,13 +34,16 @@ returns-then-drop_place c =
     let a = c.args in
     let l = c.loop-left in
     let some = c.loop-left-test.true in
-    let r = c.drop_place in  record { weights_after = λ p g.
+    let r = c.drop_place in record {
+      weights_after = λ p g.
           let i = l.invariant.2 p g in
           sym
           (i.0
           ∙ places-found p a.early.now a.late.now a.low l.left l.weights some r.result r.new.weights
           (r.ensures.weights_after p (last-table-held p a.early.now a.late.now a.low l.left l.weights some i.1))
-          c.if-drop_place.true); weights_len_unchanged = r.ensures.weights_len_unchanged ∙ l.invariant.1 }
+          c.if-drop_place.true);
+      weights_len_unchanged = r.ensures.weights_len_unchanged ∙ l.invariant.1;
+    }
 
 pub loop-left-preserved : goal.loop-left-preserved
 loop-left-preserved c =
@@ -68,8 +67,11 @@ returns c =
     let a = c.args in
     let l = c.loop-left in
     let none : l.left ≡ 0 = omega arith in
-    let low : nodes (a.low + l.left) ≡ nodes a.low = omega arith in  record { weights_after = λ p g.
+    let low : nodes (a.low + l.left) ≡ nodes a.low = omega arith in record {
+      weights_after = λ p g.
           sym
           ((l.invariant.2 p g).0
           ∙ eliminated-end p a.low l.left (rows_of (nodes (a.low + l.left)) l.weights) none
-          ∙ ap (λ n. bounds (rows_of n l.weights)) low); weights_len_unchanged = l.invariant.1 }
+          ∙ ap (λ n. bounds (rows_of n l.weights)) low);
+      weights_len_unchanged = l.invariant.1;
+    }

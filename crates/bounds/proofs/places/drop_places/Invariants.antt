@@ -1,17 +1,13 @@
 -- `bounds::places::drop_places` meets its contract. The loop's invariant: of each plan for which the array stood, the places that are left give the whole
 -- answer, and the array stands still.
-use Prim.Native.Nat.{◌+◌, ◌-◌, ◌≤◌}
-use mathlib.Core.Path.{◌≡◌, refl, sym, ◌∙◌, ap}
-use native.Mathlib.Omega.{arith}
+use Prim.Native.Nat.{◌+◌, ◌≤◌}
+use mathlib.Core.Path.{◌≡◌}
 use lib.ListN.{length}
 use Rattle.plan.specs.declared.Plan.{Plan}
 use Rattle.bounds.specs.Events.{nodes}
-use Rattle.bounds.specs.Tables.{bounds}
 use Rattle.bounds.specs.Elimination.{eliminated}
 use Rattle.bounds.specs.Flat.{rows_of}
 use Rattle.bounds.specs.Held.{TableHeldFor}
-use Rattle.bounds.specs.PlacesLaws.{eliminated-end}
-use Rattle.bounds.specs.TableHeldLaws.{last-table-held, places-found, places-left, places-table-held}
 use Rattle.bounds.proofs.places.drop_places.Given as goal
 
 abbrev pub invariant-loop-left : goal.invariant-loop-left

@@ -1,5 +1,4 @@
 -- `bounds::places::drop_start` meets its contract: the rows are joined, and by `start_is` that eliminates the start.
-use borrow.Author.Rules.{rules}
 use mathlib.Core.Path.{◌∙◌, ap}
 use lib.ListN.{length}
 use Rattle.bounds.specs.Events.{start_node}
@@ -17,6 +16,9 @@ join_rows-requires c =
 pub returns : goal.returns
 returns c =
     let a = c.args in
-    let r = c.join_rows in  record { weights_after = λ p g.
+    let r = c.join_rows in record {
+      weights_after = λ p g.
           ap (λ r. set_in (start_node a.k) r.found r.weights) r.ensures
-          ∙ start_is p a.early.now a.late.now g.times-held a.k a.weights.now g.room g.fit g.size; weights_len_unchanged = ap (λ r. length r.weights) r.ensures ∙ joined_rows-length a.early.now a.late.now (start_node a.k) a.weights.now }
+          ∙ start_is p a.early.now a.late.now g.times-held a.k a.weights.now g.room g.fit g.size;
+      weights_len_unchanged = ap (λ r. length r.weights) r.ensures ∙ joined_rows-length a.early.now a.late.now (start_node a.k) a.weights.now;
+    }

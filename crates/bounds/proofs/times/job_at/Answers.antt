@@ -1,6 +1,5 @@
 -- `bounds::times::job_at` meets its contract: the two cases of `job_at`.
 use Rattle.bounds.specs.EventsLaws.{job_at-this, job_at-next}
-use borrow.Author.Rules.{rules}
 use Rattle.bounds.proofs.times.job_at.Goals as goal
 
 pub returns-then-k-p : goal.returns-then-k-p

@@ -1,4 +1,4 @@
-use Prim.Native.Nat.{◌+◌, ◌-◌, ◌≤◌, ◌<◌}
+use Prim.Native.Nat.{◌+◌, ◌<◌}
 use mathlib.Core.Path.{◌≡◌, refl, sym, ◌∙◌, ap₂, subst, subst₂}
 use native.Mathlib.Omega.{arith}
 use lib.IntN.{pos, ◌+ℤ◌, ◌-ℤ◌}

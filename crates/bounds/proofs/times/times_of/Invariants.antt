@@ -1,16 +1,8 @@
 -- `bounds::times::times_of` meets its contract. The loop's invariant: both arrays are filled with the times of the places below k. The sums of a place lie in
 -- range (`job-in`).
-use Prim.Native.Nat.{◌+◌, ◌-◌, ◌≤◌, ◌<◌}
-use mathlib.Core.Path.{◌≡◌, refl, sym, ◌∙◌, ap₂, subst, subst₂}
-use native.Mathlib.Omega.{arith}
-use lib.IntN.{pos, ◌+ℤ◌, ◌-ℤ◌}
-use Rattle.plan.specs.declared.Plan.{Plan}
-use Rattle.plan.specs.Limits.{most_jobs}
-use Rattle.bounds.specs.declared.Event.TheVariants.{Origin}
+use Prim.Native.Nat.{◌+◌, ◌-◌, ◌≤◌}
 use Rattle.bounds.specs.Events.{nodes, earliest, latest}
-use Rattle.bounds.specs.EventTimesLaws.{JobInRange, job-in}
-use Rattle.bounds.specs.FillLaws.{Filled, filled-origin, filled-place, filled-times-held}
-use Rattle.bounds.proofs.Gaps.{gap-fits, gap_back, total-fits, total-back, chain_fits, chain_back}
+use Rattle.bounds.specs.FillLaws.{Filled}
 use Rattle.bounds.proofs.times.times_of.Given as goal
 
 abbrev pub invariant-loop-k : goal.invariant-loop-k

@@ -3,7 +3,6 @@
 use mathlib.Core.Path.{refl}
 use native.Mathlib.Omega.{arith}
 use Rattle.lines.specs.WrittenLaws.{stored-whole, measured-none, measured-whole, wrote-within}
-use borrow.Author.Rules.{rules}
 use Rattle.calendars.proofs.decision_text.write_decision.Goals as goal
 
 pub returns-then-out-ge-MOST_BYTES : goal.returns-then-out-ge-MOST_BYTES

@@ -1,5 +1,4 @@
 -- `event_letter`: the test is the definition's.
-use borrow.Author.Rules.{rules}
 use borrow.Author.Tests.{lt-ltb, le-ltb}
 use Rattle.calendars.proofs.print.event_letter.Goals as goal
 

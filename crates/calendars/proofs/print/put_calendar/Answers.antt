@@ -1,6 +1,5 @@
 -- `put_calendar`: the first line and the jobs in a row, by `stored-keyed`.
 use native.Mathlib.Omega.{arith}
-use borrow.Author.Rules.{rules}
 use lib.IntN.{pos}
 use Rattle.text.specs.Bytes.{bytes}
 use Rattle.calendars.specs.CalendarText.{calendar_text}

@@ -1,5 +1,4 @@
 -- `put_event`: the letter, the kind and the job in a row, by `stored-append`.
-use borrow.Author.Rules.{rules}
 use Rattle.text.specs.LentLaws.{stored-append}
 use Rattle.calendars.specs.CalendarTextLaws.{stored-event}
 use Rattle.calendars.proofs.print.put_event.Goals as goal

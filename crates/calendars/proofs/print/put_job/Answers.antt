@@ -1,6 +1,5 @@
 -- `put_job`: the head and the terms of both sides in a row, by `stored-append`.
 use native.Mathlib.Omega.{arith}
-use borrow.Author.Rules.{rules}
 use Rattle.text.specs.Bytes.{bytes}
 use Rattle.text.specs.LentLaws.{stored-append}
 use Rattle.calendars.specs.CalendarText.{job_text}

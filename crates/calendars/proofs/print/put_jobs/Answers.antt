@@ -1,11 +1,9 @@
-use Prim.Native.Nat.{◌+◌, ◌*◌, ◌-◌, ◌≤◌}
+use Prim.Native.Nat.{◌-◌}
 use mathlib.Core.Path.{◌≡◌, refl, ◌∙◌}
 use native.Mathlib.Omega.{arith}
-use lib.ListN.{length}
-use Rattle.calendars.specs.declared.Calendar.{Calendar}
-use Rattle.calendars.specs.CalendarText.{job_texts, most_job_bytes}
+use Rattle.calendars.specs.CalendarText.{job_texts}
 use Rattle.calendars.specs.CalendarTextLaws.{left-job, left-jobs}
-use Rattle.text.specs.LeftLaws.{LeftToWrite, left-whole}
+use Rattle.text.specs.LeftLaws.{left-whole}
 use Rattle.calendars.proofs.print.put_jobs.Goals as goal
 
 pub loop-i-init : goal.loop-i-init
@@ -31,4 +29,4 @@ shape_of-out c = c.loop-i.invariant.2
 pub returns : goal.returns
 returns c =
     let l = c.loop-i in
-    let a = c.args in  record { stored = left-jobs a.jobs a.c l.i a.jobs l.invariant.3 (omega arith); upper_bound = omega arith }
+    let a = c.args in record { stored = left-jobs a.jobs a.c l.i a.jobs l.invariant.3 (omega arith); upper_bound = omega arith }

@@ -1,12 +1,10 @@
 -- `put_jobs`: the jobs from place i on are left. One law a turn: `left-job`, `left-jobs`.
 use Prim.Native.Nat.{◌+◌, ◌*◌, ◌-◌, ◌≤◌}
-use mathlib.Core.Path.{◌≡◌, refl, ◌∙◌}
-use native.Mathlib.Omega.{arith}
+use mathlib.Core.Path.{◌≡◌}
 use lib.ListN.{length}
 use Rattle.calendars.specs.declared.Calendar.{Calendar}
 use Rattle.calendars.specs.CalendarText.{job_texts, most_job_bytes}
-use Rattle.calendars.specs.CalendarTextLaws.{left-job, left-jobs}
-use Rattle.text.specs.LeftLaws.{LeftToWrite, left-whole}
+use Rattle.text.specs.LeftLaws.{LeftToWrite}
 use Rattle.calendars.proofs.print.put_jobs.Given as goal
 
 abbrev pub invariant-loop-i : goal.invariant-loop-i

@@ -1,6 +1,5 @@
 -- `put_term`: the key, the event, the comma, the number and the LF in a row, by `stored-append`; the event's name has at most 22 bytes, the number twenty.
 use native.Mathlib.Omega.{arith}
-use borrow.Author.Rules.{rules}
 use Rattle.whole.specs.SplitLaws.{cast-wide}
 use Rattle.text.specs.LentLaws.{stored-append, stored-near}
 use Rattle.text.specs.Numbers.{decimal}

@@ -1,16 +1,15 @@
-use Prim.Native.Nat.{◌+◌, ◌*◌, ◌-◌, ◌≤◌}
+use Prim.Native.Nat.{◌+◌, ◌-◌}
 use mathlib.Core.Path.{◌≡◌, refl, sym, ◌∙◌}
 use native.Mathlib.Omega.{arith}
 use lib.IntN.{pos}
-use lib.ListN.{length, get_or}
+use lib.ListN.{get_or}
 use mir.Syntax.{w32}
 use Rattle.whole.specs.SplitLaws.{told-fits}
 use Rattle.events.specs.Bits.{bits_of, most_bits, count_from, next_event}
 use Rattle.events.specs.BitsLaws.{next_event-from, count_from-next, count_from-none}
-use Rattle.calendars.specs.CalendarText.{term_lines, most_term_bytes}
+use Rattle.calendars.specs.CalendarText.{term_lines}
 use Rattle.calendars.specs.CalendarTextLaws.{stored-term-near, left-term, left-terms}
-use Rattle.text.specs.LeftLaws.{LeftToWrite, left-whole}
-use borrow.Author.Rules.{rules}
+use Rattle.text.specs.LeftLaws.{left-whole}
 use Rattle.calendars.proofs.print.put_terms.Goals as goal
 
 pub loop-left-init : goal.loop-left-init
@@ -31,8 +30,11 @@ shape_of-out-then-count-k c = c.loop-left.invariant.2
 pub returns-then-count-k : goal.returns-then-count-k
 returns-then-count-k c =
     let l = c.loop-left in
-    let a = c.args in  record { stored = left-terms a.jobs a.key.now (bits_of a.set) a.cs.now a.row l.e c.next-k.result a.count c.next-k.ensures
-          l.invariant.4 (omega arith); upper_bound = omega arith }
+    let a = c.args in record {
+      stored = left-terms a.jobs a.key.now (bits_of a.set) a.cs.now a.row l.e c.next-k.result a.count c.next-k.ensures
+          l.invariant.4 (omega arith);
+      upper_bound = omega arith;
+    }
 
 pub loop-left-smaller : goal.loop-left-smaller
 loop-left-smaller c =
@@ -67,5 +69,8 @@ pub returns : goal.returns
 returns c =
     let l = c.loop-left in
     let a = c.args in
-    let none : count_from (bits_of a.set) l.e (most_bits - l.e) ≡ 0 = omega (arith, l.invariant.3) in  record { stored = left-terms a.jobs a.key.now (bits_of a.set) a.cs.now a.row l.e _ a.count refl l.invariant.4
-          (omega (arith, count_from-none (bits_of a.set) l.e none)); upper_bound = omega arith }
+    let none : count_from (bits_of a.set) l.e (most_bits - l.e) ≡ 0 = omega (arith, l.invariant.3) in record {
+      stored = left-terms a.jobs a.key.now (bits_of a.set) a.cs.now a.row l.e _ a.count refl l.invariant.4
+          (omega (arith, count_from-none (bits_of a.set) l.e none));
+      upper_bound = omega arith;
+    }

@@ -1,18 +1,11 @@
 -- `put_terms`: the lines from event e on are left, as many as the set has events from there on. One law a turn: `term_lines-next`, `term_lines-stop`, and of
 -- the count `count_from-next`, `count_from-none`; an event passed moves the place by at most `most_term_bytes`.
 use Prim.Native.Nat.{◌+◌, ◌*◌, ◌-◌, ◌≤◌}
-use mathlib.Core.Path.{◌≡◌, refl, sym, ◌∙◌}
-use native.Mathlib.Omega.{arith}
-use lib.IntN.{pos}
-use lib.ListN.{length, get_or}
-use mir.Syntax.{w32}
-use Rattle.whole.specs.SplitLaws.{told-fits}
-use Rattle.events.specs.Bits.{bits_of, most_bits, count_from, next_event}
-use Rattle.events.specs.BitsLaws.{next_event-from, count_from-next, count_from-none}
+use mathlib.Core.Path.{◌≡◌}
+use lib.ListN.{length}
+use Rattle.events.specs.Bits.{bits_of, most_bits, count_from}
 use Rattle.calendars.specs.CalendarText.{term_lines, most_term_bytes}
-use Rattle.calendars.specs.CalendarTextLaws.{stored-term-near, left-term, left-terms}
-use Rattle.text.specs.LeftLaws.{LeftToWrite, left-whole}
-use borrow.Author.Rules.{rules}
+use Rattle.text.specs.LeftLaws.{LeftToWrite}
 use Rattle.calendars.proofs.print.put_terms.Given as goal
 
 abbrev pub invariant-loop-left : goal.invariant-loop-left

@@ -3,7 +3,6 @@ use native.Mathlib.Omega.{arith}
 use lib.ListN.{length-take}
 use Rattle.calendars.specs.CalendarText.{calendar_output}
 use Rattle.lines.specs.WrittenLaws.{whole-cut}
-use borrow.Author.Rules.{rules}
 use Rattle.calendars.proofs.printed.answer_read.Goals as goal
 
 pub slice_bounds-answer_whole-end : goal.slice_bounds-answer_whole-end

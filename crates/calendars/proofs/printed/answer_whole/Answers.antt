@@ -3,7 +3,6 @@
 use native.Mathlib.Omega.{arith}
 use Rattle.calendars.specs.CalendarText.{calendar_output}
 use Rattle.lines.specs.WrittenLaws.{written-room, answered-whole, answered-never}
-use borrow.Author.Rules.{rules}
 use Rattle.calendars.proofs.printed.answer_whole.Goals as goal
 
 pub returns-in-Length : goal.returns-in-Length

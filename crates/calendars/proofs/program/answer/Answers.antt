@@ -3,7 +3,6 @@ use mathlib.Core.Path.{◌∙◌}
 use native.Mathlib.Omega.{arith}
 use Rattle.lines.specs.WrittenLaws.{wrote_as}
 use Rattle.calendars.specs.DecisionsLaws.{plan-accepted, plan-refused, text-of-outcome}
-use borrow.Author.Rules.{rules}
 use Rattle.calendars.proofs.program.answer.Goals as goal
 
 pub decide-decision-requires : goal.decide-decision-requires

@@ -4,7 +4,6 @@ use lib.IntN.{neg_ℤ, ◌-ℤ◌}
 use mir.Syntax.{w32}
 use mir.Val.{to_z, of_z}
 use mir.Facts.{to_z-of_z}
-use borrow.Author.Rules.{rules}
 use Rattle.whole.specs.Rules.{wholes}
 use Rattle.whole.specs.SplitLaws.{split-neg}
 use Rattle.bounds.specs.FlatLaws.{is-mark, no-mark}

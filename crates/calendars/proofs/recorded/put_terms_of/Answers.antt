@@ -2,7 +2,6 @@
 use Prim.Native.Nat.{ℕ, ◌+◌, ◌*◌}
 use mathlib.Core.Path.{◌≡◌, ap, ap₂, ◌∙◌}
 use native.Mathlib.Omega.{arith}
-use borrow.Author.Rules.{rules}
 use lib.IntN.{ℤ, pos, neg_ℤ, ◌-ℤ◌}
 use lib.ListN.{get_or}
 use lib.Seq.{sets}
@@ -45,9 +44,13 @@ returns c =
     let to-origin = to_z-of_z (told-fits w32 (get_or a.weights.now (end * side) (pos 0)) c.to_origin-1.given)
     ∙ ap (λ (k : ℕ). get_or a.weights.now k (pos 0)) row in
     let from-origin = to_z-of_z (told-fits w32 (get_or a.weights.now end (pos 0)) c.from_origin-1.given)
-    ∙ ap (λ (k : ℕ). get_or a.weights.now k (pos 0)) column in  record { value = terms_of-is a.p c.requires.0 a.i c.requires.1 a.weights.now c.requires.2 c.low_of-low.result c.high_of-high.result first.result
+    ∙ ap (λ (k : ℕ). get_or a.weights.now k (pos 0)) column in record {
+      value = terms_of-is a.p c.requires.0 a.i c.requires.1 a.weights.now c.requires.2 c.low_of-low.result c.high_of-high.result first.result
           second.result
           (c.low_of-low.ensures ∙ ap₂ (λ (w v : ℤ). neg_ℤ w -ℤ v) to-origin window)
           (c.high_of-high.ensures ∙ ap₂ (λ (w v : ℤ). w -ℤ v) from-origin window)
           first.ensures.0
-          second.ensures.0; least_after = first.ensures.1 ∙ ap (sets a.least.now (a.i * most_events)) (cs_on-least a.p c.requires.0 a.i c.requires.1 a.weights.now c.requires.2); most_after = second.ensures.1 ∙ ap (sets a.most.now (a.i * most_events)) (cs_on-most a.p c.requires.0 a.i c.requires.1 a.weights.now c.requires.2) }
+          second.ensures.0;
+      least_after = first.ensures.1 ∙ ap (sets a.least.now (a.i * most_events)) (cs_on-least a.p c.requires.0 a.i c.requires.1 a.weights.now c.requires.2);
+      most_after = second.ensures.1 ∙ ap (sets a.most.now (a.i * most_events)) (cs_on-most a.p c.requires.0 a.i c.requires.1 a.weights.now c.requires.2);
+    }

@@ -3,7 +3,6 @@ use Prim.Native.Nat.{◌+◌}
 use mathlib.Core.Path.{◌∙◌}
 use mir.Syntax.{w32}
 use mir.Facts.{to_z-of_z}
-use borrow.Author.Rules.{rules}
 use Rattle.whole.specs.SplitLaws.{told-fits}
 use Rattle.bounds.specs.Flat.{weight_at}
 use Rattle.calendars.specs.RecordedLaws.{weight_on-below, weight_on-above}

@@ -8,7 +8,6 @@ use Rattle.calendars.specs.DecisionsLaws.{plan-accepted}
 use Rattle.plan.specs.PlanLines.{plan_alone}
 use Rattle.plan.specs.PlanPartLaws.{plan_alone-tail}
 use Rattle.calendars.specs.RefusedLaws.{told-lines, told-settled-alone, told-verdict}
-use borrow.Author.Rules.{rules}
 use Rattle.calendars.proofs.refused.refused_in_plan.Goals as goal
 
 pub returns-in_default : goal.returns-in_default
@@ -17,7 +16,7 @@ returns-in_default c =
     let s = c.args.s.now in
     let q = c.in_default.is in
     let t = told-lines (λ m. m) (λ x t. refl) s (plan_alone s) (plan_alone-tail s) r.result r.ensures r.result.answer _ q q in
-    let e = c.tell_refusal.ensures in  record { result_value = e.result_value ∙ t.part-is; n_after = e.n_after ∙ t.number_is; d_after = e.d_after ∙ t.value-is }
+    let e = c.tell_refusal.ensures in record { result_value = e.result_value ∙ t.part-is; n_after = e.n_after ∙ t.number_is; d_after = e.d_after ∙ t.value-is }
 
 pub decide-decision-requires : goal.decide-decision-requires
 decide-decision-requires c =
@@ -32,7 +31,7 @@ returns-in_default-verdict c =
     let q = c.in-Accepted.is in
     let v = sym (ap verdict_told c.decide-decision.ensures.verdict_value) ∙ sym c.tell_verdict-verdict.ensures ∙ c.in_default-verdict.is in
     let t = told-settled-alone s r.result r.ensures q _ v r.result.answer q in
-    let e = c.tell_refusal-in_default-verdict.ensures in  record { result_value = e.result_value ∙ t.part-is; n_after = e.n_after ∙ t.number_is; d_after = e.d_after ∙ t.value-is }
+    let e = c.tell_refusal-in_default-verdict.ensures in record { result_value = e.result_value ∙ t.part-is; n_after = e.n_after ∙ t.number_is; d_after = e.d_after ∙ t.value-is }
 
 pub returns : goal.returns
 returns c =
@@ -42,4 +41,4 @@ returns c =
     let q = c.in-Accepted.is in
     let v = sym (ap verdict_told c.decide-decision.ensures.verdict_value) ∙ sym c.tell_verdict-verdict.ensures ∙ c.in-Refused.is in
     let t = told-verdict (λ m. m) (λ x t. refl) s (plan_alone s) (plan_alone-tail s) r.result r.ensures _ _ refl q v _ refl in
-    let e = c.tell_refusal-2.ensures in  record { result_value = e.result_value ∙ t.part-is; n_after = e.n_after ∙ t.number_is; d_after = e.d_after ∙ t.value-is }
+    let e = c.tell_refusal-2.ensures in record { result_value = e.result_value ∙ t.part-is; n_after = e.n_after ∙ t.number_is; d_after = e.d_after ∙ t.value-is }

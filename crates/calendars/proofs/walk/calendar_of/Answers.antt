@@ -1,9 +1,8 @@
 use Prim.Native.Nat.{ℕ, suc, ◌+◌, ◌-◌}
 use mathlib.Core.Path.{◌≡◌, ◌∙◌, subst}
 use native.Mathlib.Omega.{arith}
-use lib.ListN.{length}
 use Rattle.bounds.specs.Events.{start_node, finish_node, nodes}
-use Rattle.bounds.specs.Flat.{rows_of, cells}
+use Rattle.bounds.specs.Flat.{rows_of}
 use Rattle.bounds.specs.Held.{TableHeldFor}
 use Rattle.calendars.specs.CalendarsLaws.{Walked, Walked-start, Walked-some, Walked-finish, Walked-last, Walked-more, Walked-end}
 use Rattle.calendars.proofs.walk.calendar_of.Goals as goal

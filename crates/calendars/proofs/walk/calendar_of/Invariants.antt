@@ -1,12 +1,10 @@
 -- `calendar_of` meets its contract. The invariant is `Walked`: the jobs from place left on are recorded, and the tables before the others are left.
-use Prim.Native.Nat.{ℕ, suc, ◌+◌, ◌-◌}
-use mathlib.Core.Path.{◌≡◌, ◌∙◌, subst}
-use native.Mathlib.Omega.{arith}
+use Prim.Native.Nat.{◌+◌}
+use mathlib.Core.Path.{◌≡◌}
 use lib.ListN.{length}
-use Rattle.bounds.specs.Events.{start_node, finish_node, nodes}
+use Rattle.bounds.specs.Events.{nodes}
 use Rattle.bounds.specs.Flat.{rows_of, cells}
-use Rattle.bounds.specs.Held.{TableHeldFor}
-use Rattle.calendars.specs.CalendarsLaws.{Walked, Walked-start, Walked-some, Walked-finish, Walked-last, Walked-more, Walked-end}
+use Rattle.calendars.specs.CalendarsLaws.{Walked}
 use Rattle.calendars.proofs.walk.calendar_of.Given as goal
 
 abbrev pub invariant-loop-left : goal.invariant-loop-left

@@ -2,7 +2,6 @@
 use Prim.Native.Nat.{◌/◌, ◌^◌}
 use mathlib.Core.Path.{sym}
 use native.Mathlib.Omega.{arith}
-use borrow.Author.Rules.{rules}
 use lib.Count.{trailing_le}
 use Rattle.events.specs.Bits.{most_bits}
 use Rattle.events.specs.BitsLaws.{next_from-zeros}

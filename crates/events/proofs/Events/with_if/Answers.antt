@@ -1,7 +1,6 @@
 -- `with_if`: one case of the definition for each return.
 use mathlib.Core.Path.{sym, ap, ◌∙◌}
 use mathlib.Core.Bool.{Bool}
-use borrow.Author.Rules.{rules}
 use Rattle.events.specs.Bits.{with_if}
 use Rattle.events.proofs.Events.with_if.Goals as goal
 

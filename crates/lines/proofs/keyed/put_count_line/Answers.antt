@@ -4,10 +4,9 @@ use native.Mathlib.Omega.{arith}
 use Rattle.text.specs.Lines.{LF}
 use Rattle.text.specs.LentLaws.{stored-append}
 use Rattle.lines.specs.KeyedLaws.{stored-count}
-use borrow.Author.Rules.{rules}
 use Rattle.lines.proofs.keyed.put_count_line.Goals as goal
 
 pub returns : goal.returns
 returns c =
     let key = c.put_bytes-number.ensures in
-    let count = c.put_ended_count.ensures in  record { stored = stored-append key (stored-count c.args.n (LF ∷ []) count.stored); upper_bound = omega arith }
+    let count = c.put_ended_count.ensures in record { stored = stored-append key (stored-count c.args.n (LF ∷ []) count.stored); upper_bound = omega arith }

@@ -8,7 +8,6 @@ use Rattle.text.specs.Lines.{LF, len_to}
 use Rattle.text.specs.LineLaws.{next_line-at, len_to-fits}
 use Rattle.lines.specs.PartLaws.{before-past}
 use Rattle.lines.specs.ReadAtLaws.{line_to-len}
-use borrow.Author.Rules.{rules}
 use Rattle.lines.proofs.parts.line_at.Goals as goal
 
 pub returns-then-s-at : goal.returns-then-s-at

@@ -1,5 +1,4 @@
 -- `fault_at`: each arm is a clause of `fault_at`.
-use borrow.Author.Rules.{rules}
 use Rattle.lines.proofs.refusals.fault_at.Goals as goal
 
 pub returns-in-Form : goal.returns-in-Form

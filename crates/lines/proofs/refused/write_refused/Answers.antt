@@ -1,7 +1,6 @@
 -- `write_refused`: by the measure of the line (`measured-none`, `measured-whole`), which bounds its length (`wrote-within`).
 use mathlib.Core.Path.{refl}
 use Rattle.lines.specs.WrittenLaws.{measured-none, measured-whole, wrote-within}
-use borrow.Author.Rules.{rules}
 use Rattle.lines.proofs.refused.write_refused.Goals as goal
 
 pub returns-then-out-length_of_line : goal.returns-then-out-length_of_line

@@ -1,13 +1,11 @@
 -- `bound_names`: the key, a name, and a name; `names_in-other` without the key, `names_in-key` with it. A name ends within the line (`name_to-fits`).
-use mathlib.Core.Path.{refl, ◌≡◌, sym, ◌∙◌, ap}
+use mathlib.Core.Path.{◌≡◌, sym, ◌∙◌, ap}
 use mathlib.Core.Bool.{true}
-use borrow.Author.Tests.{not-true, not-false}
 use Rattle.text.specs.Bytes.{bytes}
 use Rattle.text.specs.Lines.{has_key}
 use Rattle.text.specs.LineLaws.{has_key-fits}
 use Rattle.plan.specs.BoundNames.{then_second, then_number}
 use Rattle.plan.specs.BoundLaws.{name_to-fits, names_in-other, names_in-key}
-use borrow.Author.Rules.{rules}
 use Rattle.plan.proofs.bound_line.bound_names.Goals as goal
 
 pub returns-then-not-has_key : goal.returns-then-not-has_key

@@ -2,7 +2,6 @@
 use mathlib.Core.Path.{sym, ◌∙◌}
 use mir.Syntax.{w32}
 use Rattle.whole.specs.SplitLaws.{told-fits, cast-wide}
-use borrow.Author.Tests.{not-true, not-false}
 use Rattle.whole.specs.Widths.{i32-widened}
 use Rattle.plan.proofs.bound_line.has_range.Goals as goal
 

@@ -1,10 +1,8 @@
 -- `judge_bound`: one law a way, `judged_bound-range`, `-pair`, `-value`.
 use mathlib.Core.Path.{sym, ◌∙◌}
-use borrow.Author.Tests.{not-true, not-false}
 use lib.ListN.{take}
 use Rattle.plan.specs.Pairs.{is_wrong_numbered}
 use Rattle.plan.specs.BoundLaws.{judged_bound-range, judged_bound-pair, judged_bound-value}
-use borrow.Author.Rules.{rules}
 use Rattle.plan.proofs.bound_line.judge_bound.Goals as goal
 
 pub returns-then-not-has_range : goal.returns-then-not-has_range

@@ -5,7 +5,6 @@ use native.Mathlib.Omega.{arith}
 use lib.ListN.{length, take, drop, length-take, length-drop}
 use Rattle.text.specs.LineLaws.{drop-rest}
 use Rattle.plan.specs.BoundLaws.{read_named, name_to-bare, name_to-read}
-use borrow.Author.Rules.{rules}
 use Rattle.plan.proofs.bound_line.name_to.Goals as goal
 
 pub returns-then-s-i : goal.returns-then-s-i

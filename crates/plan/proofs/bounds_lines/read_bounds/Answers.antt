@@ -1,11 +1,10 @@
 use mathlib.Core.Path.{ap}
-use Prim.Native.Nat.{◌+◌, ◌-◌}
+use Prim.Native.Nat.{◌+◌}
 use native.Mathlib.Omega.{arith}
-use borrow.Author.Rules.{rules}
 use lib.ListN.{length}
 use Rattle.plan.specs.ReadAt.{bound_line_at}
 use Rattle.lines.specs.ReadAtLaws.{at_told-goes, at_told-stops, at_place-goes, at_place-stops}
-use Rattle.plan.specs.BoundsLoop.{BoundsPassed, BoundsPassed-start, BoundsPassed-stop, BoundsPassed-past, BoundsPassed-end, BoundsPassed-filled}
+use Rattle.plan.specs.BoundsLoop.{BoundsPassed-start, BoundsPassed-stop, BoundsPassed-past, BoundsPassed-end, BoundsPassed-filled}
 use Rattle.plan.proofs.bounds_lines.read_bounds.Goals as goal
 
 pub loop-i-init : goal.loop-i-init
@@ -21,9 +20,13 @@ returns-in_default c =
     let a = c.args in
     let v = c.loop-i in
     let s = a.s.now in
-    let r = c.read_bound_at-read in  record { number_value = BoundsPassed-stop s a.from a.number a.jobs a.bounds v.bound v.given v.at v.line v.i c.requires.1.1.0
+    let r = c.read_bound_at-read in record {
+      number_value = BoundsPassed-stop s a.from a.number a.jobs a.bounds v.bound v.given v.at v.line v.i c.requires.1.1.0
           v.invariant c.loop-i-test.true c.bound_fault-fault.result
-          (at_told-stops s (v.line + 1) (bound_line_at r.result) r.ensures.number_value (ap bound_line_at c.in_default.is) c.bound_fault-fault.ensures); went_in_bounds = at_place-stops (bound_line_at r.result) (length s) r.ensures.result_in_bounds (ap bound_line_at c.in_default.is) c.bound_fault-fault.ensures; bounds_filled = tt }
+          (at_told-stops s (v.line + 1) (bound_line_at r.result) r.ensures.number_value (ap bound_line_at c.in_default.is) c.bound_fault-fault.ensures);
+      went_in_bounds = at_place-stops (bound_line_at r.result) (length s) r.ensures.result_in_bounds (ap bound_line_at c.in_default.is) c.bound_fault-fault.ensures;
+      bounds_filled = tt;
+    }
 
 pub offset_bounds-given-i : goal.offset_bounds-given-i
 offset_bounds-given-i c =
@@ -72,5 +75,9 @@ returns c =
     let a = c.args in
     let v = c.loop-i in
     let s = a.s.now in
-    let few = c.requires.1.1.0 in  record { number_value = BoundsPassed-end s a.from a.number a.jobs a.bounds v.bound v.given v.at v.line v.i few v.invariant c.loop-i-test.false; went_in_bounds = v.invariant.place; bounds_filled = BoundsPassed-filled s a.from a.number a.jobs a.bounds v.bound v.given v.at v.line v.i few v.invariant c.loop-i-test.false
-            c.requires.1.1.1 }
+    let few = c.requires.1.1.0 in record {
+      number_value = BoundsPassed-end s a.from a.number a.jobs a.bounds v.bound v.given v.at v.line v.i few v.invariant c.loop-i-test.false;
+      went_in_bounds = v.invariant.place;
+      bounds_filled = BoundsPassed-filled s a.from a.number a.jobs a.bounds v.bound v.given v.at v.line v.i few v.invariant c.loop-i-test.false
+          c.requires.1.1.1;
+    }

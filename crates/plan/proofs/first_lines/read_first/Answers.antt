@@ -1,5 +1,5 @@
 -- `read_first`: after each line `rest₁` to `rest₄` say what is left to be read (`line-goes`); a line that is refused is the answer (`line-stops`).
-use mathlib.Core.Path.{refl, ◌≡◌, ◌∙◌, ap}
+use mathlib.Core.Path.{◌≡◌, ◌∙◌, ap}
 use mathlib.Core.List.{List}
 use Prim.Native.Nat.{ℕ}
 use lib.IntN.{ℤ, nat_abs}

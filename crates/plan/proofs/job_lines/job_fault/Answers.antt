@@ -1,5 +1,4 @@
 -- `job_fault`: each arm is a clause of `job_lines_at` and of `at_fault`.
-use borrow.Author.Rules.{rules}
 use Rattle.plan.proofs.job_lines.job_fault.Goals as goal
 
 pub returns-in-Value : goal.returns-in-Value

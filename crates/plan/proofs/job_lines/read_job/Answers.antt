@@ -1,5 +1,5 @@
 -- `read_job`: after each line `rest₁` to `rest₄` say what is left to be read (`line-goes`); a line that is refused is the answer (`line-stops`).
-use mathlib.Core.Path.{◌≡◌, refl}
+use mathlib.Core.Path.{◌≡◌}
 use mathlib.Core.List.{List}
 use Prim.Native.Nat.{ℕ, ◌+◌}
 use lib.IntN.{ℤ, pos}
@@ -144,4 +144,4 @@ returns c =
     let back₄ : to_z w32 (of_z w32 z₄) ≡ z₄ = to_z-of_z {w = w32} {z = z₄} (search rules) in
     let rest₄ : RestAt s₀ job₀
     (answer (record { min = z₁; max = z₂; release = z₃; deadline = z₄ }))
-    c.in-Value-fourth.next (c.args.line + 1 + 1 + 1 + 1) = line-goes _ _ _ _ rest₃ _ c.read_number_line-fourth.ensures c.in-Value-fourth.is in  record { line_value = rw (back₁, back₂, back₃, back₄) rest₄.reads; result_in_bounds = rest₄.place }
+    c.in-Value-fourth.next (c.args.line + 1 + 1 + 1 + 1) = line-goes _ _ _ _ rest₃ _ c.read_number_line-fourth.ensures c.in-Value-fourth.is in record { line_value = rw (back₁, back₂, back₃, back₄) rest₄.reads; result_in_bounds = rest₄.place }

@@ -1,5 +1,4 @@
 -- `event_name`: three bytes, and then the two tests of `letter_of`. It rests on `event_name-three` and `event_name-other`.
-use borrow.Author.Rules.{rules}
 use borrow.Author.Tests.{eq-eqb, ne_eqb}
 use lib.ListN.{get_or}
 use Rattle.plan.specs.EventNameLaws.{event_name-three, event_name-other}

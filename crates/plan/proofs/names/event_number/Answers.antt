@@ -1,6 +1,5 @@
 -- `event_number`: the letter's and the kind's numbers are at most 1, so nothing wraps.
 use native.Mathlib.Omega.{arith}
-use borrow.Author.Rules.{rules}
 use Rattle.plan.specs.EventNameLaws.{letter_number-fits, kind_number-fits}
 use Rattle.plan.proofs.names.event_number.Goals as goal
 
@@ -21,10 +20,13 @@ overflow_add-result-2 c =
     )
 
 pub returns : goal.returns
-returns c = record { value = cc; upper_bound = omega (
+returns c = record {
+  value = cc;
+  upper_bound = omega (
     arith,
     c.letter_number.ensures,
     c.kind_number.ensures,
     letter_number-fits c.args.e.letter,
     kind_number-fits c.args.e.kind,
-  ) }
+  );
+}

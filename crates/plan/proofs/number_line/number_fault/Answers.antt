@@ -1,5 +1,4 @@
 -- `number_fault`: each arm is a clause of `number_line_at` and of `at_fault`.
-use borrow.Author.Rules.{rules}
 use Rattle.plan.proofs.number_line.number_fault.Goals as goal
 
 pub returns-in-Value : goal.returns-in-Value

@@ -1,6 +1,5 @@
-use Prim.Native.Nat.{◌+◌, ◌-◌, ◌≤◌}
-use mathlib.Core.Path.{◌≡◌, refl, sym, ap, ◌∙◌}
-use mathlib.Core.Logic.{⊎_elim}
+use Prim.Native.Nat.{◌+◌}
+use mathlib.Core.Path.{refl, sym, ap, ◌∙◌}
 use mathlib.Core.Bool.{Bool, ◌||◌}
 use native.Mathlib.Omega.{arith}
 use lib.ListN.{take, drop}
@@ -19,11 +18,11 @@ loop-i-preserved c =
       omega arith,
       c.loop-i.invariant.1
           ∙ elim c.if-numbers-i.branch [
-      then-numbers-i w ↦ or-stop c.loop-i.found _ rest (is_in-stop a.x a.numbers.now a.n c.loop-i.i c.requires.1 (omega arith) w.if-numbers-i.true)
-          ∙ sym (ap (λ (f : Bool). f || rest) w.found-is)
-    | else-numbers-i w ↦ ap (λ (b : Bool). c.loop-i.found || b) (is_in-past a.x a.numbers.now a.n c.loop-i.i c.requires.1 (omega arith) w.if-numbers-i.false)
-          ∙ sym (ap (λ (f : Bool). f || rest) w.found-is)
-    ],
+            | then-numbers-i w ↦ or-stop c.loop-i.found _ rest (is_in-stop a.x a.numbers.now a.n c.loop-i.i c.requires.1 (omega arith) w.if-numbers-i.true)
+                ∙ sym (ap (λ (f : Bool). f || rest) w.found-is)
+            | else-numbers-i w ↦ ap (λ (b : Bool). c.loop-i.found || b) (is_in-past a.x a.numbers.now a.n c.loop-i.i c.requires.1 (omega arith) w.if-numbers-i.false)
+                ∙ sym (ap (λ (f : Bool). f || rest) w.found-is)
+          ],
     )
 
 pub returns : goal.returns

@@ -1,12 +1,9 @@
 -- `is_in`: x is among the first n numbers exactly if it was found or is among those that are left. One law a way: `is_in-stop`, `is_in-past`, `is_in-end`.
-use Prim.Native.Nat.{◌+◌, ◌-◌, ◌≤◌}
-use mathlib.Core.Path.{◌≡◌, refl, sym, ap, ◌∙◌}
-use mathlib.Core.Logic.{⊎_elim}
-use mathlib.Core.Bool.{Bool, ◌||◌}
-use native.Mathlib.Omega.{arith}
+use Prim.Native.Nat.{◌-◌, ◌≤◌}
+use mathlib.Core.Path.{◌≡◌}
+use mathlib.Core.Bool.{◌||◌}
 use lib.ListN.{take, drop}
 use Rattle.plan.specs.Pairs.{is_in}
-use Rattle.plan.specs.PairLaws.{or-stop, or-end, is_in-stop, is_in-past, is_in-end}
 use Rattle.plan.proofs.pairs.is_in.Given as goal
 
 abbrev pub invariant-loop-i : goal.invariant-loop-i

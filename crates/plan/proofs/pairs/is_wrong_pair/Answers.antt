@@ -3,7 +3,6 @@ use mathlib.Core.Path.{sym, ◌∙◌, ap}
 use lib.ListN.{take}
 use Rattle.plan.specs.Pairs.{is_in}
 use Rattle.plan.specs.PairLaws.{is_wrong_numbered-next, is_wrong_numbered-same, is_wrong_numbered-given}
-use borrow.Author.Rules.{rules}
 use Rattle.plan.proofs.pairs.is_wrong_pair.Goals as goal
 
 pub returns-then-both_next : goal.returns-then-both_next

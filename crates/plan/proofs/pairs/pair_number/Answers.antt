@@ -1,6 +1,5 @@
 -- `pair_number`: an event's number is below 1,024, so nothing wraps.
 use native.Mathlib.Omega.{arith}
-use borrow.Author.Rules.{rules}
 use Rattle.plan.proofs.pairs.pair_number.Goals as goal
 
 pub overflow_mul-result : goal.overflow_mul-result

@@ -1,6 +1,6 @@
 -- `read_head`: the length, the first four lines, the jobs, the count of the bounds, the bounds. After each group `rest₁` to `rest₄` say what is left to be
 -- read (`rest_at-goes`, `line-goes`); a group that is refused is the answer (`rest_at-stops`, `line-stops`).
-use mathlib.Core.Path.{refl, ◌≡◌, sym, ◌∙◌, ap, subst}
+use mathlib.Core.Path.{◌≡◌, sym, ◌∙◌, ap, subst}
 use mathlib.Core.List.{List}
 use Prim.Native.Nat.{ℕ, ◌+◌, ◌*◌, ◌≤◌}
 use native.Mathlib.Omega.{arith}

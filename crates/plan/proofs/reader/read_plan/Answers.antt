@@ -7,7 +7,6 @@ use Rattle.lines.specs.declared.Refusal.TheVariants.{Form}
 use Rattle.plan.specs.PlanLines.{plan_head}
 use Rattle.plan.specs.PlanAnswers.{refused_read}
 use Rattle.plan.specs.HeadLaws.{alone-refused, alone-more, alone-end, plan_head-rest}
-use borrow.Author.Rules.{rules}
 use Rattle.plan.proofs.reader.read_plan.Goals as goal
 
 pub returns-in_default : goal.returns-in_default

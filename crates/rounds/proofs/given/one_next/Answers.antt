@@ -2,7 +2,6 @@
 use mathlib.Core.Path.{sym, ap₂}
 use mathlib.Core.Bool.{◌||◌}
 use Rattle.plan.specs.EventNames.{is_next}
-use borrow.Author.Rules.{rules}
 use Rattle.rounds.proofs.given.one_next.Goals as goal
 
 pub returns-in-This-b : goal.returns-in-This-b

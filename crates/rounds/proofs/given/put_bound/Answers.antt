@@ -10,7 +10,6 @@ use Rattle.plan.specs.declared.Bound.{Bound}
 use Rattle.plan.specs.Accepted.{BoundAccepted}
 use Rattle.bounds.specs.Flat.{put_at}
 use Rattle.rounds.specs.PutGivenLaws.{meant_is}
-use borrow.Author.Rules.{rules}
 use Rattle.rounds.proofs.given.put_bound.Goals as goal
 
 c-fits : {jobs : ℕ} {d : Bound} → BoundAccepted jobs d → SFits w32 d.c

@@ -3,7 +3,6 @@ use mathlib.Core.Path.{sym, ◌∙◌, ap}
 use Rattle.bounds.specs.Flat.{put_bounds}
 use Rattle.bounds.specs.BoundsLaws.{put_bounds-none}
 use Rattle.rounds.specs.PutGivenLaws.{given-due, given-other}
-use borrow.Author.Rules.{rules}
 use borrow.Author.Tests.{not-true, not-false}
 use Rattle.rounds.proofs.given.put_due.Goals as goal
 

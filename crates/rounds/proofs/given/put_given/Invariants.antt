@@ -1,15 +1,10 @@
 -- `rounds::given::put_given` meets its contract. The loop's invariant: the bounds from place i on give the whole answer.
-use Prim.Native.Nat.{◌+◌, ◌-◌}
-use mathlib.Core.Path.{◌≡◌, refl, sym, ◌∙◌, ap}
-use mathlib.Core.List.{[], ◌∷◌}
-use native.Mathlib.Omega.{arith}
-use lib.ListN.{get_or, drop}
-use Rattle.plan.specs.PlanLines.{no_bound}
+use Prim.Native.Nat.{◌-◌}
+use mathlib.Core.Path.{◌≡◌}
+use lib.ListN.{drop}
 use Rattle.plan.specs.PlanWritten.{bounds_of}
 use Rattle.bounds.specs.Flat.{put_bounds}
-use Rattle.bounds.specs.BoundsLaws.{put_bounds-stop, put_bounds-past, put_bounds-none}
 use Rattle.rounds.specs.Given.{given_bounds}
-use Rattle.rounds.specs.PutGivenLaws.{given-first, given-end}
 use Rattle.rounds.proofs.given.put_given.Given as goal
 
 abbrev pub invariant-loop-i : goal.invariant-loop-i

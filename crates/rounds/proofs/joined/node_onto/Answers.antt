@@ -1,5 +1,4 @@
 -- `rounds::joined::node_onto` meets its contract: the two cases of `onto`.
-use native.Mathlib.Omega.{arith}
 use Rattle.rounds.specs.OnNextLaws.{onto-origin, onto-event}
 use Rattle.rounds.proofs.joined.node_onto.Goals as goal
 

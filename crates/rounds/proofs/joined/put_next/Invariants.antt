@@ -1,13 +1,8 @@
 -- `rounds::joined::put_next` meets its contract. The loop's invariant: the rows that are left give the whole answer.
-use Prim.Native.Nat.{◌+◌, ◌*◌, ◌-◌, ◌≤◌}
-use mathlib.Core.Path.{◌≡◌, sym, ◌∙◌, ap, subst}
-use native.Mathlib.Omega.{arith}
-use mir.Facts.{to_z-of_z}
-use mir.Syntax.{w32}
-use mir.Val.{to_z, of_z}
+use Prim.Native.Nat.{◌-◌, ◌≤◌}
+use mathlib.Core.Path.{◌≡◌}
 use Rattle.bounds.specs.Flat.{each_node}
-use Rattle.bounds.specs.FlatLaws.{each_node-stop, each_node-past, each_node-end}
-use Rattle.rounds.specs.Next.{Nexts, next_row, next_rows}
+use Rattle.rounds.specs.Next.{next_row, next_rows}
 use Rattle.rounds.proofs.joined.put_next.Given as goal
 
 abbrev pub invariant-loop-y : goal.invariant-loop-y

@@ -1,10 +1,9 @@
-use Prim.Native.Nat.{◌+◌, ◌*◌, ◌-◌, ◌≤◌}
+use Prim.Native.Nat.{◌+◌, ◌*◌, ◌-◌}
 use mathlib.Core.Path.{◌≡◌, sym, ◌∙◌, ap, subst}
 use native.Mathlib.Omega.{arith}
 use mir.Facts.{to_z-of_z}
 use mir.Syntax.{w32}
 use mir.Val.{to_z, of_z}
-use Rattle.bounds.specs.Flat.{each_node}
 use Rattle.bounds.specs.FlatLaws.{each_node-stop, each_node-past, each_node-end}
 use Rattle.rounds.specs.Next.{Nexts, next_at, next_row}
 use Rattle.rounds.proofs.joined.put_next_row.Goals as goal

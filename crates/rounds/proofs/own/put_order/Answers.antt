@@ -1,5 +1,4 @@
 -- `rounds::own::put_order` meets its contract: one put, of the bound that `in_order` has.
-use borrow.Author.Rules.{rules}
 use Prim.Native.Nat.{◌+◌, ◌*◌}
 use mathlib.Core.Path.{◌∙◌}
 use native.Mathlib.Omega.{arith}

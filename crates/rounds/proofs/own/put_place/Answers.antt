@@ -5,7 +5,6 @@ use Rattle.bounds.specs.BuildLaws.{event_of-start, event_of-finish}
 use Rattle.bounds.specs.Flat.{flat, put_bounds}
 use Rattle.bounds.specs.BoundsLaws.{put_bounds-stop, put_bounds-past}
 use Rattle.rounds.specs.Put.{range_of}
-use borrow.Author.Rules.{rules}
 use Rattle.rounds.proofs.own.put_place.Goals as goal
 
 pub returns-then-put_range : goal.returns-then-put_range

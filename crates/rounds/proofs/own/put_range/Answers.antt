@@ -12,7 +12,6 @@ use Rattle.bounds.specs.BoundsLaws.{put_bounds-stop, put_bounds-past}
 use Rattle.rounds.specs.PutLaws.{up_bound, down_bound, up_is, down_is}
 use Rattle.bounds.specs.SpansLaws.{in_range-fits}
 use Rattle.rounds.proofs.Times.{plus-zero-fits, zero-less-fits, zero-less-back, negated_fits}
-use borrow.Author.Rules.{rules}
 use Rattle.rounds.proofs.own.put_range.Goals as goal
 
 pub put-requires : goal.put-requires

@@ -1,8 +1,5 @@
-use Prim.Native.Nat.{◌≤◌}
-use mathlib.Core.Path.{◌≡◌, refl, sym, ◌∙◌}
+use mathlib.Core.Path.{refl, sym, ◌∙◌}
 use native.Mathlib.Omega.{arith}
-use Rattle.bounds.specs.Flat.{put_bounds}
-use Rattle.rounds.specs.Put.{ranges_of}
 use Rattle.rounds.specs.PutLaws.{ranges_of-places, places-stop, places-past, places-end}
 use Rattle.rounds.proofs.own.put_ranges.Goals as goal
 

@@ -1,10 +1,8 @@
 -- `rounds::own::put_ranges` meets its contract. The loop's invariant: the places that are left give the whole answer.
 use Prim.Native.Nat.{◌≤◌}
-use mathlib.Core.Path.{◌≡◌, refl, sym, ◌∙◌}
-use native.Mathlib.Omega.{arith}
+use mathlib.Core.Path.{◌≡◌}
 use Rattle.bounds.specs.Flat.{put_bounds}
 use Rattle.rounds.specs.Put.{ranges_of}
-use Rattle.rounds.specs.PutLaws.{ranges_of-places, places-stop, places-past, places-end}
 use Rattle.rounds.proofs.own.put_ranges.Given as goal
 
 abbrev pub invariant-loop-left : goal.invariant-loop-left

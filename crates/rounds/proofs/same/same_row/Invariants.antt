@@ -1,13 +1,7 @@
 -- `rounds::same::same_row` meets its contract. The loop's invariant: up to node z no weight differs.
 use Prim.Native.Nat.{ℕ, ◌-◌, ◌≤◌, ◌<◌}
-use mathlib.Core.Path.{◌≡◌, sym, ap, subst}
-use mathlib.Core.Logic.{⊎_elim}
-use native.Mathlib.Omega.{arith}
-use mir.Syntax.{w32}
-use Rattle.whole.specs.SplitLaws.{told-fits, bits-eq, bits-ne}
-use Rattle.bounds.specs.Flat.{weight_at, cell_of, cell_at}
-use Rattle.bounds.specs.StartLaws.{less-or-same}
-use Rattle.rounds.specs.SameLaws.{cell_of-unique, same_row-all, same_row-not}
+use mathlib.Core.Path.{◌≡◌}
+use Rattle.bounds.specs.Flat.{cell_at}
 use Rattle.rounds.proofs.same.same_row.Given as goal
 
 abbrev pub invariant-loop-z : goal.invariant-loop-z

@@ -1,17 +1,10 @@
 -- `rounds::same::same_rows` meets its contract. The loop's invariant: up to row y no row differs.
 use Prim.Native.Nat.{ℕ, ◌-◌, ◌≤◌, ◌<◌}
-use mathlib.Core.Path.{◌≡◌, sym, ◌∙◌, subst}
+use mathlib.Core.Path.{◌≡◌}
 use mathlib.Core.Bool.{true}
-use mathlib.Core.Logic.{⊎_elim}
-use mathlib.Core.List.{List}
-use native.Mathlib.Omega.{arith}
-use lib.IntN.{ℤ}
-use borrow.Author.Tests.{not-true, not-false}
-use Rattle.bounds.specs.Tables.{Cell, listed}
+use Rattle.bounds.specs.Tables.{listed}
 use Rattle.bounds.specs.Flat.{cell_at}
-use Rattle.bounds.specs.StartLaws.{less-or-same}
 use Rattle.rounds.specs.Rounds.{same_row}
-use Rattle.rounds.specs.SameLaws.{same_rows-all, same_rows-not}
 use Rattle.rounds.proofs.same.same_rows.Given as goal
 
 abbrev pub invariant-loop-y : goal.invariant-loop-y

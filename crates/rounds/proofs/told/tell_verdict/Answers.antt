@@ -1,7 +1,6 @@
 -- `tell_verdict`: each arm is a clause of `verdict_told`.
 use mathlib.Core.Path.{sym, ap}
 use Rattle.rounds.specs.Rounds.{verdict_told}
-use borrow.Author.Rules.{rules}
 use Rattle.rounds.proofs.told.tell_verdict.Goals as goal
 
 pub returns-in-Settled : goal.returns-in-Settled

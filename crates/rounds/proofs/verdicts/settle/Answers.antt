@@ -21,7 +21,7 @@ returns-then-put_own c =
     no_bounds ∙ length-replicate cells no_bound_mark in
     let a = c.args in
     let none = first-none a.p (own-none a.p a.early.now a.late.now c.requires.0 c.put_own.result c.put_own.new.weights own-ensures
-    c.if-put_own.true) in  record { value = verdict-none a.p 1 none; settled_on = none-on a.p 1 _ none; joined_len = own-length }
+    c.if-put_own.true) in record { value = verdict-none a.p 1 none; settled_on = none-on a.p 1 _ none; joined_len = own-length }
 
 pub put_between-requires : goal.put_between-requires
 put_between-requires c = c.requires.0
@@ -53,7 +53,7 @@ returns-then-put_between c =
     let none = between_none a.p a.early.now a.late.now c.requires.0 c.put_own.new.weights
     (own_put c.if-put_own.false) r.result r.new.weights
     r.ensures
-    c.if-put_between.true in  record { value = c.contradicted.ensures ∙ verdict-none a.p _ none; settled_on = none-on a.p _ _ none; joined_len = between-length }
+    c.if-put_between.true in record { value = c.contradicted.ensures ∙ verdict-none a.p _ none; settled_on = none-on a.p _ _ none; joined_len = between-length }
 
 pub settle_rounds-requires : goal.settle_rounds-requires
 settle_rounds-requires c =
@@ -65,8 +65,7 @@ settle_rounds-requires c =
     ≡ put_bounds c.args.early.now c.args.late.now (own_bounds c.args.p) no_bounds = λ f. ap (λ r. flat r c.put_own.new.weights) (sym f) ∙ own-ensures in
     let between-length : length c.put_between.new.weights ≡ cells = let a = c.args in
     ap (λ r. length r.weights) c.put_between.ensures ∙ put_bounds-length a.early.now a.late.now (between_bounds a.p) c.put_own.new.weights
-    ∙ own-length in
-    (
+    ∙ own-length in (
       c.requires.0,
       record {
         own_put = own_put c.if-put_own.false;

@@ -1,4 +1,4 @@
-use Prim.Native.Nat.{ℕ, ◌+◌, ◌-◌, ◌≤◌}
+use Prim.Native.Nat.{ℕ, ◌+◌, ◌-◌}
 use mathlib.Core.Path.{◌≡◌, refl, sym, ◌∙◌, ap, subst}
 use mathlib.Core.Bool.{false}
 use native.Mathlib.Omega.{arith}
@@ -11,8 +11,8 @@ use Rattle.plan.specs.declared.Plan.{Plan}
 use Rattle.plan.specs.Accepted.{Accepted}
 use Rattle.bounds.specs.Events.{nodes}
 use Rattle.bounds.specs.Elimination.{eliminated}
-use Rattle.bounds.specs.Flat.{rows_of, set_in, flat, cells}
-use Rattle.bounds.specs.Held.{JudgedTable, TableHeldFor}
+use Rattle.bounds.specs.Flat.{rows_of, set_in, flat}
+use Rattle.bounds.specs.Held.{TableHeldFor}
 use Rattle.rounds.specs.Rounds.{unsettled, rounds_from, outcome}
 use Rattle.rounds.specs.Next.{Nexts, next_rows}
 use Rattle.rounds.specs.Settling.{SettledOn}
@@ -97,7 +97,7 @@ returns-then-put_next c =
     ∙ ap (λ w. next_rows a.early.now a.late.now a.p.jobs w l.carried l.joined) (to_z-of_z (window-fits a.p c.requires.0.accepted))
     ∙ ap (next_rows a.early.now a.late.now a.p.jobs a.p.window l.carried) l.invariant.5 in
     let p = c.args.p in
-    let none = joined-none carrying c.put_next.result c.put_next.new.weights put_is c.if-put_next.true in  record { value = c.contradicted.ensures ∙ verdict-none p _ none; settled_on = none-on p _ _ none; joined_len = ap length c.loop-m.invariant.5 ∙ c.requires.2 }
+    let none = joined-none carrying c.put_next.result c.put_next.new.weights put_is c.if-put_next.true in record { value = c.contradicted.ensures ∙ verdict-none p _ none; settled_on = none-on p _ _ none; joined_len = ap length c.loop-m.invariant.5 ∙ c.requires.2 }
 
 -- ---- and the next window's events are eliminated
 
@@ -118,9 +118,9 @@ drop_places-requires c =
     → let a = c.args in
     TableHeldFor a.p a.early.now a.late.now (nodes (a.p.jobs + a.p.jobs)) c.put_next.new.weights = λ f. joined-table-held carrying c.put_next.result c.put_next.new.weights put_is f in
     record {
-  plan = c.args.p;
-  stands = joining c.if-put_next.false;
-}
+      plan = c.args.p;
+      stands = joining c.if-put_next.false;
+    }
 
 pub contradicted-requires-then-drop_places : goal.contradicted-requires-then-drop_places
 contradicted-requires-then-drop_places c =
@@ -155,7 +155,7 @@ returns-then-drop_places c =
     let none = remains-none carrying c.put_next.result c.put_next.new.weights put_is
     c.if-put_next.false c.drop_places.result c.drop_places.new.weights
     remains-is
-    c.if-drop_places.true in  record { value = c.contradicted-then-drop_places.ensures ∙ verdict-none p _ none; settled_on = none-on p _ _ none; joined_len = ap length c.loop-m.invariant.5 ∙ c.requires.2 }
+    c.if-drop_places.true in record { value = c.contradicted-then-drop_places.ensures ∙ verdict-none p _ none; settled_on = none-on p _ _ none; joined_len = ap length c.loop-m.invariant.5 ∙ c.requires.2 }
 
 -- ---- 'C(m) = C(m-1)'
 
@@ -199,15 +199,19 @@ returns-then-same_rows c =
     let joined = c.if-put_next.false in
     let left = c.if-drop_places.false in
     let same = sym c.same_rows.ensures ∙ c.if-same_rows.true in
-    let anew : c.put_next-then-same_rows.new.weights ≡ c.put_next.new.weights = ap (λ f. f.weights) (c.put_next-then-same_rows.ensures ∙ sym c.put_next.ensures) in  record { value = verdict-settled p c.loop-m.m _
+    let anew : c.put_next-then-same_rows.new.weights ≡ c.put_next.new.weights = ap (λ f. f.weights) (c.put_next-then-same_rows.ensures ∙ sym c.put_next.ensures) in record {
+      value = verdict-settled p c.loop-m.m _
           (round-settled carrying c.put_next.result c.put_next.new.weights put_is joined c.drop_places.result
           c.drop_places.new.weights remains-is
           left
-          same); settled_on = subst (λ us. SettledOn p (rows_of (nodes (p.jobs + p.jobs)) us)) (sym anew)
-            (round-settled-on carrying c.put_next.result c.put_next.new.weights put_is joined c.drop_places.result
-            c.drop_places.new.weights remains-is
-            left
-            same); joined_len = ap length anew ∙ (joining joined).size }
+          same);
+      settled_on = subst (λ us. SettledOn p (rows_of (nodes (p.jobs + p.jobs)) us)) (sym anew)
+          (round-settled-on carrying c.put_next.result c.put_next.new.weights put_is joined c.drop_places.result
+          c.drop_places.new.weights remains-is
+          left
+          same);
+      joined_len = ap length anew ∙ (joining joined).size;
+    }
 
 pub overflow_add-m : goal.overflow_add-m
 overflow_add-m c =
@@ -263,4 +267,4 @@ returns c =
     let none : outcome a.p ≡ unsettled
     = l.invariant.2
     ∙ rounds-end a.p (rows_of (nodes a.p.jobs) a.carried.now) l.m ((a.p.rounds + 1) - l.m) (rows_of (nodes a.p.jobs) l.carried)
-    (omega arith) in  record { value = verdict-unsettled a.p none; settled_on = unsettled-on a.p _ none; joined_len = ap length l.invariant.5 ∙ c.requires.2 }
+    (omega arith) in record { value = verdict-unsettled a.p none; settled_on = unsettled-on a.p _ none; joined_len = ap length l.invariant.5 ∙ c.requires.2 }

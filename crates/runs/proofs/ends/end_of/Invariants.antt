@@ -1,18 +1,10 @@
 -- `end_of`: the whole end is what is picked so far and what is left from the present member on; laws of the members, `members-..`.
-use Prim.Native.Nat.{◌+◌, ◌-◌, ◌≤◌, ◌<◌}
-use mathlib.Core.Path.{◌≡◌, sym, ap, ◌∙◌}
+use Prim.Native.Nat.{◌-◌, ◌≤◌, ◌<◌}
+use mathlib.Core.Path.{◌≡◌}
 use mathlib.Core.Bool.{true}
-use native.Mathlib.Omega.{arith}
-use lib.IntN.{ℤ, pos}
-use lib.ListN.{get_or}
-use mir.Syntax.{w32}
-use mir.Val.{SFits}
 use Rattle.events.specs.Bits.{bits_of, has_event, members_from}
-use Rattle.events.specs.BitsLaws.{next_event-from, next_event-has, members-here, members-none, members-next}
 use Rattle.runs.specs.Offers.{term_at}
 use Rattle.runs.specs.Ends.{pick_of, end_over}
-use Rattle.runs.specs.EndLaws.{term-read, picked-read}
-use borrow.Author.Rules.{rules}
 use Rattle.runs.proofs.ends.end_of.Given as goal
 
 abbrev pub invariant-loop-e : goal.invariant-loop-e

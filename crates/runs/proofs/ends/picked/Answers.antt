@@ -1,6 +1,5 @@
 -- `picked` meets its contract: each way out has the pick of the side and of the comparison that led there.
 use mathlib.Core.Path.{sym, ◌∙◌}
-use borrow.Author.Rules.{rules}
 use Rattle.runs.proofs.ends.picked.Goals as goal
 
 pub returns-then-is_earlier : goal.returns-then-is_earlier

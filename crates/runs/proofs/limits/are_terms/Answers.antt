@@ -3,10 +3,8 @@ use mathlib.Core.Path.{◌≡◌, sym, ap, ◌∙◌}
 use mir.Syntax.{w64}
 use mir.Val.{SFits}
 use mir.Facts.{to_z-of_z}
-use borrow.Author.Tests.{not-true, not-false}
 use Rattle.runs.specs.ValueLimits.{is_c}
 use Rattle.runs.specs.LimitLaws.{are_terms_of-low, are_terms_of-high, are_terms_of-below, are_terms_of-above}
-use borrow.Author.Rules.{rules}
 use Rattle.runs.proofs.limits.are_terms.Goals as goal
 
 pub returns-then-not-is_c : goal.returns-then-not-is_c

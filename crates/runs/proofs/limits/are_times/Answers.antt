@@ -1,10 +1,7 @@
-use Prim.Native.Nat.{◌-◌, ◌≤◌}
-use mathlib.Core.Path.{◌≡◌, refl, sym, ap, ◌∙◌}
+use mathlib.Core.Path.{refl, sym, ap, ◌∙◌}
 use native.Mathlib.Omega.{arith}
-use borrow.Author.Tests.{not-true, not-false}
-use Rattle.runs.specs.ValueLimits.{is_time, are_times}
+use Rattle.runs.specs.ValueLimits.{is_time}
 use Rattle.runs.specs.LimitLaws.{are_times-more, are_times-none}
-use borrow.Author.Rules.{rules}
 use Rattle.runs.proofs.limits.are_times.Goals as goal
 
 pub loop-e-init : goal.loop-e-init

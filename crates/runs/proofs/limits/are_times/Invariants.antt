@@ -1,11 +1,7 @@
 -- `are_times`: whether what is left are times; one law a turn, `are_times-more`.
 use Prim.Native.Nat.{◌-◌, ◌≤◌}
-use mathlib.Core.Path.{◌≡◌, refl, sym, ap, ◌∙◌}
-use native.Mathlib.Omega.{arith}
-use borrow.Author.Tests.{not-true, not-false}
-use Rattle.runs.specs.ValueLimits.{is_time, are_times}
-use Rattle.runs.specs.LimitLaws.{are_times-more, are_times-none}
-use borrow.Author.Rules.{rules}
+use mathlib.Core.Path.{◌≡◌}
+use Rattle.runs.specs.ValueLimits.{are_times}
 use Rattle.runs.proofs.limits.are_times.Given as goal
 
 abbrev pub invariant-loop-e : goal.invariant-loop-e

@@ -1,8 +1,8 @@
-use Prim.Native.Nat.{◌≤◌, ◌-◌}
+use Prim.Native.Nat.{◌-◌}
 use mathlib.Core.Path.{◌≡◌, sym, ap, ◌∙◌}
 use mathlib.Core.Bool.{true, false, not}
 use native.Mathlib.Omega.{arith}
-use Rattle.runs.specs.LimitLaws.{any_from, any_from-more, any_from-found, any_from-none, terms_out, is_calendar-walk}
+use Rattle.runs.specs.LimitLaws.{any_from-more, any_from-found, any_from-none, terms_out, is_calendar-walk}
 use Rattle.runs.proofs.limits.is_calendar.Goals as goal
 
 pub loop-i-init : goal.loop-i-init

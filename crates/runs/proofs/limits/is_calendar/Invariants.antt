@@ -1,10 +1,8 @@
 -- `is_calendar` meets its contract. The invariant: whether some job's terms are outside is whether some from job i on are. Rests on `is_calendar-walk` and the
 -- laws of `any_from`.
 use Prim.Native.Nat.{◌≤◌, ◌-◌}
-use mathlib.Core.Path.{◌≡◌, sym, ap, ◌∙◌}
-use mathlib.Core.Bool.{true, false, not}
-use native.Mathlib.Omega.{arith}
-use Rattle.runs.specs.LimitLaws.{any_from, any_from-more, any_from-found, any_from-none, terms_out, is_calendar-walk}
+use mathlib.Core.Path.{◌≡◌}
+use Rattle.runs.specs.LimitLaws.{any_from, terms_out}
 use Rattle.runs.proofs.limits.is_calendar.Given as goal
 
 abbrev pub invariant-loop-i : goal.invariant-loop-i

@@ -2,10 +2,8 @@
 use mathlib.Core.Path.{◌≡◌, sym, ap, ◌∙◌}
 use mathlib.Core.Bool.{true, false}
 use mir.Facts.{to_z-of_z}
-use borrow.Author.Tests.{not-true, not-false}
 use Rattle.whole.specs.Widths.{i32-wide, i32-widened}
 use Rattle.runs.specs.ValueLimits.{is_c}
-use borrow.Author.Rules.{rules}
 use Rattle.runs.proofs.limits.is_out.Goals as goal
 
 pub returns-then-not-has : goal.returns-then-not-has

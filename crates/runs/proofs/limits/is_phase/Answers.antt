@@ -4,7 +4,6 @@ use mathlib.Core.Path.{sym, ◌∙◌}
 use native.Mathlib.Omega.{arith}
 use borrow.Author.Tests.{eq-eqb, ne_eqb}
 use Rattle.runs.specs.LimitLaws.{is_phase-turn, is_phase-over, is_phase-running, is_phase-never}
-use borrow.Author.Rules.{rules}
 use Rattle.runs.proofs.limits.is_phase.Goals as goal
 
 pub returns-then-is_turn : goal.returns-then-is_turn

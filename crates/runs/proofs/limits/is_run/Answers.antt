@@ -1,9 +1,7 @@
 -- `is_run`: the phase first, then every time that the run has seen.
-use borrow.Author.Rules.{rules}
-use Prim.Native.Nat.{ℕ, ◌+◌, ◌*◌, ◌-◌, ◌≤◌}
+use Prim.Native.Nat.{ℕ, ◌+◌, ◌*◌, ◌≤◌}
 use mathlib.Core.Path.{sym, ap, ◌∙◌}
 use native.Mathlib.Omega.{arith}
-use borrow.Author.Tests.{not-true, not-false}
 use Rattle.runs.specs.LimitLaws.{is_run-phase, is_run-seen}
 use Rattle.runs.specs.SeenLaws.{first_seen-most}
 use Rattle.runs.specs.InsideLaws.{phase-done}
@@ -30,7 +28,7 @@ pub are_times-requires : goal.are_times-requires
 are_times-requires c =
     let done-most : c.jobs_done-done.result ≤ c.args.p.jobs = let yes = sym c.is_phase.ensures ∙ c.if-not-is_phase.false in
     omega (arith, c.jobs_done-done.ensures, phase-done c.args.p c.args.run.phase yes) in
-    let f = first_seen-most c.args.p.jobs c.args.run.before in  record { first_le_count = omega (arith, c.first_seen-first.ensures); count_le_most_events = omega (arith, done-most) }
+    let f = first_seen-most c.args.p.jobs c.args.run.before in record { first_le_count = omega (arith, c.first_seen-first.ensures); count_le_most_events = omega (arith, done-most) }
 
 pub returns : goal.returns
 returns c =

@@ -1,4 +1,4 @@
-use Prim.Native.Nat.{◌≤◌, ◌-◌, ◌*◌, ◌+◌}
+use Prim.Native.Nat.{◌-◌, ◌*◌, ◌+◌}
 use mathlib.Core.Path.{◌≡◌, sym, ap, ◌∙◌}
 use mathlib.Core.Bool.{true, false}
 use native.Mathlib.Omega.{arith}
@@ -7,11 +7,9 @@ use lib.ListN.{get_or}
 use mir.Syntax.{w32}
 use mir.Val.{SFits}
 use mir.Facts.{to_z-of_z}
-use borrow.Author.Tests.{not-true, not-false}
-use borrow.Author.Rules.{rules}
 use Rattle.events.specs.Bits.{bits_of, most_events}
 use Rattle.runs.specs.ValueLimits.{is_out}
-use Rattle.runs.specs.LimitLaws.{any_from, any_from-more, any_from-found, any_from-none, out_at, is_side-past, is_side-walk}
+use Rattle.runs.specs.LimitLaws.{any_from-more, any_from-found, any_from-none, out_at, is_side-past, is_side-walk}
 use Rattle.runs.proofs.limits.is_side.Goals as goal
 
 pub returns-then-not-is_below : goal.returns-then-not-is_below

@@ -1,19 +1,9 @@
 -- `is_side` meets its contract. The invariant: whether something is wrong is what is wrong from event e on. Rests on `is_side-past`, `is_side-walk` and the
 -- laws of `any_from`.
-use Prim.Native.Nat.{◌≤◌, ◌-◌, ◌*◌, ◌+◌}
-use mathlib.Core.Path.{◌≡◌, sym, ap, ◌∙◌}
-use mathlib.Core.Bool.{true, false}
-use native.Mathlib.Omega.{arith}
-use lib.IntN.{pos}
-use lib.ListN.{get_or}
-use mir.Syntax.{w32}
-use mir.Val.{SFits}
-use mir.Facts.{to_z-of_z}
-use borrow.Author.Tests.{not-true, not-false}
-use borrow.Author.Rules.{rules}
-use Rattle.events.specs.Bits.{bits_of, most_events}
-use Rattle.runs.specs.ValueLimits.{is_out}
-use Rattle.runs.specs.LimitLaws.{any_from, any_from-more, any_from-found, any_from-none, out_at, is_side-past, is_side-walk}
+use Prim.Native.Nat.{◌≤◌, ◌-◌}
+use mathlib.Core.Path.{◌≡◌}
+use Rattle.events.specs.Bits.{bits_of}
+use Rattle.runs.specs.LimitLaws.{any_from, out_at}
 use Rattle.runs.proofs.limits.is_side.Given as goal
 
 abbrev pub invariant-loop-e : goal.invariant-loop-e

@@ -1,5 +1,4 @@
 -- `is_step` meets its contract, kind by kind of the step.
-use borrow.Author.Rules.{rules}
 use Rattle.runs.proofs.limits.is_step.Goals as goal
 
 pub returns-in-At : goal.returns-in-At

@@ -1,7 +1,5 @@
 -- `jobs_done` meets its contract, case by case of the phase.
-use Prim.Native.Nat.{◌-◌}
 use native.Mathlib.Omega.{arith}
-use borrow.Author.Rules.{rules}
 use Rattle.runs.proofs.limits.jobs_done.Goals as goal
 
 pub returns-then-job-lt1 : goal.returns-then-job-lt1

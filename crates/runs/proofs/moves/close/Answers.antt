@@ -1,5 +1,4 @@
 -- `close`: the job is put, and the window goes on or has ended.
-use borrow.Author.Rules.{rules}
 use Prim.Native.Nat.{◌*◌}
 use mathlib.Core.Path.{ap, ◌∙◌}
 use borrow.Author.Tests.{lt-ltb, le-ltb}

@@ -1,5 +1,4 @@
 -- `close_in`: by the phase.
-use borrow.Author.Rules.{rules}
 use Rattle.runs.specs.Steps.{closed}
 use Rattle.runs.proofs.moves.close_in.Goals as goal
 

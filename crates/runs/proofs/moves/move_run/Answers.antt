@@ -1,5 +1,4 @@
 -- `move_run`: by the answer.
-use borrow.Author.Rules.{rules}
 use mathlib.Core.Path.{refl, ap}
 use Rattle.runs.specs.declared.Run.{Run}
 use Rattle.runs.specs.Steps.{moved}

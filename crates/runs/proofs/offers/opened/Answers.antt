@@ -1,6 +1,5 @@
 -- `opened` meets its contract: its test is the definition's.
 use mathlib.Core.Path.{sym, ◌∙◌}
-use borrow.Author.Rules.{rules}
 use Rattle.runs.proofs.offers.opened.Goals as goal
 
 pub returns-then-is_earlier : goal.returns-then-is_earlier

@@ -1,5 +1,4 @@
 -- `opening`: by the phase, and whether the run is over.
-use borrow.Author.Rules.{rules}
 use mathlib.Core.Path.{sym, ap, subst, ◌∙◌}
 use Rattle.runs.specs.declared.Phase.{Phase}
 use Rattle.runs.specs.declared.Run.{Run}

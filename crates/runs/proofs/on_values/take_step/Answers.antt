@@ -1,7 +1,6 @@
 -- `take_step` meets its contract, by the answer to its plan: `step-refused` and `step-accepted`.
 use mathlib.Core.Path.{◌∙◌}
 use Rattle.runs.specs.ValueStepLaws.{step-refused, step-accepted}
-use borrow.Author.Rules.{rules}
 use Rattle.runs.proofs.on_values.take_step.Goals as goal
 
 pub step_accepted-requires : goal.step_accepted-requires

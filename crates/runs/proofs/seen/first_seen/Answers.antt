@@ -1,5 +1,4 @@
 -- `first_seen`: by what is before.
-use borrow.Author.Rules.{rules}
 use Rattle.runs.proofs.seen.first_seen.Goals as goal
 
 pub returns-in-Nothing : goal.returns-in-Nothing

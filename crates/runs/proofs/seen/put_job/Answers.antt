@@ -1,5 +1,4 @@
 -- `put_job`: two times, put.
-use borrow.Author.Rules.{rules}
 use mathlib.Core.Path.{ap, ◌∙◌}
 use mathlib.Core.List.{List}
 use lib.IntN.{ℤ}

@@ -1,5 +1,4 @@
 -- `answer_step`: by the kind of step, and a finish by the phase.
-use borrow.Author.Rules.{rules}
 use mathlib.Core.Path.{ap, ◌∙◌}
 use Rattle.runs.specs.declared.Run.{Run}
 use Rattle.runs.specs.Steps.{asked, started}

@@ -1,6 +1,5 @@
 -- `asked` meets its contract, case by case of the opening.
 use Rattle.runs.specs.Steps.{asked}
-use borrow.Author.Rules.{rules}
 use Rattle.runs.proofs.steps.asked.Goals as goal
 
 pub returns-in-Open : goal.returns-in-Open

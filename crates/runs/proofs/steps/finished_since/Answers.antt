@@ -1,5 +1,4 @@
 -- `finished_since`: start + min and start + max are times, and the finish is between them or not.
-use borrow.Author.Rules.{rules}
 use mathlib.Core.Path.{◌≡◌, sym, ap, ◌∙◌}
 use mir.Syntax.{w32}
 use mir.Val.{SFits}

@@ -1,6 +1,5 @@
 -- `started` meets its contract, case by case of the opening.
 use Rattle.runs.specs.Steps.{started}
-use borrow.Author.Rules.{rules}
 use Rattle.runs.proofs.steps.started.Goals as goal
 
 pub returns-in-Open : goal.returns-in-Open

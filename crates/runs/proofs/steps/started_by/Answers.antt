@@ -1,6 +1,5 @@
 -- `started_by` meets its contract, case by case of the choice; its tests are the definition's.
 use mathlib.Core.Path.{sym, ◌∙◌}
-use borrow.Author.Rules.{rules}
 use Rattle.runs.proofs.steps.started_by.Goals as goal
 
 pub returns-then-is_between : goal.returns-then-is_between

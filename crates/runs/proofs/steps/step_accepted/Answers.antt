@@ -1,8 +1,6 @@
 -- `step_accepted` meets its contract: what is outside its limits is refused before the step, and the rest is inside them.
 use mathlib.Core.Path.{sym, ◌∙◌}
-use borrow.Author.Tests.{not-true, not-false}
 use Rattle.runs.specs.ValueStepLaws.{accepted_step-run, accepted_step-calendar, accepted_step-step, accepted_step-inside}
-use borrow.Author.Rules.{rules}
 use Rattle.runs.proofs.steps.step_accepted.Goals as goal
 
 pub is_run-requires : goal.is_run-requires

@@ -2,13 +2,12 @@
 use native.Mathlib.Omega.{arith}
 use Rattle.session.specs.HeadLaws.{HeadRead, head-accepted}
 use Rattle.lines.specs.WrittenLaws.{wrote_as}
-use borrow.Author.Rules.{rules}
 use Rattle.session.proofs.judged.answer_judged.Goals as goal
 
 pub write_session-requires : goal.write_session-requires
 write_session-requires c =
     let head : HeadRead c.args.text.now c.args.head = head-accepted c.args.text.now c.args.head c.requires.head_value c.requires.answer_value in
-    let h = head in  record { from_in_bounds = h.placed; text_len_bound = h.short; line_bound = h.numbered; plan_decided = c.requires.plan_decided }
+    let h = head in record { from_in_bounds = h.placed; text_len_bound = h.short; line_bound = h.numbered; plan_decided = c.requires.plan_decided }
 
 pub returns : goal.returns
 returns c =

@@ -3,7 +3,6 @@
 use mathlib.Core.Path.{refl}
 use native.Mathlib.Omega.{arith}
 use Rattle.lines.specs.WrittenLaws.{stored-whole, measured-none, measured-whole, wrote-within}
-use borrow.Author.Rules.{rules}
 use Rattle.session.proofs.judged.write_session.Goals as goal
 
 pub returns-then-most-out : goal.returns-then-most-out

@@ -1,7 +1,6 @@
 -- `ends_session`: each arm is a clause of `ends_session`.
 use mathlib.Core.Path.{sym, ap, ◌∙◌}
 use Rattle.session.specs.AnswerText.{ends_session}
-use borrow.Author.Rules.{rules}
 use Rattle.session.proofs.print.ends_session.Goals as goal
 
 pub returns-in-Offered : goal.returns-in-Offered

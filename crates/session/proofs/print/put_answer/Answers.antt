@@ -1,7 +1,6 @@
 -- `put_answer`: each arm is a clause of `answer_line`.
 use Rattle.session.specs.AnswerText.{answer_line}
 use native.Mathlib.Omega.{arith}
-use borrow.Author.Rules.{rules}
 use Rattle.session.proofs.print.put_answer.Goals as goal
 
 pub put_started-requires : goal.put_started-requires

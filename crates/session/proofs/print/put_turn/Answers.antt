@@ -6,7 +6,6 @@ use Rattle.text.specs.Lines.{comma}
 use Rattle.text.specs.Numbers.{digits}
 use Rattle.text.specs.DigitLaws.{digits-length-one}
 use Rattle.session.specs.AnswerTextLaws.{turn_text-stored}
-use borrow.Author.Rules.{rules}
 use Rattle.session.proofs.print.put_turn.Goals as goal
 
 pub returns : goal.returns
@@ -14,5 +13,8 @@ returns c =
     let a = c.args in
     let first = c.put_ended_count-job.ensures in
     let second = c.put_ended_count-time.ensures in
-    let third = c.put_ended_time.ensures in  record { stored = turn_text-stored a.j a.i a.t.0 first.stored second.stored third.stored; upper_bound = omega
-          (arith, first.upper_bound, second.stored.place, length-append (digits a.i) (comma ∷ []), digits-length-one a.i (omega arith), third.upper_bound) }
+    let third = c.put_ended_time.ensures in record {
+      stored = turn_text-stored a.j a.i a.t.0 first.stored second.stored third.stored;
+      upper_bound = omega
+          (arith, first.upper_bound, second.stored.place, length-append (digits a.i) (comma ∷ []), digits-length-one a.i (omega arith), third.upper_bound);
+    }

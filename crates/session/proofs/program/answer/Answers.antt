@@ -3,7 +3,6 @@ use native.Mathlib.Omega.{arith}
 use Rattle.session.specs.HeadLaws.{head-accepted, head-refused}
 use Rattle.session.specs.DecidedLaws.{judged-decided}
 use Rattle.lines.specs.WrittenLaws.{wrote_as}
-use borrow.Author.Rules.{rules}
 use Rattle.session.proofs.program.answer.Goals as goal
 
 pub decide-decision-requires : goal.decide-decision-requires
@@ -14,7 +13,7 @@ pub answer_judged-requires : goal.answer_judged-requires
 answer_judged-requires c =
     let read = c.read_head-head.ensures in
     let told = c.in-Accepted.is in
-    let d = c.decide-decision.ensures in  record { head_value = read; answer_value = told; plan_decided = judged-decided _ (head-accepted c.args.text.now _ read told).accepted _ _ d.verdict_value d.calendar_value }
+    let d = c.decide-decision.ensures in record { head_value = read; answer_value = told; plan_decided = judged-decided _ (head-accepted c.args.text.now _ read told).accepted _ _ d.verdict_value d.calendar_value }
 
 pub returns-in-Accepted : goal.returns-in-Accepted
 returns-in-Accepted c =

@@ -4,7 +4,6 @@ use Rattle.runs.specs.declared.Step.TheVariants.{Finish}
 use Rattle.session.specs.declared.StepLine.TheVariants.{Bad}
 use Rattle.session.specs.StepRead.{finish_in}
 use Rattle.session.specs.StepReadLaws.{time_step-value, time_step-bad}
-use borrow.Author.Rules.{rules}
 use Rattle.session.proofs.read.finish_in.Goals as goal
 
 pub returns-in-Value : goal.returns-in-Value

@@ -1,7 +1,6 @@
 -- `is_text`: two texts of one length, by `is_text-same`; of two lengths, by `is_text-other`.
 use mathlib.Core.Path.{sym, ◌∙◌}
 use Rattle.session.specs.StepReadLaws.{is_text-same, is_text-other}
-use borrow.Author.Rules.{rules}
 use Rattle.session.proofs.read.is_text.Goals as goal
 
 pub returns-then-l-t : goal.returns-then-l-t

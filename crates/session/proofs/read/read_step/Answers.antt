@@ -4,7 +4,6 @@ use Rattle.text.specs.Bytes.{bytes}
 use Rattle.text.specs.LineLaws.{has_key-fits, drop-rest}
 use Rattle.session.specs.StepRead.{start_in, finish_in}
 use Rattle.session.specs.StepReadLaws.{step_in-ask, step_in-start, step_in-finish, step_in-other}
-use borrow.Author.Rules.{rules}
 use Rattle.session.proofs.read.read_step.Goals as goal
 
 pub returns-then-is_text : goal.returns-then-is_text

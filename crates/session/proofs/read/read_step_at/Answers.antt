@@ -3,7 +3,6 @@ use mathlib.Core.Path.{sym, ◌∙◌}
 use native.Mathlib.Omega.{arith}
 use Rattle.text.specs.LineLaws.{next_line-at}
 use Rattle.session.specs.StepReadLaws.{step_at-bare, step_at-value, step_at-bad}
-use borrow.Author.Rules.{rules}
 use Rattle.session.proofs.read.read_step_at.Goals as goal
 
 pub returns-then-s-next : goal.returns-then-s-next

@@ -5,7 +5,6 @@ use Rattle.runs.specs.declared.Step.TheVariants.{Start}
 use Rattle.runs.specs.declared.Choice.TheVariants.{At}
 use Rattle.session.specs.declared.StepLine.TheVariants.{Bad}
 use Rattle.session.specs.StepReadLaws.{start_in-auto, start_in-time, time_step-value, time_step-bad}
-use borrow.Author.Rules.{rules}
 use Rattle.session.proofs.read.start_in.Goals as goal
 
 pub returns-then-is_text : goal.returns-then-is_text

@@ -1,11 +1,8 @@
-use Prim.Native.Nat.{◌-◌}
 use mathlib.Core.Path.{refl, ap, ◌∙◌}
 use native.Mathlib.Omega.{arith}
-use lib.ListN.{length}
 use Rattle.lines.specs.declared.TextAnswer.TheVariants.{Refused}
 use Rattle.session.specs.StepAt.{step_refusal}
-use Rattle.session.specs.SessionReadLaws.{LinesSoFar, lines_so_far-start, lines_so_far-end, lines_so_far-refused, lines_so_far-more}
-use borrow.Author.Rules.{rules}
+use Rattle.session.specs.SessionReadLaws.{lines_so_far-start, lines_so_far-end, lines_so_far-refused, lines_so_far-more}
 use Rattle.session.proofs.refused.read_steps.Goals as goal
 
 pub loop-place-init : goal.loop-place-init

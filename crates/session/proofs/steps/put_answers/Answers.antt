@@ -1,8 +1,8 @@
-use Prim.Native.Nat.{ℕ, ◌+◌, ◌*◌, ◌-◌, ◌≤◌, ◌<◌}
+use Prim.Native.Nat.{ℕ, ◌+◌, ◌*◌, ◌≤◌, ◌<◌}
 use mathlib.Core.Path.{◌≡◌, refl, sym, ap, subst, ◌∙◌}
 use mathlib.Core.List.{List}
 use native.Mathlib.Omega.{arith}
-use lib.ListN.{length, drop, get_or}
+use lib.ListN.{drop, get_or}
 use mir.Syntax.{w32}
 use mir.Val.{SFits, to_z, of_z}
 use mir.Facts.{to_z-of_z}
@@ -29,7 +29,6 @@ use Rattle.session.specs.StepAt.{step_reading, step_refusal}
 use Rattle.session.specs.AnswerText.{answer_job, answer_line, ends_session}
 use Rattle.session.specs.AnswerJobLaws.{answer-job}
 use Rattle.session.specs.AnswersLaws.{AnswersSoFar, answers_so_far-start, answers_so_far-end, answers_so_far-refused, answers_so_far-last, answers_so_far-more}
-use borrow.Author.Rules.{rules}
 use Rattle.session.proofs.steps.put_answers.Goals as goal
 
 pub loop-place-init : goal.loop-place-init
@@ -59,7 +58,7 @@ returns-in_default c =
     answers_so_far-refused a.p a.c a.text.now a.out.now a.from a.line a.at a.run c.loop-place.out run c.loop-place.place
     c.loop-place.number c.loop-place.end
     c.loop-place.invariant c.loop-place-test.true w.new.out w.result (omega (arith, w.ensures.upper_bound)) _ line_refused
-    w.ensures.stored in  record { stored = d.stored; run_value = d.left; from_bound = d.short }
+    w.ensures.stored in record { stored = d.stored; run_value = d.left; from_bound = d.short }
 
 pub offset_bounds-p-due : goal.offset_bounds-p-due
 offset_bounds-p-due c =
@@ -119,7 +118,7 @@ put_answer-end-requires c =
     ∙ ap (λ (x : Turn). answer_at x a.c.at_least a.c.at_most now-run step) (turn_is) in
     let job-fits : answer_job c.answer_step-answer.result ≤ most_jobs = let i = inside-job c.args.p c.args.c now-run c.loop-place.invariant.inside in
     let h = answer-job c.args.p c.args.c now-run step in
-    subst (λ (x : Answer). answer_job x ≤ most_jobs) (sym answer-is) (omega (arith, i, h)) in  record { at_bound = omega (arith, near); a_bound = job-fits }
+    subst (λ (x : Answer). answer_job x ≤ most_jobs) (sym answer-is) (omega (arith, i, h)) in record { at_bound = omega (arith, near); a_bound = job-fits }
 
 pub move_run-after-requires : goal.move_run-after-requires
 move_run-after-requires c =
@@ -162,7 +161,7 @@ returns-then-ends_session c =
     c.loop-place.end
     c.loop-place.invariant c.loop-place-test.true _ _ c.put_answer-end.ensures.upper_bound step next answered
     step-read refl stored
-    (sym (ap ends_session answer-is) ∙ sym c.ends_session.ensures ∙ c.if-ends_session.true) in  record { stored = w.stored; run_value = sym run_is ∙ w.left; from_bound = w.short }
+    (sym (ap ends_session answer-is) ∙ sym c.ends_session.ensures ∙ c.if-ends_session.true) in record { stored = w.stored; run_value = sym run_is ∙ w.left; from_bound = w.short }
 
 pub overflow_add-number : goal.overflow_add-number
 overflow_add-number c =
@@ -223,4 +222,4 @@ returns c =
     answers_so_far-end a.p a.c a.text.now a.out.now a.from a.line a.at a.run c.loop-place.out run c.loop-place.place
     c.loop-place.number
     c.loop-place.end
-    c.loop-place.invariant c.loop-place-test.false in  record { stored = w.stored; run_value = w.left; from_bound = w.short }
+    c.loop-place.invariant c.loop-place-test.false in record { stored = w.stored; run_value = w.left; from_bound = w.short }

@@ -1,7 +1,5 @@
-use Prim.Native.Nat.{◌-◌}
 use native.Mathlib.Omega.{arith}
-use borrow.Author.Rules.{rules}
-use Rattle.values.specs.JudgedWays.{BoundsHeld, BoundsHeld-start, BoundsHeld-stop, BoundsHeld-past, BoundsHeld-end}
+use Rattle.values.specs.JudgedWays.{BoundsHeld-start, BoundsHeld-stop, BoundsHeld-past, BoundsHeld-end}
 use Rattle.values.proofs.bound_values.judge_bounds.Goals as goal
 
 pub overflow_mul-line : goal.overflow_mul-line

@@ -1,8 +1,6 @@
 -- `judge_bounds`: after i bounds stands `BoundsHeld`, with one law a way.
 use Prim.Native.Nat.{◌-◌}
-use native.Mathlib.Omega.{arith}
-use borrow.Author.Rules.{rules}
-use Rattle.values.specs.JudgedWays.{BoundsHeld, BoundsHeld-start, BoundsHeld-stop, BoundsHeld-past, BoundsHeld-end}
+use Rattle.values.specs.JudgedWays.{BoundsHeld}
 use Rattle.values.proofs.bound_values.judge_bounds.Given as goal
 
 abbrev pub invariant-loop-i : goal.invariant-loop-i

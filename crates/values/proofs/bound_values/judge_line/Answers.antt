@@ -1,11 +1,9 @@
 -- `judge_line`: one law a way, `bound_judged-bare`, `-formed`.
 use mathlib.Core.Path.{sym, ◌∙◌, ap}
-use borrow.Author.Tests.{not-true, not-false}
 use lib.ListN.{take}
 use Rattle.plan.specs.Pairs.{is_wrong_numbered}
 use Rattle.values.specs.PlanJudged.{line_judged}
 use Rattle.values.specs.JudgedWays.{bound_judged-bare, bound_judged-formed}
-use borrow.Author.Rules.{rules}
 use Rattle.values.proofs.bound_values.judge_line.Goals as goal
 
 pub returns-then-not-has_form : goal.returns-then-not-has_form

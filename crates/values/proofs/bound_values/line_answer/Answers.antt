@@ -1,6 +1,5 @@
 -- `line_answer`: by the cases of the line.
 use mathlib.Core.Path.{sym, ◌∙◌, ap}
-use borrow.Author.Rules.{rules}
 use Rattle.lines.specs.declared.TextAnswer.TheVariants.{Refused}
 use Rattle.values.specs.PlanJudged.{line_judged}
 use Rattle.values.proofs.bound_values.line_answer.Goals as goal

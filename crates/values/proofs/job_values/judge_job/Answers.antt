@@ -10,7 +10,6 @@ use Rattle.plan.specs.declared.Job.{Job}
 use Rattle.plan.specs.Limits.{latest_deadline}
 use Rattle.values.specs.PlanJudged.{number_judged, job_judged}
 use Rattle.values.specs.JudgedWays.{from_max, from_release, job_judged-lines, lines-stop, lines-pass}
-use borrow.Author.Rules.{rules}
 use Rattle.values.proofs.job_values.judge_job.Goals as goal
 
 record Numbers (j : Job) : Type 0 where

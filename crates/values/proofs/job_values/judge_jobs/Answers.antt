@@ -1,7 +1,5 @@
-use Prim.Native.Nat.{◌-◌}
 use native.Mathlib.Omega.{arith}
-use borrow.Author.Rules.{rules}
-use Rattle.values.specs.JudgedWays.{JobsHeld, JobsHeld-start, JobsHeld-stop, JobsHeld-past, JobsHeld-end}
+use Rattle.values.specs.JudgedWays.{JobsHeld-start, JobsHeld-stop, JobsHeld-past, JobsHeld-end}
 use Rattle.values.proofs.job_values.judge_jobs.Goals as goal
 
 pub loop-i-init : goal.loop-i-init

@@ -1,8 +1,6 @@
 -- `judge_jobs`: after i jobs stands `JobsHeld`, with one law a way.
 use Prim.Native.Nat.{◌-◌}
-use native.Mathlib.Omega.{arith}
-use borrow.Author.Rules.{rules}
-use Rattle.values.specs.JudgedWays.{JobsHeld, JobsHeld-start, JobsHeld-stop, JobsHeld-past, JobsHeld-end}
+use Rattle.values.specs.JudgedWays.{JobsHeld}
 use Rattle.values.proofs.job_values.judge_jobs.Given as goal
 
 abbrev pub invariant-loop-i : goal.invariant-loop-i

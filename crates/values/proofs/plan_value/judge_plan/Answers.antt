@@ -21,7 +21,6 @@ use Rattle.values.specs.JudgedLines.{number_judged-range, judged_plan-is}
 use Rattle.values.specs.JudgedLength.{PlanFits, plan_text-short}
 use Rattle.values.specs.JudgedLaws.{judged_answer-accepted}
 use Rattle.values.specs.JudgedWays.{from_count, from_jobs, from_rounds, judged_by_lines-lines, lines-stop, lines-pass}
-use borrow.Author.Rules.{rules}
 use Rattle.values.proofs.Told.{plan-fits}
 use Rattle.values.proofs.plan_value.judge_plan.Goals as goal
 

@@ -4,7 +4,6 @@ use native.Mathlib.Omega.{arith}
 use Rattle.lines.specs.WrittenLaws.{wrote_as}
 use Rattle.calendars.specs.DecisionsLaws.{text-of-outcome}
 use Rattle.values.specs.ValueLaws.{value-text, refused-text}
-use borrow.Author.Rules.{rules}
 use Rattle.values.proofs.value.answer_value.Goals as goal
 
 pub decide-decision-requires : goal.decide-decision-requires

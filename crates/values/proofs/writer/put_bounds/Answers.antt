@@ -1,13 +1,9 @@
-use Prim.Native.Nat.{◌+◌, ◌*◌, ◌-◌, ◌≤◌}
 use mathlib.Core.Path.{◌≡◌, refl, ◌∙◌}
-use mathlib.Core.List.{List}
 use native.Mathlib.Omega.{arith}
-use lib.ListN.{length, take}
+use lib.ListN.{length}
 use Rattle.plan.specs.Limits.{most_bounds}
-use Rattle.text.specs.LeftLaws.{LeftToWrite, left_from, left-places, left-next, left-stop, left_out}
-use Rattle.plan.specs.declared.Bound.{Bound}
+use Rattle.text.specs.LeftLaws.{left-places, left-next, left-stop, left_out}
 use Rattle.plan.specs.PlanLines.{no_bound}
-use Rattle.plan.specs.PlanWritten.{bounds_text}
 use Rattle.values.specs.PlanWrittenLaws.{bounds_text-nil, bounds_text-more}
 use Rattle.values.proofs.writer.put_bounds.Invariants.{text}
 use Rattle.values.proofs.writer.put_bounds.Goals as goal
@@ -22,7 +18,7 @@ pub returns-then-i-ge-MOST_BOUNDS : goal.returns-then-i-ge-MOST_BOUNDS
 returns-then-i-ge-MOST_BOUNDS c =
     let a = c.args in
     let l = c.loop-i in
-    let places : length a.bound ≡ most_bounds = c.before.before.before.before.well_formed.1.1.1.0.1.0.1 in  record { stored = left_out text a.bound a.bounds (bounds_text-nil) l.invariant.3 (omega arith); upper_bound = omega arith }
+    let places : length a.bound ≡ most_bounds = c.before.before.before.before.well_formed.1.1.1.0.1.0.1 in record { stored = left_out text a.bound a.bounds (bounds_text-nil) l.invariant.3 (omega arith); upper_bound = omega arith }
 
 pub loop-i-preserved : goal.loop-i-preserved
 loop-i-preserved c =
@@ -41,4 +37,4 @@ shape_of-out c = c.loop-i.invariant.2
 
 pub returns : goal.returns
 returns c =
-    let a = c.args in  record { stored = left-stop text a.bound a.bounds (bounds_text-nil) c.loop-i.invariant.3 (omega arith); upper_bound = omega arith }
+    let a = c.args in record { stored = left-stop text a.bound a.bounds (bounds_text-nil) c.loop-i.invariant.3 (omega arith); upper_bound = omega arith }

@@ -1,15 +1,12 @@
 -- `put_bounds`: the bounds from place i on are left. One law a turn, `left-next`; the loop ends after so many bounds (`left-stop`) or places (`left_out`).
 use Prim.Native.Nat.{◌+◌, ◌*◌, ◌-◌, ◌≤◌}
-use mathlib.Core.Path.{◌≡◌, refl, ◌∙◌}
+use mathlib.Core.Path.{◌≡◌}
 use mathlib.Core.List.{List}
-use native.Mathlib.Omega.{arith}
 use lib.ListN.{length, take}
 use Rattle.plan.specs.Limits.{most_bounds}
-use Rattle.text.specs.LeftLaws.{LeftToWrite, left_from, left-places, left-next, left-stop, left_out}
+use Rattle.text.specs.LeftLaws.{LeftToWrite, left_from}
 use Rattle.plan.specs.declared.Bound.{Bound}
-use Rattle.plan.specs.PlanLines.{no_bound}
 use Rattle.plan.specs.PlanWritten.{bounds_text}
-use Rattle.values.specs.PlanWrittenLaws.{bounds_text-nil, bounds_text-more}
 use Rattle.values.proofs.writer.put_bounds.Given as goal
 
 abbrev pub text : List Bound → List Prim.Native.Nat.ℕ

@@ -1,5 +1,4 @@
 -- `put_job`: four lines in a row, by `stored-keyed-narrow`.
-use mathlib.Core.Path.{refl}
 use mathlib.Core.List.{[]}
 use native.Mathlib.Omega.{arith}
 use lib.IntN.{ℤ}
@@ -9,7 +8,6 @@ use Rattle.text.specs.Bytes.{bytes}
 use Rattle.lines.specs.Keyed.{keyed}
 use Rattle.plan.specs.PlanWritten.{jobs_text}
 use Rattle.lines.specs.KeyedLaws.{stored-keyed-narrow, stored-narrow}
-use borrow.Author.Rules.{rules}
 use Rattle.values.proofs.writer.put_job.Goals as goal
 
 pub overflow_cast-min : goal.overflow_cast-min
@@ -45,7 +43,8 @@ returns c =
     let first = c.put_line-second.ensures in
     let second = c.put_line-third.ensures in
     let third = c.put_line-fourth.ensures in
-    let fourth = c.put_line.ensures in  record { stored = stored-keyed-narrow
+    let fourth = c.put_line.ensures in record {
+      stored = stored-keyed-narrow
           (bytes "min=")
           (told-fits w32 j.min c.struct_told-1.given.0.1)
           first.stored
@@ -58,4 +57,6 @@ returns c =
           (told-fits w32 j.release c.struct_told-3-1.given.1.1.0.1)
           third.stored
           (stored-narrow (λ (z : ℤ). keyed (bytes "deadline=") z []) (told-fits w32 j.deadline c.struct_told-4-1.given.1.1.1.0.1)
-          fourth.stored))); upper_bound = omega (arith, first.upper_bound, second.upper_bound, third.upper_bound, fourth.upper_bound) }
+          fourth.stored)));
+      upper_bound = omega (arith, first.upper_bound, second.upper_bound, third.upper_bound, fourth.upper_bound);
+    }

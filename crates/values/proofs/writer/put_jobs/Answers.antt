@@ -1,13 +1,10 @@
-use Prim.Native.Nat.{◌+◌, ◌*◌, ◌-◌, ◌≤◌}
 use mathlib.Core.Path.{◌≡◌, refl, ◌∙◌}
-use mathlib.Core.List.{List, []}
+use mathlib.Core.List.{[]}
 use native.Mathlib.Omega.{arith}
-use lib.ListN.{length, take}
+use lib.ListN.{length}
 use Rattle.plan.specs.Limits.{most_jobs}
-use Rattle.text.specs.LeftLaws.{LeftToWrite, left_from, left-places, left-next, left-stop, left_out}
-use Rattle.plan.specs.declared.Job.{Job}
+use Rattle.text.specs.LeftLaws.{left-places, left-next, left-stop, left_out}
 use Rattle.plan.specs.PlanLines.{no_job}
-use Rattle.plan.specs.PlanWritten.{jobs_text}
 use Rattle.values.specs.PlanWrittenLaws.{jobs_text-nil, jobs_text-next}
 use Rattle.values.proofs.writer.put_jobs.Invariants.{text}
 use Rattle.values.proofs.writer.put_jobs.Goals as goal
@@ -22,7 +19,7 @@ pub returns-then-i-ge-MOST_JOBS : goal.returns-then-i-ge-MOST_JOBS
 returns-then-i-ge-MOST_JOBS c =
     let a = c.args in
     let l = c.loop-i in
-    let places : length a.job ≡ most_jobs = c.before.before.before.before.well_formed.1.1.1.0.1.0.1 in  record { stored = left_out text a.job a.jobs (jobs_text-nil []) l.invariant.3 (omega arith); upper_bound = omega arith }
+    let places : length a.job ≡ most_jobs = c.before.before.before.before.well_formed.1.1.1.0.1.0.1 in record { stored = left_out text a.job a.jobs (jobs_text-nil []) l.invariant.3 (omega arith); upper_bound = omega arith }
 
 pub loop-i-preserved : goal.loop-i-preserved
 loop-i-preserved c =
@@ -41,4 +38,4 @@ shape_of-out c = c.loop-i.invariant.2
 
 pub returns : goal.returns
 returns c =
-    let a = c.args in  record { stored = left-stop text a.job a.jobs (jobs_text-nil []) c.loop-i.invariant.3 (omega arith); upper_bound = omega arith }
+    let a = c.args in record { stored = left-stop text a.job a.jobs (jobs_text-nil []) c.loop-i.invariant.3 (omega arith); upper_bound = omega arith }

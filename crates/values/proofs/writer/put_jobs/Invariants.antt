@@ -1,15 +1,12 @@
 -- `put_jobs`: the jobs from place i on are left. One law a turn, `left-next`; the loop ends after so many jobs (`left-stop`) or places (`left_out`).
 use Prim.Native.Nat.{◌+◌, ◌*◌, ◌-◌, ◌≤◌}
-use mathlib.Core.Path.{◌≡◌, refl, ◌∙◌}
+use mathlib.Core.Path.{◌≡◌}
 use mathlib.Core.List.{List, []}
-use native.Mathlib.Omega.{arith}
 use lib.ListN.{length, take}
 use Rattle.plan.specs.Limits.{most_jobs}
-use Rattle.text.specs.LeftLaws.{LeftToWrite, left_from, left-places, left-next, left-stop, left_out}
+use Rattle.text.specs.LeftLaws.{LeftToWrite, left_from}
 use Rattle.plan.specs.declared.Job.{Job}
-use Rattle.plan.specs.PlanLines.{no_job}
 use Rattle.plan.specs.PlanWritten.{jobs_text}
-use Rattle.values.specs.PlanWrittenLaws.{jobs_text-nil, jobs_text-next}
 use Rattle.values.proofs.writer.put_jobs.Given as goal
 
 abbrev pub text : List Job → List Prim.Native.Nat.ℕ

@@ -1,5 +1,5 @@
 -- `put_plan`: the first four lines, the jobs, the count of the bounds and the bounds in a row, by `stored-keyed` and `stored-jobs`.
-use mathlib.Core.Path.{refl, ◌∙◌}
+use mathlib.Core.Path.{◌∙◌}
 use native.Mathlib.Omega.{arith}
 use lib.IntN.{pos}
 use mir.Syntax.{w32}
@@ -26,15 +26,18 @@ pub put_count_line-fifth-requires : goal.put_count_line-fifth-requires
 put_count_line-fifth-requires c = record { at_bound = omega arith; key_len_bound = omega arith }
 
 pub put_count_line-first_bound-requires : goal.put_count_line-first_bound-requires
-put_count_line-first_bound-requires c = record { at_bound = omega (
-        arith,
-        c.requires,
-        c.put_line-second.ensures.upper_bound,
-        c.put_count_line-third.ensures.upper_bound,
-        c.put_count_line-fourth.ensures.upper_bound,
-        c.put_count_line-fifth.ensures.upper_bound,
-        c.put_jobs-after_jobs.ensures.upper_bound,
-      ); key_len_bound = omega arith }
+put_count_line-first_bound-requires c = record {
+  at_bound = omega (
+    arith,
+    c.requires,
+    c.put_line-second.ensures.upper_bound,
+    c.put_count_line-third.ensures.upper_bound,
+    c.put_count_line-fourth.ensures.upper_bound,
+    c.put_count_line-fifth.ensures.upper_bound,
+    c.put_jobs-after_jobs.ensures.upper_bound,
+  );
+  key_len_bound = omega arith;
+}
 
 pub put_bounds-requires : goal.put_bounds-requires
 put_bounds-requires c =
@@ -69,7 +72,8 @@ returns c =
     let jobs = c.put_count_line-fifth.ensures in
     let all-jobs = c.put_jobs-after_jobs.ensures in
     let bounds = c.put_count_line-first_bound.ensures in
-    let all-bounds = c.put_bounds.ensures in  record { stored = stored-keyed-narrow
+    let all-bounds = c.put_bounds.ensures in record {
+      stored = stored-keyed-narrow
           (bytes "window=")
           (told-fits w32 p.window c.struct_told-1.given.0.1)
           window.stored
@@ -85,4 +89,6 @@ returns c =
           (bytes "jobs=")
           (pos p.jobs)
           jobs.stored
-          (stored-jobs (jobs_of p) all-jobs.stored (stored-keyed (bytes "bounds=") (pos p.bounds) bounds.stored all-bounds.stored))))); upper_bound = omega (arith, window.upper_bound, rounds.upper_bound, last.upper_bound, jobs.upper_bound, all-jobs.upper_bound, bounds.upper_bound, all-bounds.upper_bound) }
+          (stored-jobs (jobs_of p) all-jobs.stored (stored-keyed (bytes "bounds=") (pos p.bounds) bounds.stored all-bounds.stored)))));
+      upper_bound = omega (arith, window.upper_bound, rounds.upper_bound, last.upper_bound, jobs.upper_bound, all-jobs.upper_bound, bounds.upper_bound, all-bounds.upper_bound);
+    }

@@ -1,7 +1,6 @@
 -- `write_plan`: a plan that is judged good is written as its text is (`written_plan-accepted`), and one that is judged bad is refused by its own refusal
 -- (`written_plan-refused`).
 use Rattle.values.specs.WritingLaws.{written_plan-refused, written_plan-accepted}
-use borrow.Author.Rules.{rules}
 use Rattle.values.proofs.writer.write_plan.Goals as goal
 
 pub returns-in-Accepted : goal.returns-in-Accepted
