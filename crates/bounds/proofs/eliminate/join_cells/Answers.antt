@@ -59,7 +59,8 @@ returns-then-put c =
     let step : ℕ → List ℤ → Flat = let a = c.args in joined_at a.early.now a.late.now a.s a.y (to_z w32 (of_z w32 a.w)) in
     let answered : let a = c.args in
     joined_cells a.early.now a.late.now a.s a.y (to_z w32 (of_z w32 a.w)) a.weights.now
-    ≡ joined_cells a.early.now a.late.now a.s a.y a.w a.weights.now = let a = c.args in ap (λ w. joined_cells a.early.now a.late.now a.s a.y w a.weights.now) (to_z-of_z c.ranges.w) in
+    ≡ joined_cells a.early.now a.late.now a.s a.y a.w a.weights.now = let a = c.args in
+    ap (λ w. joined_cells a.early.now a.late.now a.s a.y w a.weights.now) (to_z-of_z c.ranges.w) in
     let put_is : let a = c.args in
     let l = c.loop-z in
     let answer = flat c.put.result c.put.new.weights in
@@ -92,7 +93,8 @@ loop-z-preserved c =
     let step : ℕ → List ℤ → Flat = let a = c.args in joined_at a.early.now a.late.now a.s a.y (to_z w32 (of_z w32 a.w)) in
     let answered : let a = c.args in
     joined_cells a.early.now a.late.now a.s a.y (to_z w32 (of_z w32 a.w)) a.weights.now
-    ≡ joined_cells a.early.now a.late.now a.s a.y a.w a.weights.now = let a = c.args in ap (λ w. joined_cells a.early.now a.late.now a.s a.y w a.weights.now) (to_z-of_z c.ranges.w) in
+    ≡ joined_cells a.early.now a.late.now a.s a.y a.w a.weights.now = let a = c.args in
+    ap (λ w. joined_cells a.early.now a.late.now a.s a.y w a.weights.now) (to_z-of_z c.ranges.w) in
     let put_is : let a = c.args in
     let l = c.loop-z in
     let answer = flat c.put.result c.put.new.weights in
@@ -125,7 +127,8 @@ pub returns : goal.returns
 returns c =
     let answered : let a = c.args in
     joined_cells a.early.now a.late.now a.s a.y (to_z w32 (of_z w32 a.w)) a.weights.now
-    ≡ joined_cells a.early.now a.late.now a.s a.y a.w a.weights.now = let a = c.args in ap (λ w. joined_cells a.early.now a.late.now a.s a.y w a.weights.now) (to_z-of_z c.ranges.w) in
+    ≡ joined_cells a.early.now a.late.now a.s a.y a.w a.weights.now = let a = c.args in
+    ap (λ w. joined_cells a.early.now a.late.now a.s a.y w a.weights.now) (to_z-of_z c.ranges.w) in
     let a = c.args in
     let l = c.loop-z in
     sym

@@ -60,11 +60,15 @@ move_nodes-requires c =
     let last = g.room in
     g.times-held.timed (finish_node c.args.k) (omega arith) in
     let less : ℤ = told (told (time_of_node c.args.late.now (start_node c.args.k)) -ℤ told (time_of_node c.args.late.now (finish_node c.args.k))) in
-    let less-max : (p : Plan) (g : TableHeldFor p c.args.early.now c.args.late.now (suc (finish_node c.args.k)) c.args.weights.now) → less ≡ neg_ℤ (job_at p c.args.k).max = λ p g. let a = c.args in
+    let less-max : (p : Plan) (g : TableHeldFor p c.args.early.now c.args.late.now (suc (finish_node c.args.k)) c.args.weights.now) → less
+    ≡ neg_ℤ (job_at p c.args.k).max =
+    λ p g. let a = c.args in
     gap_back start-timed.late-in finish-timed.late-in
     ∙ less-is p a.early.now a.late.now g.times-held a.k a.weights.now g.room g.fit in
     let more : ℤ = told (told (time_of_node c.args.early.now (finish_node c.args.k)) -ℤ told (time_of_node c.args.early.now (start_node c.args.k))) in
-    let more-min : (p : Plan) (g : TableHeldFor p c.args.early.now c.args.late.now (suc (finish_node c.args.k)) c.args.weights.now) → more ≡ (job_at p c.args.k).min = λ p g. let a = c.args in
+    let more-min : (p : Plan) (g : TableHeldFor p c.args.early.now c.args.late.now (suc (finish_node c.args.k)) c.args.weights.now) → more
+    ≡ (job_at p c.args.k).min =
+    λ p g. let a = c.args in
     gap_back finish-timed.early-in start-timed.early-in
     ∙ more-is p a.early.now a.late.now g.times-held a.k a.weights.now g.room g.fit in
     let a = c.args in
@@ -85,11 +89,15 @@ returns c =
     let last = g.room in
     g.times-held.timed (finish_node c.args.k) (omega arith) in
     let less : ℤ = told (told (time_of_node c.args.late.now (start_node c.args.k)) -ℤ told (time_of_node c.args.late.now (finish_node c.args.k))) in
-    let less-max : (p : Plan) (g : TableHeldFor p c.args.early.now c.args.late.now (suc (finish_node c.args.k)) c.args.weights.now) → less ≡ neg_ℤ (job_at p c.args.k).max = λ p g. let a = c.args in
+    let less-max : (p : Plan) (g : TableHeldFor p c.args.early.now c.args.late.now (suc (finish_node c.args.k)) c.args.weights.now) → less
+    ≡ neg_ℤ (job_at p c.args.k).max =
+    λ p g. let a = c.args in
     gap_back start-timed.late-in finish-timed.late-in
     ∙ less-is p a.early.now a.late.now g.times-held a.k a.weights.now g.room g.fit in
     let more : ℤ = told (told (time_of_node c.args.early.now (finish_node c.args.k)) -ℤ told (time_of_node c.args.early.now (start_node c.args.k))) in
-    let more-min : (p : Plan) (g : TableHeldFor p c.args.early.now c.args.late.now (suc (finish_node c.args.k)) c.args.weights.now) → more ≡ (job_at p c.args.k).min = λ p g. let a = c.args in
+    let more-min : (p : Plan) (g : TableHeldFor p c.args.early.now c.args.late.now (suc (finish_node c.args.k)) c.args.weights.now) → more
+    ≡ (job_at p c.args.k).min =
+    λ p g. let a = c.args in
     gap_back finish-timed.early-in start-timed.early-in
     ∙ more-is p a.early.now a.late.now g.times-held a.k a.weights.now g.room g.fit in
     let a = c.args in

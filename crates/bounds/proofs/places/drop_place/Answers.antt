@@ -41,7 +41,8 @@ returns c =
       weights_after = λ p whole.
           let g = finish-table-held p a.early.now a.late.now a.k a.weights.now whole in
           let e = f.ensures.weights_after p g in
-          r.ensures.weights_after p (start-table-held p a.early.now a.late.now a.k a.weights.now f.result f.new.weights e g left f.ensures.weights_len_unchanged)
+          r.ensures.weights_after p
+          (start-table-held p a.early.now a.late.now a.k a.weights.now f.result f.new.weights e g left f.ensures.weights_len_unchanged)
           ∙ sym (place-left p a.early.now a.late.now a.k a.weights.now f.result f.new.weights e left);
       weights_len_unchanged = r.ensures.weights_len_unchanged ∙ f.ensures.weights_len_unchanged;
     }

@@ -28,14 +28,29 @@ pub returns-in-Settled : goal.returns-in-Settled
 returns-in-Settled c =
     let plan_of : Plan = c.args.p in
     let p = plan_of in
-    let o = verdict-settled p c.settle-verdict.result c.settle-verdict.ensures.value _ c.in-Settled.is in record { verdict_value = c.settle-verdict.ensures.value; calendar_value = c.calendar_of-calendar.ensures ∙ made-settled p _ o.set _ o.is (c.settle-verdict.ensures.settled_on.joins _ o.set o.is) }
+    let o =
+    verdict-settled p c.settle-verdict.result c.settle-verdict.ensures.value _ c.in-Settled.is in
+    record {
+      verdict_value = c.settle-verdict.ensures.value;
+      calendar_value = c.calendar_of-calendar.ensures ∙ made-settled p _ o.set _ o.is (c.settle-verdict.ensures.settled_on.joins _ o.set o.is);
+    }
 
 pub returns-in-NoStrategy : goal.returns-in-NoStrategy
 returns-in-NoStrategy c =
     let plan_of : Plan = c.args.p in
-    let p = plan_of in record { verdict_value = c.settle-verdict.ensures.value; calendar_value = c.empty_calendar-calendar.ensures p ∙ made-refused p _ c.settle-verdict.ensures.value _ c.in-NoStrategy.is }
+    let p =
+    plan_of in
+    record {
+      verdict_value = c.settle-verdict.ensures.value;
+      calendar_value = c.empty_calendar-calendar.ensures p ∙ made-refused p _ c.settle-verdict.ensures.value _ c.in-NoStrategy.is;
+    }
 
 pub returns-in-Unsettled : goal.returns-in-Unsettled
 returns-in-Unsettled c =
     let plan_of : Plan = c.args.p in
-    let p = plan_of in record { verdict_value = c.settle-verdict.ensures.value; calendar_value = c.empty_calendar-calendar-in-Unsettled.ensures p ∙ made-unsettled p _ c.settle-verdict.ensures.value _ c.in-Unsettled.is }
+    let p =
+    plan_of in
+    record {
+      verdict_value = c.settle-verdict.ensures.value;
+      calendar_value = c.empty_calendar-calendar-in-Unsettled.ensures p ∙ made-unsettled p _ c.settle-verdict.ensures.value _ c.in-Unsettled.is;
+    }

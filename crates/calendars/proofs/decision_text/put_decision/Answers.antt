@@ -8,10 +8,14 @@ pub returns-in-Settled : goal.returns-in-Settled
 returns-in-Settled c =
     let a = c.args in
     let t = c.tell_verdict-told in
-    let w = c.put_calendar.ensures in record { stored = stored-as (text-settled a.jobs a.v a.c t.result t.ensures _ c.in-Settled.is) w.stored; upper_bound = omega (arith, w.upper_bound) }
+    let w =
+    c.put_calendar.ensures in
+    record { stored = stored-as (text-settled a.jobs a.v a.c t.result t.ensures _ c.in-Settled.is) w.stored; upper_bound = omega (arith, w.upper_bound) }
 
 pub returns-in-Refused : goal.returns-in-Refused
 returns-in-Refused c =
     let a = c.args in
     let t = c.tell_verdict-told in
-    let w = c.put_refused.ensures in record { stored = stored-as (text-refused a.jobs a.v a.c t.result t.ensures _ c.in-Refused.is) w.stored; upper_bound = omega (arith, w.upper_bound) }
+    let w =
+    c.put_refused.ensures in
+    record { stored = stored-as (text-refused a.jobs a.v a.c t.result t.ensures _ c.in-Refused.is) w.stored; upper_bound = omega (arith, w.upper_bound) }

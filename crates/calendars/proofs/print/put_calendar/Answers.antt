@@ -8,4 +8,7 @@ use Rattle.calendars.proofs.print.put_calendar.Goals as goal
 
 pub returns : goal.returns
 unfolding bytes calendar_text
-returns c = record { stored = stored-keyed (bytes "settled=") (pos c.args.m) c.put_count_line-next.ensures.stored c.put_jobs.ensures.stored; upper_bound = omega arith }
+returns c = record {
+  stored = stored-keyed (bytes "settled=") (pos c.args.m) c.put_count_line-next.ensures.stored c.put_jobs.ensures.stored;
+  upper_bound = omega arith;
+}

@@ -7,4 +7,7 @@ use Rattle.calendars.proofs.print.put_job.Goals as goal
 
 pub returns : goal.returns
 unfolding bytes job_text
-returns c = record { stored = stored-append c.put_head-second.ensures.stored (stored-append c.put_terms-third.ensures.stored c.put_terms.ensures.stored); upper_bound = omega arith }
+returns c = record {
+  stored = stored-append c.put_head-second.ensures.stored (stored-append c.put_terms-third.ensures.stored c.put_terms.ensures.stored);
+  upper_bound = omega arith;
+}

@@ -10,8 +10,10 @@ use Rattle.calendars.proofs.print.put_terms.Given as goal
 
 abbrev pub invariant-loop-left : goal.invariant-loop-left
 invariant-loop-left l =
-    (l.e ≤ l.count) × (l.end ≤ l.at + most_term_bytes * l.e) × (length l.out ≡ length l.initial.out) × (count_from (bits_of l.set) l.e (most_bits - l.e) ≡ l.left)
-    × LeftToWrite l.initial.out l.at (term_lines l.jobs l.key (bits_of l.set) l.cs l.row 0 l.count) l.out l.end (term_lines l.jobs l.key (bits_of l.set) l.cs l.row l.e (l.count - l.e))
+    (l.e ≤ l.count) × (l.end ≤ l.at + most_term_bytes * l.e) × (length l.out ≡ length l.initial.out)
+    × (count_from (bits_of l.set) l.e (most_bits - l.e) ≡ l.left)
+    × LeftToWrite l.initial.out l.at (term_lines l.jobs l.key (bits_of l.set) l.cs l.row 0 l.count) l.out l.end
+    (term_lines l.jobs l.key (bits_of l.set) l.cs l.row l.e (l.count - l.e))
 
 abbrev pub decreases-loop-left : goal.decreases-loop-left
 decreases-loop-left l = l.count - l.e

@@ -63,7 +63,8 @@ loop-e-preserved c =
     to_z w32 (of_z w32 c.weight_on-w.result) ≡ weight_on a.side a.weights.now (suc a.count) c.loop-e.e = let a = c.args in
     to_z-of_z (told-fits w32 c.weight_on-w.result c.weight_on-w.type_inv) ∙ c.weight_on-w.ensures
     ∙ ap (λ (s : ℕ). weight_on a.side a.weights.now s c.loop-e.e) (add-one a.count) in
-    let on : not (eqb (of_z w32 c.weight_on-w.result) 2147483647) ≡ is_bound (to_z w32 (of_z w32 c.weight_on-w.result)) = let fits = told-fits w32 c.weight_on-w.result c.weight_on-w.type_inv in is_bound-read fits ∙ ap is_bound (sym (to_z-of_z fits)) in
+    let on : not (eqb (of_z w32 c.weight_on-w.result) 2147483647) ≡ is_bound (to_z w32 (of_z w32 c.weight_on-w.result)) =
+    let fits = told-fits w32 c.weight_on-w.result c.weight_on-w.type_inv in is_bound-read fits ∙ ap is_bound (sym (to_z-of_z fits)) in
     let a = c.args in
     let l = c.loop-e in
     let w = c.weight_on-w.result in

@@ -11,7 +11,8 @@ use Rattle.calendars.proofs.recorded.put_side.Given as goal
 abbrev pub invariant-loop-e : goal.invariant-loop-e
 invariant-loop-e l =
     (l.e ≤ l.count) × (length l.cs ≡ length l.initial.cs)
-    × (bits_of l.set ≡ event_set (listed l.e (is_on_side l.side l.weights l.count))) × (l.cs ≡ sets l.initial.cs l.row (listed l.e (c_on_side l.side l.weights l.count)))
+    × (bits_of l.set ≡ event_set (listed l.e (is_on_side l.side l.weights l.count)))
+    × (l.cs ≡ sets l.initial.cs l.row (listed l.e (c_on_side l.side l.weights l.count)))
 
 abbrev pub decreases-loop-e : goal.decreases-loop-e
 decreases-loop-e l = l.count - l.e

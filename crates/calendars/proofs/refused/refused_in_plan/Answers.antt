@@ -31,7 +31,9 @@ returns-in_default-verdict c =
     let q = c.in-Accepted.is in
     let v = sym (ap verdict_told c.decide-decision.ensures.verdict_value) ∙ sym c.tell_verdict-verdict.ensures ∙ c.in_default-verdict.is in
     let t = told-settled-alone s r.result r.ensures q _ v r.result.answer q in
-    let e = c.tell_refusal-in_default-verdict.ensures in record { result_value = e.result_value ∙ t.part-is; n_after = e.n_after ∙ t.number_is; d_after = e.d_after ∙ t.value-is }
+    let e =
+    c.tell_refusal-in_default-verdict.ensures in
+    record { result_value = e.result_value ∙ t.part-is; n_after = e.n_after ∙ t.number_is; d_after = e.d_after ∙ t.value-is }
 
 pub returns : goal.returns
 returns c =
@@ -41,4 +43,5 @@ returns c =
     let q = c.in-Accepted.is in
     let v = sym (ap verdict_told c.decide-decision.ensures.verdict_value) ∙ sym c.tell_verdict-verdict.ensures ∙ c.in-Refused.is in
     let t = told-verdict (λ m. m) (λ x t. refl) s (plan_alone s) (plan_alone-tail s) r.result r.ensures _ _ refl q v _ refl in
-    let e = c.tell_refusal-2.ensures in record { result_value = e.result_value ∙ t.part-is; n_after = e.n_after ∙ t.number_is; d_after = e.d_after ∙ t.value-is }
+    let e =
+    c.tell_refusal-2.ensures in record { result_value = e.result_value ∙ t.part-is; n_after = e.n_after ∙ t.number_is; d_after = e.d_after ∙ t.value-is }

@@ -7,4 +7,5 @@ use Rattle.lines.proofs.keyed.put_line.Goals as goal
 pub returns : goal.returns
 returns c =
     let key = c.put_bytes-number.ensures in
-    let number = c.put_ended_number.ensures in record { stored = stored-append key (stored-ended _ c.ranges.z number.stored (omega arith)); upper_bound = omega arith }
+    let number =
+    c.put_ended_number.ensures in record { stored = stored-append key (stored-ended _ c.ranges.z number.stored (omega arith)); upper_bound = omega arith }

@@ -11,4 +11,10 @@ returns-in_default c =
 pub returns : goal.returns
 returns c =
     let a = c.args in
-    let e = sym c.in-Refused.is in record { result_value = c.line_at.ensures ∙ ap (part_at a.s.now a.at) e; n_after = c.number.ensures ∙ ap answer_number e; d_after = c.value.ensures ∙ ap answer_value e }
+    let e =
+    sym c.in-Refused.is in
+    record {
+      result_value = c.line_at.ensures ∙ ap (part_at a.s.now a.at) e;
+      n_after = c.number.ensures ∙ ap answer_number e;
+      d_after = c.value.ensures ∙ ap answer_value e;
+    }

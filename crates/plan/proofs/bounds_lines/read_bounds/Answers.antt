@@ -24,7 +24,8 @@ returns-in_default c =
       number_value = BoundsPassed-stop s a.from a.number a.jobs a.bounds v.bound v.given v.at v.line v.i c.requires.1.1.0
           v.invariant c.loop-i-test.true c.bound_fault-fault.result
           (at_told-stops s (v.line + 1) (bound_line_at r.result) r.ensures.number_value (ap bound_line_at c.in_default.is) c.bound_fault-fault.ensures);
-      went_in_bounds = at_place-stops (bound_line_at r.result) (length s) r.ensures.result_in_bounds (ap bound_line_at c.in_default.is) c.bound_fault-fault.ensures;
+      went_in_bounds = at_place-stops (bound_line_at r.result) (length s) r.ensures.result_in_bounds (ap bound_line_at c.in_default.is)
+          c.bound_fault-fault.ensures;
       bounds_filled = tt;
     }
 

@@ -35,7 +35,8 @@ unfolding bytes
 read_number_line-second-requires c =
     let s₀ : List ℕ = c.args.s.now in
     let z₁ : ℤ = c.in-Value.window in
-    let rest₁ : RestAt s₀ (plan_lines s₀ 1) (plan_from_rounds z₁) c.in-Value.at2 2 = line-goes _ _ _ _ (plan_lines-rest s₀) _ c.read_number_line-first.ensures c.in-Value.is in
+    let rest₁ : RestAt s₀ (plan_lines s₀ 1) (plan_from_rounds z₁) c.in-Value.at2 2 =
+    line-goes _ _ _ _ (plan_lines-rest s₀) _ c.read_number_line-first.ensures c.in-Value.is in
     rest₁.place
 
 pub returns-in_default-second : goal.returns-in_default-second
@@ -43,7 +44,8 @@ unfolding bytes
 returns-in_default-second c =
     let s₀ : List ℕ = c.args.s.now in
     let z₁ : ℤ = c.in-Value.window in
-    let rest₁ : RestAt s₀ (plan_lines s₀ 1) (plan_from_rounds z₁) c.in-Value.at2 2 = line-goes _ _ _ _ (plan_lines-rest s₀) _ c.read_number_line-first.ensures c.in-Value.is in
+    let rest₁ : RestAt s₀ (plan_lines s₀ 1) (plan_from_rounds z₁) c.in-Value.at2 2 =
+    line-goes _ _ _ _ (plan_lines-rest s₀) _ c.read_number_line-first.ensures c.in-Value.is in
     first_stops s₀
     (line-stops _ _ _ _ (rest_at-count _ _ _ _ rest₁) _ c.read_number_line-second.ensures
     c.in_default-second.is c.number_fault-in_default-second.ensures)
@@ -56,7 +58,8 @@ unfolding bytes
 read_number_line-third-requires c =
     let s₀ : List ℕ = c.args.s.now in
     let z₁ : ℤ = c.in-Value.window in
-    let rest₁ : RestAt s₀ (plan_lines s₀ 1) (plan_from_rounds z₁) c.in-Value.at2 2 = line-goes _ _ _ _ (plan_lines-rest s₀) _ c.read_number_line-first.ensures c.in-Value.is in
+    let rest₁ : RestAt s₀ (plan_lines s₀ 1) (plan_from_rounds z₁) c.in-Value.at2 2 =
+    line-goes _ _ _ _ (plan_lines-rest s₀) _ c.read_number_line-first.ensures c.in-Value.is in
     let z₂ : ℤ = c.in-Value-second.rounds in
     let rest₂ : RestAt s₀ (plan_lines s₀ 1) (plan_from_last z₁ (nat_abs z₂))
     c.in-Value-second.at3 3 = line-goes _ _ _ _ (rest_at-count _ _ _ _ rest₁) _ c.read_number_line-second.ensures c.in-Value-second.is in
@@ -67,7 +70,8 @@ unfolding bytes
 returns-in_default-third c =
     let s₀ : List ℕ = c.args.s.now in
     let z₁ : ℤ = c.in-Value.window in
-    let rest₁ : RestAt s₀ (plan_lines s₀ 1) (plan_from_rounds z₁) c.in-Value.at2 2 = line-goes _ _ _ _ (plan_lines-rest s₀) _ c.read_number_line-first.ensures c.in-Value.is in
+    let rest₁ : RestAt s₀ (plan_lines s₀ 1) (plan_from_rounds z₁) c.in-Value.at2 2 =
+    line-goes _ _ _ _ (plan_lines-rest s₀) _ c.read_number_line-first.ensures c.in-Value.is in
     let z₂ : ℤ = c.in-Value-second.rounds in
     let rest₂ : RestAt s₀ (plan_lines s₀ 1) (plan_from_last z₁ (nat_abs z₂))
     c.in-Value-second.at3 3 = line-goes _ _ _ _ (rest_at-count _ _ _ _ rest₁) _ c.read_number_line-second.ensures c.in-Value-second.is in
@@ -83,13 +87,15 @@ unfolding bytes
 read_number_line-fourth-requires c =
     let s₀ : List ℕ = c.args.s.now in
     let z₁ : ℤ = c.in-Value.window in
-    let rest₁ : RestAt s₀ (plan_lines s₀ 1) (plan_from_rounds z₁) c.in-Value.at2 2 = line-goes _ _ _ _ (plan_lines-rest s₀) _ c.read_number_line-first.ensures c.in-Value.is in
+    let rest₁ : RestAt s₀ (plan_lines s₀ 1) (plan_from_rounds z₁) c.in-Value.at2 2 =
+    line-goes _ _ _ _ (plan_lines-rest s₀) _ c.read_number_line-first.ensures c.in-Value.is in
     let z₂ : ℤ = c.in-Value-second.rounds in
     let rest₂ : RestAt s₀ (plan_lines s₀ 1) (plan_from_last z₁ (nat_abs z₂))
     c.in-Value-second.at3 3 = line-goes _ _ _ _ (rest_at-count _ _ _ _ rest₁) _ c.read_number_line-second.ensures c.in-Value-second.is in
     let z₃ : ℤ = c.in-Value-third.last in
     let rest₃ : RestAt s₀ (plan_lines s₀ 1)
-    (plan_from_jobs z₁ (nat_abs z₂) (nat_abs z₃)) c.in-Value-third.at4 4 = line-goes _ _ _ _ (rest_at-count _ _ _ _ rest₂) _ c.read_number_line-third.ensures c.in-Value-third.is in
+    (plan_from_jobs z₁ (nat_abs z₂) (nat_abs z₃)) c.in-Value-third.at4 4 = line-goes _ _ _ _ (rest_at-count _ _ _ _ rest₂) _ c.read_number_line-third.ensures
+    c.in-Value-third.is in
     rest₃.place
 
 pub returns-in_default-fourth : goal.returns-in_default-fourth
@@ -97,13 +103,15 @@ unfolding bytes
 returns-in_default-fourth c =
     let s₀ : List ℕ = c.args.s.now in
     let z₁ : ℤ = c.in-Value.window in
-    let rest₁ : RestAt s₀ (plan_lines s₀ 1) (plan_from_rounds z₁) c.in-Value.at2 2 = line-goes _ _ _ _ (plan_lines-rest s₀) _ c.read_number_line-first.ensures c.in-Value.is in
+    let rest₁ : RestAt s₀ (plan_lines s₀ 1) (plan_from_rounds z₁) c.in-Value.at2 2 =
+    line-goes _ _ _ _ (plan_lines-rest s₀) _ c.read_number_line-first.ensures c.in-Value.is in
     let z₂ : ℤ = c.in-Value-second.rounds in
     let rest₂ : RestAt s₀ (plan_lines s₀ 1) (plan_from_last z₁ (nat_abs z₂))
     c.in-Value-second.at3 3 = line-goes _ _ _ _ (rest_at-count _ _ _ _ rest₁) _ c.read_number_line-second.ensures c.in-Value-second.is in
     let z₃ : ℤ = c.in-Value-third.last in
     let rest₃ : RestAt s₀ (plan_lines s₀ 1)
-    (plan_from_jobs z₁ (nat_abs z₂) (nat_abs z₃)) c.in-Value-third.at4 4 = line-goes _ _ _ _ (rest_at-count _ _ _ _ rest₂) _ c.read_number_line-third.ensures c.in-Value-third.is in
+    (plan_from_jobs z₁ (nat_abs z₂) (nat_abs z₃)) c.in-Value-third.at4 4 = line-goes _ _ _ _ (rest_at-count _ _ _ _ rest₂) _ c.read_number_line-third.ensures
+    c.in-Value-third.is in
     first_stops s₀
     (line-stops _ _ _ _ (rest_at-count _ _ _ _ rest₃) _ c.read_number_line-fourth.ensures
     c.in_default-fourth.is c.number_fault-in_default-fourth.ensures)
@@ -141,7 +149,8 @@ returns c =
     let s₀ : List ℕ = c.args.s.now in
     let z₁ : ℤ = c.in-Value.window in
     let back₁ : to_z w32 (of_z w32 z₁) ≡ z₁ = to_z-of_z {w = w32} {z = z₁} (search rules) in
-    let rest₁ : RestAt s₀ (plan_lines s₀ 1) (plan_from_rounds z₁) c.in-Value.at2 2 = line-goes _ _ _ _ (plan_lines-rest s₀) _ c.read_number_line-first.ensures c.in-Value.is in
+    let rest₁ : RestAt s₀ (plan_lines s₀ 1) (plan_from_rounds z₁) c.in-Value.at2 2 =
+    line-goes _ _ _ _ (plan_lines-rest s₀) _ c.read_number_line-first.ensures c.in-Value.is in
     let z₂ : ℤ = c.in-Value-second.rounds in
     let back₂ : to_z w32 (of_z w32 z₂) ≡ z₂ = to_z-of_z {w = w32} {z = z₂} (search rules) in
     let rest₂ : RestAt s₀ (plan_lines s₀ 1) (plan_from_last z₁ (nat_abs z₂))
@@ -149,11 +158,13 @@ returns c =
     let z₃ : ℤ = c.in-Value-third.last in
     let back₃ : to_z w32 (of_z w32 z₃) ≡ z₃ = to_z-of_z {w = w32} {z = z₃} (search rules) in
     let rest₃ : RestAt s₀ (plan_lines s₀ 1)
-    (plan_from_jobs z₁ (nat_abs z₂) (nat_abs z₃)) c.in-Value-third.at4 4 = line-goes _ _ _ _ (rest_at-count _ _ _ _ rest₂) _ c.read_number_line-third.ensures c.in-Value-third.is in
+    (plan_from_jobs z₁ (nat_abs z₂) (nat_abs z₃)) c.in-Value-third.at4 4 = line-goes _ _ _ _ (rest_at-count _ _ _ _ rest₂) _ c.read_number_line-third.ensures
+    c.in-Value-third.is in
     let z₄ : ℤ = c.in-Value-fourth.jobs in
     let back₄ : to_z w32 (of_z w32 z₄) ≡ z₄ = to_z-of_z {w = w32} {z = z₄} (search rules) in
     let rest₄ : RestAt s₀ (plan_lines s₀ 1)
-    (plan_rest z₁ (nat_abs z₂) (nat_abs z₃) (nat_abs z₄)) c.in-Value-fourth.at5 5 = line-goes _ _ _ _ (rest_at-count _ _ _ _ rest₃) _ c.read_number_line-fourth.ensures c.in-Value-fourth.is in
+    (plan_rest z₁ (nat_abs z₂) (nat_abs z₃) (nat_abs z₄)) c.in-Value-fourth.at5 5 = line-goes _ _ _ _ (rest_at-count _ _ _ _ rest₃) _
+    c.read_number_line-fourth.ensures c.in-Value-fourth.is in
     let rounds : c.count.result ≡ nat_abs z₂ = c.count.ensures ∙ ap nat_abs back₂ in
     let last : c.count-2.result ≡ nat_abs z₃ = c.count-2.ensures ∙ ap nat_abs back₃ in
     let jobs : c.count-3.result ≡ nat_abs z₄ = c.count-3.ensures ∙ ap nat_abs back₄ in

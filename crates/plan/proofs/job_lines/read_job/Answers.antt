@@ -25,7 +25,8 @@ unfolding bytes
 returns-in_default c =
     let s₀ : List ℕ = c.args.s.now in
     let job₀ : Reading Job = job_lines (drop c.args.at s₀) c.args.line in
-    let rest₀ : RestAt s₀ job₀ (◌>>=◌ (number_line (bytes "min=") (pos 0) longest_running) job_from_max) c.args.at c.args.line = job_lines-rest s₀ c.args.at c.args.line c.requires.0 in
+    let rest₀ : RestAt s₀ job₀ (◌>>=◌ (number_line (bytes "min=") (pos 0) longest_running) job_from_max) c.args.at c.args.line =
+    job_lines-rest s₀ c.args.at c.args.line c.requires.0 in
     let told = line-stops _ _ _ _ rest₀ _ c.read_number_line-first.ensures c.in_default.is c.number_fault.ensures in
     record { line_value = told.0; result_in_bounds = told.1 }
 
@@ -36,7 +37,8 @@ unfolding bytes
 read_number_line-second-requires c =
     let s₀ : List ℕ = c.args.s.now in
     let job₀ : Reading Job = job_lines (drop c.args.at s₀) c.args.line in
-    let rest₀ : RestAt s₀ job₀ (◌>>=◌ (number_line (bytes "min=") (pos 0) longest_running) job_from_max) c.args.at c.args.line = job_lines-rest s₀ c.args.at c.args.line c.requires.0 in
+    let rest₀ : RestAt s₀ job₀ (◌>>=◌ (number_line (bytes "min=") (pos 0) longest_running) job_from_max) c.args.at c.args.line =
+    job_lines-rest s₀ c.args.at c.args.line c.requires.0 in
     let z₁ : ℤ = c.in-Value.min in
     let rest₁ : RestAt s₀ job₀ (job_from_max z₁) c.in-Value.at2 (c.args.line + 1) = line-goes _ _ _ _ rest₀ _ c.read_number_line-first.ensures c.in-Value.is in
     rest₁.place
@@ -46,7 +48,8 @@ unfolding bytes
 returns-in_default-second c =
     let s₀ : List ℕ = c.args.s.now in
     let job₀ : Reading Job = job_lines (drop c.args.at s₀) c.args.line in
-    let rest₀ : RestAt s₀ job₀ (◌>>=◌ (number_line (bytes "min=") (pos 0) longest_running) job_from_max) c.args.at c.args.line = job_lines-rest s₀ c.args.at c.args.line c.requires.0 in
+    let rest₀ : RestAt s₀ job₀ (◌>>=◌ (number_line (bytes "min=") (pos 0) longest_running) job_from_max) c.args.at c.args.line =
+    job_lines-rest s₀ c.args.at c.args.line c.requires.0 in
     let z₁ : ℤ = c.in-Value.min in
     let back₁ : to_z w32 (of_z w32 z₁) ≡ z₁ = to_z-of_z {w = w32} {z = z₁} (search rules) in
     let rest₁ : RestAt s₀ job₀ (job_from_max z₁) c.in-Value.at2 (c.args.line + 1) = line-goes _ _ _ _ rest₀ _ c.read_number_line-first.ensures c.in-Value.is in
@@ -60,7 +63,8 @@ unfolding bytes
 read_number_line-third-requires c =
     let s₀ : List ℕ = c.args.s.now in
     let job₀ : Reading Job = job_lines (drop c.args.at s₀) c.args.line in
-    let rest₀ : RestAt s₀ job₀ (◌>>=◌ (number_line (bytes "min=") (pos 0) longest_running) job_from_max) c.args.at c.args.line = job_lines-rest s₀ c.args.at c.args.line c.requires.0 in
+    let rest₀ : RestAt s₀ job₀ (◌>>=◌ (number_line (bytes "min=") (pos 0) longest_running) job_from_max) c.args.at c.args.line =
+    job_lines-rest s₀ c.args.at c.args.line c.requires.0 in
     let z₁ : ℤ = c.in-Value.min in
     let back₁ : to_z w32 (of_z w32 z₁) ≡ z₁ = to_z-of_z {w = w32} {z = z₁} (search rules) in
     let rest₁ : RestAt s₀ job₀ (job_from_max z₁) c.in-Value.at2 (c.args.line + 1) = line-goes _ _ _ _ rest₀ _ c.read_number_line-first.ensures c.in-Value.is in
@@ -74,7 +78,8 @@ unfolding bytes
 returns-in_default-third c =
     let s₀ : List ℕ = c.args.s.now in
     let job₀ : Reading Job = job_lines (drop c.args.at s₀) c.args.line in
-    let rest₀ : RestAt s₀ job₀ (◌>>=◌ (number_line (bytes "min=") (pos 0) longest_running) job_from_max) c.args.at c.args.line = job_lines-rest s₀ c.args.at c.args.line c.requires.0 in
+    let rest₀ : RestAt s₀ job₀ (◌>>=◌ (number_line (bytes "min=") (pos 0) longest_running) job_from_max) c.args.at c.args.line =
+    job_lines-rest s₀ c.args.at c.args.line c.requires.0 in
     let z₁ : ℤ = c.in-Value.min in
     let back₁ : to_z w32 (of_z w32 z₁) ≡ z₁ = to_z-of_z {w = w32} {z = z₁} (search rules) in
     let rest₁ : RestAt s₀ job₀ (job_from_max z₁) c.in-Value.at2 (c.args.line + 1) = line-goes _ _ _ _ rest₀ _ c.read_number_line-first.ensures c.in-Value.is in
@@ -91,7 +96,8 @@ unfolding bytes
 read_number_line-fourth-requires c =
     let s₀ : List ℕ = c.args.s.now in
     let job₀ : Reading Job = job_lines (drop c.args.at s₀) c.args.line in
-    let rest₀ : RestAt s₀ job₀ (◌>>=◌ (number_line (bytes "min=") (pos 0) longest_running) job_from_max) c.args.at c.args.line = job_lines-rest s₀ c.args.at c.args.line c.requires.0 in
+    let rest₀ : RestAt s₀ job₀ (◌>>=◌ (number_line (bytes "min=") (pos 0) longest_running) job_from_max) c.args.at c.args.line =
+    job_lines-rest s₀ c.args.at c.args.line c.requires.0 in
     let z₁ : ℤ = c.in-Value.min in
     let back₁ : to_z w32 (of_z w32 z₁) ≡ z₁ = to_z-of_z {w = w32} {z = z₁} (search rules) in
     let rest₁ : RestAt s₀ job₀ (job_from_max z₁) c.in-Value.at2 (c.args.line + 1) = line-goes _ _ _ _ rest₀ _ c.read_number_line-first.ensures c.in-Value.is in
@@ -108,7 +114,8 @@ unfolding bytes
 returns-in_default-fourth c =
     let s₀ : List ℕ = c.args.s.now in
     let job₀ : Reading Job = job_lines (drop c.args.at s₀) c.args.line in
-    let rest₀ : RestAt s₀ job₀ (◌>>=◌ (number_line (bytes "min=") (pos 0) longest_running) job_from_max) c.args.at c.args.line = job_lines-rest s₀ c.args.at c.args.line c.requires.0 in
+    let rest₀ : RestAt s₀ job₀ (◌>>=◌ (number_line (bytes "min=") (pos 0) longest_running) job_from_max) c.args.at c.args.line =
+    job_lines-rest s₀ c.args.at c.args.line c.requires.0 in
     let z₁ : ℤ = c.in-Value.min in
     let back₁ : to_z w32 (of_z w32 z₁) ≡ z₁ = to_z-of_z {w = w32} {z = z₁} (search rules) in
     let rest₁ : RestAt s₀ job₀ (job_from_max z₁) c.in-Value.at2 (c.args.line + 1) = line-goes _ _ _ _ rest₀ _ c.read_number_line-first.ensures c.in-Value.is in
@@ -128,7 +135,8 @@ unfolding bytes
 returns c =
     let s₀ : List ℕ = c.args.s.now in
     let job₀ : Reading Job = job_lines (drop c.args.at s₀) c.args.line in
-    let rest₀ : RestAt s₀ job₀ (◌>>=◌ (number_line (bytes "min=") (pos 0) longest_running) job_from_max) c.args.at c.args.line = job_lines-rest s₀ c.args.at c.args.line c.requires.0 in
+    let rest₀ : RestAt s₀ job₀ (◌>>=◌ (number_line (bytes "min=") (pos 0) longest_running) job_from_max) c.args.at c.args.line =
+    job_lines-rest s₀ c.args.at c.args.line c.requires.0 in
     let z₁ : ℤ = c.in-Value.min in
     let back₁ : to_z w32 (of_z w32 z₁) ≡ z₁ = to_z-of_z {w = w32} {z = z₁} (search rules) in
     let rest₁ : RestAt s₀ job₀ (job_from_max z₁) c.in-Value.at2 (c.args.line + 1) = line-goes _ _ _ _ rest₀ _ c.read_number_line-first.ensures c.in-Value.is in
@@ -144,4 +152,5 @@ returns c =
     let back₄ : to_z w32 (of_z w32 z₄) ≡ z₄ = to_z-of_z {w = w32} {z = z₄} (search rules) in
     let rest₄ : RestAt s₀ job₀
     (answer (record { min = z₁; max = z₂; release = z₃; deadline = z₄ }))
-    c.in-Value-fourth.next (c.args.line + 1 + 1 + 1 + 1) = line-goes _ _ _ _ rest₃ _ c.read_number_line-fourth.ensures c.in-Value-fourth.is in record { line_value = rw (back₁, back₂, back₃, back₄) rest₄.reads; result_in_bounds = rest₄.place }
+    c.in-Value-fourth.next (c.args.line + 1 + 1 + 1 + 1) = line-goes _ _ _ _ rest₃ _ c.read_number_line-fourth.ensures c.in-Value-fourth.is in
+    record { line_value = rw (back₁, back₂, back₃, back₄) rest₄.reads; result_in_bounds = rest₄.place }

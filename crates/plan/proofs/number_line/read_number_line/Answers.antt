@@ -51,7 +51,8 @@ pub narrow-requires : goal.narrow-requires
 narrow-requires c =
     let z : ℤ = c.in-Value.z in
     let s : List ℕ = c.args.s.now in
-    let told : number_after c.args.key.now c.args.lo c.args.hi (take (c.next_line-next.result - 1 - c.args.at) (drop c.args.at s)) ≡ number.Value z = sym (rw (i32-widened c.ranges.lo, i32-widened c.ranges.hi) at c.number_after-number.ensures) ∙ c.in-Value.is in
+    let told : number_after c.args.key.now c.args.lo c.args.hi (take (c.next_line-next.result - 1 - c.args.at) (drop c.args.at s)) ≡ number.Value z =
+    sym (rw (i32-widened c.ranges.lo, i32-widened c.ranges.hi) at c.number_after-number.ensures) ∙ c.in-Value.is in
     let z-back : to_z w64 (of_z w64 z) ≡ z = to_z-of_z {w = w64} {z = z} (search rules) in
     let q = (number_after-value c.args.key.now c.args.lo c.args.hi z _ told).0 in
     rw z-back (omega (whole, q.least, q.greatest, i32-least c.ranges.lo, i32-most c.ranges.hi))
@@ -61,7 +62,8 @@ unfolding lined_number
 returns-in-Value c =
     let z : ℤ = c.in-Value.z in
     let s : List ℕ = c.args.s.now in
-    let told : number_after c.args.key.now c.args.lo c.args.hi (take (c.next_line-next.result - 1 - c.args.at) (drop c.args.at s)) ≡ number.Value z = sym (rw (i32-widened c.ranges.lo, i32-widened c.ranges.hi) at c.number_after-number.ensures) ∙ c.in-Value.is in
+    let told : number_after c.args.key.now c.args.lo c.args.hi (take (c.next_line-next.result - 1 - c.args.at) (drop c.args.at s)) ≡ number.Value z =
+    sym (rw (i32-widened c.ranges.lo, i32-widened c.ranges.hi) at c.number_after-number.ensures) ∙ c.in-Value.is in
     let z-back : to_z w64 (of_z w64 z) ≡ z = to_z-of_z {w = w64} {z = z} (search rules) in
     let a = c.args in
     let same : to_z w32 (of_z w32 c.narrow.result) ≡ z = to_z-of_z {w = w32} {z = c.narrow.result} (record { sfits = c.narrow.type_inv })

@@ -20,7 +20,8 @@ loop-i-preserved c =
           ∙ elim c.if-numbers-i.branch [
             | then-numbers-i w ↦ or-stop c.loop-i.found _ rest (is_in-stop a.x a.numbers.now a.n c.loop-i.i c.requires.1 (omega arith) w.if-numbers-i.true)
                 ∙ sym (ap (λ (f : Bool). f || rest) w.found-is)
-            | else-numbers-i w ↦ ap (λ (b : Bool). c.loop-i.found || b) (is_in-past a.x a.numbers.now a.n c.loop-i.i c.requires.1 (omega arith) w.if-numbers-i.false)
+            | else-numbers-i w ↦ ap (λ (b : Bool). c.loop-i.found || b)
+                (is_in-past a.x a.numbers.now a.n c.loop-i.i c.requires.1 (omega arith) w.if-numbers-i.false)
                 ∙ sym (ap (λ (f : Bool). f || rest) w.found-is)
           ],
     )

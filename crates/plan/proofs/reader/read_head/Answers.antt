@@ -147,7 +147,8 @@ read_bounds-all_bounds-requires c =
     let z₃ : ℤ = c.in-Value.z in
     let at₃ : ℕ = c.in-Value.at3 in
     let rest₃ : let f = first₁ in RestAt s₁ (plan_head s₁)
-    (plan_from_bounds f.window f.rounds f.last f.jobs (take f.jobs jobs₂.job) (nat_abs z₃)) at₃ (5 + 4 * f.jobs + 1) = line-goes _ _ _ _ (rest_at-count _ _ _ _ rest₂) _ c.read_number_line-line.ensures c.in-Value.is in
+    (plan_from_bounds f.window f.rounds f.last f.jobs (take f.jobs jobs₂.job) (nat_abs z₃)) at₃ (5 + 4 * f.jobs + 1) = line-goes _ _ _ _
+    (rest_at-count _ _ _ _ rest₂) _ c.read_number_line-line.ensures c.in-Value.is in
     let line₃ : LineAt s₁ (bytes "bounds=") (pos 0) (pos most_bounds) at₂ (5 + 4 * first₁.jobs)
     c.read_number_line-line.result = c.read_number_line-line.ensures in
     let z-back : mir.Val.to_z w32 (mir.Val.of_z w32 z₃) ≡ z₃ = to_z-of_z {w = w32} {z = z₃} (search rules) in
@@ -175,10 +176,12 @@ returns-in_default-bounds_went c =
     let z₃ : ℤ = c.in-Value.z in
     let at₃ : ℕ = c.in-Value.at3 in
     let rest₃ : let f = first₁ in RestAt s₁ (plan_head s₁)
-    (plan_from_bounds f.window f.rounds f.last f.jobs (take f.jobs jobs₂.job) (nat_abs z₃)) at₃ (5 + 4 * f.jobs + 1) = line-goes _ _ _ _ (rest_at-count _ _ _ _ rest₂) _ c.read_number_line-line.ensures c.in-Value.is in
+    (plan_from_bounds f.window f.rounds f.last f.jobs (take f.jobs jobs₂.job) (nat_abs z₃)) at₃ (5 + 4 * f.jobs + 1) = line-goes _ _ _ _
+    (rest_at-count _ _ _ _ rest₂) _ c.read_number_line-line.ensures c.in-Value.is in
     let z-back : mir.Val.to_z w32 (mir.Val.of_z w32 z₃) ≡ z₃ = to_z-of_z {w = w32} {z = z₃} (search rules) in
     let rest₄ : let f = first₁ in RestAt s₁ (plan_head s₁)
-    (plan_from_bounds f.window f.rounds f.last f.jobs (take f.jobs jobs₂.job) c.count-bounds.result) at₃ (5 + 4 * f.jobs + 1) = rw (c.count-bounds.ensures, z-back) (rest₃) in
+    (plan_from_bounds f.window f.rounds f.last f.jobs (take f.jobs jobs₂.job) c.count-bounds.result) at₃ (5 + 4 * f.jobs + 1) = rw
+    (c.count-bounds.ensures, z-back) (rest₃) in
     let r = c.read_bounds-all_bounds in
     let stopped = rest_at-stops _ _ rest₄ _ (went_at _ r.result.went) r.ensures.number_value
     (end_at-place _ r.result.went r.ensures.went_in_bounds)
@@ -231,15 +234,18 @@ returns c =
     (plan_from_count f.window f.rounds f.last f.jobs (take f.jobs jobs₂.job)) at₂ (5 + 4 * f.jobs) = let r = c.read_jobs-all_jobs in
     rest_at-goes _ _ rest₁ _ (went_at _ jobs₂.went) r.ensures.s_value (end_at-place _ jobs₂.went r.ensures.went_in_bounds)
     (ap (went_at _) c.in-On-jobs_went.is) in
-    let filled₂ : jobs₂.job ≡ filled most_jobs no_job (take first₁.jobs jobs₂.job) = subst (λ w. IfOn w (jobs₂.job ≡ filled most_jobs no_job (take first₁.jobs jobs₂.job))) c.in-On-jobs_went.is
+    let filled₂ : jobs₂.job ≡ filled most_jobs no_job (take first₁.jobs jobs₂.job) =
+    subst (λ w. IfOn w (jobs₂.job ≡ filled most_jobs no_job (take first₁.jobs jobs₂.job))) c.in-On-jobs_went.is
     c.read_jobs-all_jobs.ensures.jobs_filled in
     let z₃ : ℤ = c.in-Value.z in
     let at₃ : ℕ = c.in-Value.at3 in
     let rest₃ : let f = first₁ in RestAt s₁ (plan_head s₁)
-    (plan_from_bounds f.window f.rounds f.last f.jobs (take f.jobs jobs₂.job) (nat_abs z₃)) at₃ (5 + 4 * f.jobs + 1) = line-goes _ _ _ _ (rest_at-count _ _ _ _ rest₂) _ c.read_number_line-line.ensures c.in-Value.is in
+    (plan_from_bounds f.window f.rounds f.last f.jobs (take f.jobs jobs₂.job) (nat_abs z₃)) at₃ (5 + 4 * f.jobs + 1) = line-goes _ _ _ _
+    (rest_at-count _ _ _ _ rest₂) _ c.read_number_line-line.ensures c.in-Value.is in
     let z-back : mir.Val.to_z w32 (mir.Val.of_z w32 z₃) ≡ z₃ = to_z-of_z {w = w32} {z = z₃} (search rules) in
     let rest₄ : let f = first₁ in RestAt s₁ (plan_head s₁)
-    (plan_from_bounds f.window f.rounds f.last f.jobs (take f.jobs jobs₂.job) c.count-bounds.result) at₃ (5 + 4 * f.jobs + 1) = rw (c.count-bounds.ensures, z-back) (rest₃) in
+    (plan_from_bounds f.window f.rounds f.last f.jobs (take f.jobs jobs₂.job) c.count-bounds.result) at₃ (5 + 4 * f.jobs + 1) = rw
+    (c.count-bounds.ensures, z-back) (rest₃) in
     let f = first₁ in
     let r = c.read_bounds-all_bounds in
     let k = c.count-bounds.result in

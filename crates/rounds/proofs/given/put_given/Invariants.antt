@@ -9,7 +9,8 @@ use Rattle.rounds.proofs.given.put_given.Given as goal
 
 abbrev pub invariant-loop-i : goal.invariant-loop-i
 invariant-loop-i l =
-    put_bounds l.early l.late (given_bounds l.p l.between (bounds_of l.p)) l.initial.weights ≡ put_bounds l.early l.late (given_bounds l.p l.between (drop l.i (bounds_of l.p))) l.weights
+    put_bounds l.early l.late (given_bounds l.p l.between (bounds_of l.p)) l.initial.weights
+    ≡ put_bounds l.early l.late (given_bounds l.p l.between (drop l.i (bounds_of l.p))) l.weights
 
 abbrev pub decreases-loop-i : goal.decreases-loop-i
 decreases-loop-i l = l.count - l.i

@@ -39,18 +39,31 @@ node_onto-to-requires c = let n = c.requires.0.jobs-most in (n, omega arith)
 pub overflow_sub-a : goal.overflow_sub-a
 overflow_sub-a c =
     let shifts : (y : ℕ) → ShiftInRange (shift_by c.args.window y) = λ y. shift_by-in c.args.window y c.requires.0.window-least c.requires.0.window-most in
-    let more-is : let a = c.args in to_z w32 (of_z w32 c.shift_by-more.result) ≡ shift_by a.window a.z = shift_back (c.shift_by-more.ensures ∙ ap (λ w. shift_by w c.args.z) (to_z-of_z c.ranges.window)) (shifts c.args.z) in
-    let less-is : let a = c.args in to_z w32 (of_z w32 c.shift_by-less.result) ≡ shift_by a.window a.y = shift_back (c.shift_by-less.ensures ∙ ap (λ w. shift_by w c.args.y) (to_z-of_z c.ranges.window)) (shifts c.args.y) in
+    let more-is : let a =
+    c.args in
+    to_z w32 (of_z w32 c.shift_by-more.result)
+    ≡ shift_by a.window a.z = shift_back (c.shift_by-more.ensures ∙ ap (λ w. shift_by w c.args.z) (to_z-of_z c.ranges.window)) (shifts c.args.z) in
+    let less-is : let a =
+    c.args in
+    to_z w32 (of_z w32 c.shift_by-less.result)
+    ≡ shift_by a.window a.y = shift_back (c.shift_by-less.ensures ∙ ap (λ w. shift_by w c.args.y) (to_z-of_z c.ranges.window)) (shifts c.args.y) in
     apart_fits c.shift_by-more.result c.shift_by-less.result more-is less-is (shifts c.args.z) (shifts c.args.y)
 
 pub put-requires : goal.put-requires
 put-requires c =
     let shifts : (y : ℕ) → ShiftInRange (shift_by c.args.window y) = λ y. shift_by-in c.args.window y c.requires.0.window-least c.requires.0.window-most in
-    let more-is : let a = c.args in to_z w32 (of_z w32 c.shift_by-more.result) ≡ shift_by a.window a.z = shift_back (c.shift_by-more.ensures ∙ ap (λ w. shift_by w c.args.z) (to_z-of_z c.ranges.window)) (shifts c.args.z) in
-    let less-is : let a = c.args in to_z w32 (of_z w32 c.shift_by-less.result) ≡ shift_by a.window a.y = shift_back (c.shift_by-less.ensures ∙ ap (λ w. shift_by w c.args.y) (to_z-of_z c.ranges.window)) (shifts c.args.y) in
+    let more-is : let a =
+    c.args in
+    to_z w32 (of_z w32 c.shift_by-more.result)
+    ≡ shift_by a.window a.z = shift_back (c.shift_by-more.ensures ∙ ap (λ w. shift_by w c.args.z) (to_z-of_z c.ranges.window)) (shifts c.args.z) in
+    let less-is : let a =
+    c.args in
+    to_z w32 (of_z w32 c.shift_by-less.result)
+    ≡ shift_by a.window a.y = shift_back (c.shift_by-less.ensures ∙ ap (λ w. shift_by w c.args.y) (to_z-of_z c.ranges.window)) (shifts c.args.y) in
     let apart-is : let a = c.args in
     to_z w32 (of_z w32 (to_z w32 (of_z w32 c.shift_by-more.result) -ℤ to_z w32 (of_z w32 c.shift_by-less.result)))
-    ≡ shift_by a.window a.z -ℤ shift_by a.window a.y = apart-back c.shift_by-more.result c.shift_by-less.result more-is less-is (shifts c.args.z) (shifts c.args.y) in
+    ≡ shift_by a.window a.z -ℤ shift_by a.window a.y = apart-back c.shift_by-more.result c.shift_by-less.result more-is less-is (shifts c.args.z)
+    (shifts c.args.y) in
     let a = c.args in
     let n = c.requires.0.jobs-most in
     let timed : (y : ℕ) → y < 1 + 2 * a.jobs → TimesInRange a.early.now a.late.now (onto a.jobs y)
@@ -66,11 +79,18 @@ put-requires c =
 pub returns : goal.returns
 returns c =
     let shifts : (y : ℕ) → ShiftInRange (shift_by c.args.window y) = λ y. shift_by-in c.args.window y c.requires.0.window-least c.requires.0.window-most in
-    let more-is : let a = c.args in to_z w32 (of_z w32 c.shift_by-more.result) ≡ shift_by a.window a.z = shift_back (c.shift_by-more.ensures ∙ ap (λ w. shift_by w c.args.z) (to_z-of_z c.ranges.window)) (shifts c.args.z) in
-    let less-is : let a = c.args in to_z w32 (of_z w32 c.shift_by-less.result) ≡ shift_by a.window a.y = shift_back (c.shift_by-less.ensures ∙ ap (λ w. shift_by w c.args.y) (to_z-of_z c.ranges.window)) (shifts c.args.y) in
+    let more-is : let a =
+    c.args in
+    to_z w32 (of_z w32 c.shift_by-more.result)
+    ≡ shift_by a.window a.z = shift_back (c.shift_by-more.ensures ∙ ap (λ w. shift_by w c.args.z) (to_z-of_z c.ranges.window)) (shifts c.args.z) in
+    let less-is : let a =
+    c.args in
+    to_z w32 (of_z w32 c.shift_by-less.result)
+    ≡ shift_by a.window a.y = shift_back (c.shift_by-less.ensures ∙ ap (λ w. shift_by w c.args.y) (to_z-of_z c.ranges.window)) (shifts c.args.y) in
     let apart-is : let a = c.args in
     to_z w32 (of_z w32 (to_z w32 (of_z w32 c.shift_by-more.result) -ℤ to_z w32 (of_z w32 c.shift_by-less.result)))
-    ≡ shift_by a.window a.z -ℤ shift_by a.window a.y = apart-back c.shift_by-more.result c.shift_by-less.result more-is less-is (shifts c.args.z) (shifts c.args.y) in
+    ≡ shift_by a.window a.z -ℤ shift_by a.window a.y = apart-back c.shift_by-more.result c.shift_by-less.result more-is less-is (shifts c.args.z)
+    (shifts c.args.y) in
     let a = c.args in
     let from = c.node_onto-from in
     let to = c.node_onto-to in

@@ -7,7 +7,8 @@ use Rattle.rounds.proofs.own.put_ranges.Given as goal
 
 abbrev pub invariant-loop-left : goal.invariant-loop-left
 invariant-loop-left l =
-    (l.left ≤ l.count) × (put_bounds l.early l.late (ranges_of l.early l.late l.count) l.initial.weights ≡ put_bounds l.early l.late (ranges_of l.early l.late l.left) l.weights)
+    (l.left ≤ l.count)
+    × (put_bounds l.early l.late (ranges_of l.early l.late l.count) l.initial.weights ≡ put_bounds l.early l.late (ranges_of l.early l.late l.left) l.weights)
 
 abbrev pub decreases-loop-left : goal.decreases-loop-left
 decreases-loop-left l = l.left

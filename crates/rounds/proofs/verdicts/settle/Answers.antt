@@ -17,7 +17,8 @@ pub returns-then-put_own : goal.returns-then-put_own
 returns-then-put_own c =
     let own-ensures : flat c.put_own.result c.put_own.new.weights ≡ put_bounds c.args.early.now c.args.late.now (own_bounds c.args.p)
     no_bounds = c.put_own.ensures ∙ ap (put_bounds c.args.early.now c.args.late.now (own_bounds c.args.p)) c.requires.1 in
-    let own-length : length c.put_own.new.weights ≡ cells = ap (λ r. length r.weights) own-ensures ∙ put_bounds-length c.args.early.now c.args.late.now (own_bounds c.args.p)
+    let own-length : length c.put_own.new.weights ≡ cells =
+    ap (λ r. length r.weights) own-ensures ∙ put_bounds-length c.args.early.now c.args.late.now (own_bounds c.args.p)
     no_bounds ∙ length-replicate cells no_bound_mark in
     let a = c.args in
     let none = first-none a.p (own-none a.p a.early.now a.late.now c.requires.0 c.put_own.result c.put_own.new.weights own-ensures
@@ -41,7 +42,8 @@ pub returns-then-put_between : goal.returns-then-put_between
 returns-then-put_between c =
     let own-ensures : flat c.put_own.result c.put_own.new.weights ≡ put_bounds c.args.early.now c.args.late.now (own_bounds c.args.p)
     no_bounds = c.put_own.ensures ∙ ap (put_bounds c.args.early.now c.args.late.now (own_bounds c.args.p)) c.requires.1 in
-    let own-length : length c.put_own.new.weights ≡ cells = ap (λ r. length r.weights) own-ensures ∙ put_bounds-length c.args.early.now c.args.late.now (own_bounds c.args.p)
+    let own-length : length c.put_own.new.weights ≡ cells =
+    ap (λ r. length r.weights) own-ensures ∙ put_bounds-length c.args.early.now c.args.late.now (own_bounds c.args.p)
     no_bounds ∙ length-replicate cells no_bound_mark in
     let own_put : c.put_own.result ≡ false → flat false c.put_own.new.weights
     ≡ put_bounds c.args.early.now c.args.late.now (own_bounds c.args.p) no_bounds = λ f. ap (λ r. flat r c.put_own.new.weights) (sym f) ∙ own-ensures in
@@ -59,7 +61,8 @@ pub settle_rounds-requires : goal.settle_rounds-requires
 settle_rounds-requires c =
     let own-ensures : flat c.put_own.result c.put_own.new.weights ≡ put_bounds c.args.early.now c.args.late.now (own_bounds c.args.p)
     no_bounds = c.put_own.ensures ∙ ap (put_bounds c.args.early.now c.args.late.now (own_bounds c.args.p)) c.requires.1 in
-    let own-length : length c.put_own.new.weights ≡ cells = ap (λ r. length r.weights) own-ensures ∙ put_bounds-length c.args.early.now c.args.late.now (own_bounds c.args.p)
+    let own-length : length c.put_own.new.weights ≡ cells =
+    ap (λ r. length r.weights) own-ensures ∙ put_bounds-length c.args.early.now c.args.late.now (own_bounds c.args.p)
     no_bounds ∙ length-replicate cells no_bound_mark in
     let own_put : c.put_own.result ≡ false → flat false c.put_own.new.weights
     ≡ put_bounds c.args.early.now c.args.late.now (own_bounds c.args.p) no_bounds = λ f. ap (λ r. flat r c.put_own.new.weights) (sym f) ∙ own-ensures in

@@ -97,7 +97,13 @@ returns-then-put_next c =
     ∙ ap (λ w. next_rows a.early.now a.late.now a.p.jobs w l.carried l.joined) (to_z-of_z (window-fits a.p c.requires.0.accepted))
     ∙ ap (next_rows a.early.now a.late.now a.p.jobs a.p.window l.carried) l.invariant.5 in
     let p = c.args.p in
-    let none = joined-none carrying c.put_next.result c.put_next.new.weights put_is c.if-put_next.true in record { value = c.contradicted.ensures ∙ verdict-none p _ none; settled_on = none-on p _ _ none; joined_len = ap length c.loop-m.invariant.5 ∙ c.requires.2 }
+    let none =
+    joined-none carrying c.put_next.result c.put_next.new.weights put_is c.if-put_next.true in
+    record {
+      value = c.contradicted.ensures ∙ verdict-none p _ none;
+      settled_on = none-on p _ _ none;
+      joined_len = ap length c.loop-m.invariant.5 ∙ c.requires.2;
+    }
 
 -- ---- and the next window's events are eliminated
 
@@ -116,7 +122,8 @@ drop_places-requires c =
     ∙ ap (next_rows a.early.now a.late.now a.p.jobs a.p.window l.carried) l.invariant.5 in
     let joining : c.put_next.result ≡ false
     → let a = c.args in
-    TableHeldFor a.p a.early.now a.late.now (nodes (a.p.jobs + a.p.jobs)) c.put_next.new.weights = λ f. joined-table-held carrying c.put_next.result c.put_next.new.weights put_is f in
+    TableHeldFor a.p a.early.now a.late.now (nodes (a.p.jobs + a.p.jobs)) c.put_next.new.weights = λ f. joined-table-held carrying c.put_next.result
+    c.put_next.new.weights put_is f in
     record {
       plan = c.args.p;
       stands = joining c.if-put_next.false;
@@ -146,7 +153,8 @@ returns-then-drop_places c =
     ∙ ap (next_rows a.early.now a.late.now a.p.jobs a.p.window l.carried) l.invariant.5 in
     let joining : c.put_next.result ≡ false
     → let a = c.args in
-    TableHeldFor a.p a.early.now a.late.now (nodes (a.p.jobs + a.p.jobs)) c.put_next.new.weights = λ f. joined-table-held carrying c.put_next.result c.put_next.new.weights put_is f in
+    TableHeldFor a.p a.early.now a.late.now (nodes (a.p.jobs + a.p.jobs)) c.put_next.new.weights = λ f. joined-table-held carrying c.put_next.result
+    c.put_next.new.weights put_is f in
     let remains-is : let p = c.args.p in
     set_in (nodes p.jobs) c.drop_places.result c.drop_places.new.weights
     ≡ eliminated p p.jobs p.jobs (rows_of (nodes (p.jobs + p.jobs)) c.put_next.new.weights) = c.drop_places.ensures.weights_after c.args.p
@@ -155,7 +163,12 @@ returns-then-drop_places c =
     let none = remains-none carrying c.put_next.result c.put_next.new.weights put_is
     c.if-put_next.false c.drop_places.result c.drop_places.new.weights
     remains-is
-    c.if-drop_places.true in record { value = c.contradicted-then-drop_places.ensures ∙ verdict-none p _ none; settled_on = none-on p _ _ none; joined_len = ap length c.loop-m.invariant.5 ∙ c.requires.2 }
+    c.if-drop_places.true in
+    record {
+      value = c.contradicted-then-drop_places.ensures ∙ verdict-none p _ none;
+      settled_on = none-on p _ _ none;
+      joined_len = ap length c.loop-m.invariant.5 ∙ c.requires.2;
+    }
 
 -- ---- 'C(m) = C(m-1)'
 
@@ -190,7 +203,8 @@ returns-then-same_rows c =
     ∙ ap (next_rows a.early.now a.late.now a.p.jobs a.p.window l.carried) l.invariant.5 in
     let joining : c.put_next.result ≡ false
     → let a = c.args in
-    TableHeldFor a.p a.early.now a.late.now (nodes (a.p.jobs + a.p.jobs)) c.put_next.new.weights = λ f. joined-table-held carrying c.put_next.result c.put_next.new.weights put_is f in
+    TableHeldFor a.p a.early.now a.late.now (nodes (a.p.jobs + a.p.jobs)) c.put_next.new.weights = λ f. joined-table-held carrying c.put_next.result
+    c.put_next.new.weights put_is f in
     let remains-is : let p = c.args.p in
     set_in (nodes p.jobs) c.drop_places.result c.drop_places.new.weights
     ≡ eliminated p p.jobs p.jobs (rows_of (nodes (p.jobs + p.jobs)) c.put_next.new.weights) = c.drop_places.ensures.weights_after c.args.p
@@ -199,7 +213,8 @@ returns-then-same_rows c =
     let joined = c.if-put_next.false in
     let left = c.if-drop_places.false in
     let same = sym c.same_rows.ensures ∙ c.if-same_rows.true in
-    let anew : c.put_next-then-same_rows.new.weights ≡ c.put_next.new.weights = ap (λ f. f.weights) (c.put_next-then-same_rows.ensures ∙ sym c.put_next.ensures) in record {
+    let anew : c.put_next-then-same_rows.new.weights ≡ c.put_next.new.weights =
+    ap (λ f. f.weights) (c.put_next-then-same_rows.ensures ∙ sym c.put_next.ensures) in record {
       value = verdict-settled p c.loop-m.m _
           (round-settled carrying c.put_next.result c.put_next.new.weights put_is joined c.drop_places.result
           c.drop_places.new.weights remains-is
@@ -235,7 +250,8 @@ loop-m-preserved c =
     ∙ ap (next_rows a.early.now a.late.now a.p.jobs a.p.window l.carried) l.invariant.5 in
     let joining : c.put_next.result ≡ false
     → let a = c.args in
-    TableHeldFor a.p a.early.now a.late.now (nodes (a.p.jobs + a.p.jobs)) c.put_next.new.weights = λ f. joined-table-held carrying c.put_next.result c.put_next.new.weights put_is f in
+    TableHeldFor a.p a.early.now a.late.now (nodes (a.p.jobs + a.p.jobs)) c.put_next.new.weights = λ f. joined-table-held carrying c.put_next.result
+    c.put_next.new.weights put_is f in
     let remains-is : let p = c.args.p in
     set_in (nodes p.jobs) c.drop_places.result c.drop_places.new.weights
     ≡ eliminated p p.jobs p.jobs (rows_of (nodes (p.jobs + p.jobs)) c.put_next.new.weights) = c.drop_places.ensures.weights_after c.args.p

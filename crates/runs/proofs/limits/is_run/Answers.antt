@@ -28,7 +28,9 @@ pub are_times-requires : goal.are_times-requires
 are_times-requires c =
     let done-most : c.jobs_done-done.result ≤ c.args.p.jobs = let yes = sym c.is_phase.ensures ∙ c.if-not-is_phase.false in
     omega (arith, c.jobs_done-done.ensures, phase-done c.args.p c.args.run.phase yes) in
-    let f = first_seen-most c.args.p.jobs c.args.run.before in record { first_le_count = omega (arith, c.first_seen-first.ensures); count_le_most_events = omega (arith, done-most) }
+    let f =
+    first_seen-most c.args.p.jobs c.args.run.before in
+    record { first_le_count = omega (arith, c.first_seen-first.ensures); count_le_most_events = omega (arith, done-most) }
 
 pub returns : goal.returns
 returns c =

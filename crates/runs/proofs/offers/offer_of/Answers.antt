@@ -19,19 +19,31 @@ use Rattle.runs.proofs.offers.offer_of.Goals as goal
 
 pub end_of-from-requires : goal.end_of-from-requires
 end_of-from-requires c =
-    let first-low : c.first_seen-first.result ≤ events_ahead c.args.turn.jobs (c.args.i - 1) = omega (arith, c.first_seen-first.ensures, first_seen-most c.args.turn.jobs c.args.before) in
+    let first-low : c.first_seen-first.result ≤ events_ahead c.args.turn.jobs (c.args.i - 1) =
+    omega (arith, c.first_seen-first.ensures, first_seen-most c.args.turn.jobs c.args.before) in
     let count_fits : events_ahead c.args.turn.jobs (c.args.i - 1) ≤ most_events = let p = c.requires in omega arith in
     let row_fits : (c.args.i - 1) * most_events + events_ahead c.args.turn.jobs (c.args.i - 1) ≤ most_jobs * most_events = let p = c.requires in omega arith in
     let fits = subst (λ (n : ℕ). TermsFit c.args.seen.now (bits_of c.args.turn.terms.below) c.args.least.now ((c.args.i - 1) * most_events) n
-    (events_ahead c.args.turn.jobs (c.args.i - 1))) (sym c.first_seen-first.ensures) c.requires.lower in record { first_le_count = first-low; count_le_most_events = count_fits; count_bound = row_fits; terms_fit = fits }
+    (events_ahead c.args.turn.jobs (c.args.i - 1))) (sym c.first_seen-first.ensures) c.requires.lower in record {
+      first_le_count = first-low;
+      count_le_most_events = count_fits;
+      count_bound = row_fits;
+      terms_fit = fits;
+    }
 
 pub end_of-to-requires : goal.end_of-to-requires
 end_of-to-requires c =
-    let first-low : c.first_seen-first.result ≤ events_ahead c.args.turn.jobs (c.args.i - 1) = omega (arith, c.first_seen-first.ensures, first_seen-most c.args.turn.jobs c.args.before) in
+    let first-low : c.first_seen-first.result ≤ events_ahead c.args.turn.jobs (c.args.i - 1) =
+    omega (arith, c.first_seen-first.ensures, first_seen-most c.args.turn.jobs c.args.before) in
     let count_fits : events_ahead c.args.turn.jobs (c.args.i - 1) ≤ most_events = let p = c.requires in omega arith in
     let row_fits : (c.args.i - 1) * most_events + events_ahead c.args.turn.jobs (c.args.i - 1) ≤ most_jobs * most_events = let p = c.requires in omega arith in
     let fits = subst (λ (n : ℕ). TermsFit c.args.seen.now (bits_of c.args.turn.terms.above) c.args.most.now ((c.args.i - 1) * most_events) n
-    (events_ahead c.args.turn.jobs (c.args.i - 1))) (sym c.first_seen-first.ensures) c.requires.upper in record { first_le_count = first-low; count_le_most_events = count_fits; count_bound = row_fits; terms_fit = fits }
+    (events_ahead c.args.turn.jobs (c.args.i - 1))) (sym c.first_seen-first.ensures) c.requires.upper in record {
+      first_le_count = first-low;
+      count_le_most_events = count_fits;
+      count_bound = row_fits;
+      terms_fit = fits;
+    }
 
 pub returns : goal.returns
 returns c =

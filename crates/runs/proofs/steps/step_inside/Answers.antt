@@ -49,7 +49,8 @@ answer_step-answer-requires c =
       job = get_or c.args.p.job c.jobs_done-place.result no_job;
       terms = get_or c.args.c.terms c.jobs_done-place.result no_terms;
     } in
-    let turn_is : turn ≡ turn_of c.args.p c.args.c (job_of_phase c.args.run.phase) = let w : SFits w32 c.args.p.window = record { sfits = c.struct_told-1.given.0.1 } in
+    let turn_is : turn ≡ turn_of c.args.p c.args.c (job_of_phase c.args.run.phase) =
+    let w : SFits w32 c.args.p.window = record { sfits = c.struct_told-1.given.0.1 } in
     turn_of-made c.args.p c.args.c _ _ _ (to_z-of_z w) c.jobs_done-place.ensures in
     let a = c.args in
     subst (λ (x : Turn). StepInside x a.c.at_least a.c.at_most a.run) (sym turn_is) (inside-step a.p a.c a.run c.requires)
@@ -66,7 +67,8 @@ returns c =
       job = get_or c.args.p.job c.jobs_done-place.result no_job;
       terms = get_or c.args.c.terms c.jobs_done-place.result no_terms;
     } in
-    let turn_is : turn ≡ turn_of c.args.p c.args.c (job_of_phase c.args.run.phase) = let w : SFits w32 c.args.p.window = record { sfits = c.struct_told-1.given.0.1 } in
+    let turn_is : turn ≡ turn_of c.args.p c.args.c (job_of_phase c.args.run.phase) =
+    let w : SFits w32 c.args.p.window = record { sfits = c.struct_told-1.given.0.1 } in
     turn_of-made c.args.p c.args.c _ _ _ (to_z-of_z w) c.jobs_done-place.ensures in
     let answer-is : let a = c.args in
     c.answer_step-answer.result ≡ answer_of a.p a.c a.run a.st = let a = c.args in

@@ -12,5 +12,7 @@ write_session-requires c =
 pub returns : goal.returns
 returns c =
     let head : HeadRead c.args.text.now c.args.head = head-accepted c.args.text.now c.args.head c.requires.head_value c.requires.answer_value in
-    let told = wrote_as c.args.out.now (omega arith) head.output (c.write_session.ensures.value, (c.write_session.ensures.out_after, c.write_session.ensures.line_len_bound)) in
+    let told =
+    wrote_as c.args.out.now (omega arith) head.output
+    (c.write_session.ensures.value, (c.write_session.ensures.out_after, c.write_session.ensures.line_len_bound)) in
     record { value = told.0; out_after = told.1.0; text_len_bound = told.1.1 }

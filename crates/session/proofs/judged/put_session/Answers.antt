@@ -13,7 +13,15 @@ pub put_answers-put-requires : goal.put_answers-put-requires
 put_answers-put-requires c =
     let t = c.tell_verdict-told in
     let j = c.requires.plan_decided in
-    let inside = judged-inside c.args.p c.args.v c.args.c j t.result t.ensures _ c.in-Settled.is in record { from_in_bounds = c.requires.from_in_bounds; text_len_bound = c.requires.text_len_bound; line_bound = c.requires.line_bound; at_le_longest_text = omega arith; inside = subst (Inside c.args.p c.args.c) (sym c.new_run-run.ensures) inside }
+    let inside =
+    judged-inside c.args.p c.args.v c.args.c j t.result t.ensures _ c.in-Settled.is in
+    record {
+      from_in_bounds = c.requires.from_in_bounds;
+      text_len_bound = c.requires.text_len_bound;
+      line_bound = c.requires.line_bound;
+      at_le_longest_text = omega arith;
+      inside = subst (Inside c.args.p c.args.c) (sym c.new_run-run.ensures) inside;
+    }
 
 pub returns-in-Settled : goal.returns-in-Settled
 returns-in-Settled c =
@@ -22,7 +30,9 @@ returns-in-Settled c =
     let w = c.put_answers-put.ensures in
     let steps = drop a.from a.text.now in
     let j = judged-settled a.p a.v a.c c.requires.plan_decided steps a.line t.result t.ensures _ c.in-Settled.is in
-    let new = ap (λ (r : Run). answers a.p a.c r steps a.line) c.new_run-run.ensures in record { stored = stored-as (new ∙ j) w.stored; from_bound = omega (arith, w.from_bound, c.requires.from_in_bounds) }
+    let new =
+    ap (λ (r : Run). answers a.p a.c r steps a.line) c.new_run-run.ensures in
+    record { stored = stored-as (new ∙ j) w.stored; from_bound = omega (arith, w.from_bound, c.requires.from_in_bounds) }
 
 pub returns-in-Refused : goal.returns-in-Refused
 returns-in-Refused c =
@@ -30,4 +40,6 @@ returns-in-Refused c =
     let a = c.args in
     let w = c.put_refused.ensures in
     let steps = drop a.from a.text.now in
-    let j = judged-refused a.p a.v a.c c.requires.plan_decided steps a.line t.result t.ensures _ c.in-Refused.is in record { stored = stored-as j w.stored; from_bound = omega (arith, w.upper_bound, c.requires.from_in_bounds) }
+    let j =
+    judged-refused a.p a.v a.c c.requires.plan_decided steps a.line t.result t.ensures _ c.in-Refused.is in
+    record { stored = stored-as j w.stored; from_bound = omega (arith, w.upper_bound, c.requires.from_in_bounds) }

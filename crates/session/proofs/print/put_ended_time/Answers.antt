@@ -13,4 +13,5 @@ pub returns : goal.returns
 returns c =
     let a = c.args in
     let f = told-fits w64 a.t.0 c.struct_told-1.given.0.1 in
-    let w = c.put_ended_number.ensures in record { stored = stored-as (ap (λ (z : ℤ). decimal z ++ (a.end ∷ [])) (to_z-of_z f)) w.stored; upper_bound = w.upper_bound }
+    let w =
+    c.put_ended_number.ensures in record { stored = stored-as (ap (λ (z : ℤ). decimal z ++ (a.end ∷ [])) (to_z-of_z f)) w.stored; upper_bound = w.upper_bound }

@@ -10,4 +10,6 @@ returns c =
     let a = c.args in
     let key = c.put_bytes-first.ensures in
     let first = c.put_ended_time-second.ensures in
-    let second = c.put_ended_time.ensures in record { stored = offer_line-stored a.o key first.stored second.stored; upper_bound = omega (arith, key.place, first.upper_bound, second.upper_bound) }
+    let second =
+    c.put_ended_time.ensures in
+    record { stored = offer_line-stored a.o key first.stored second.stored; upper_bound = omega (arith, key.place, first.upper_bound, second.upper_bound) }

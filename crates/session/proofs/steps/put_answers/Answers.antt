@@ -91,7 +91,8 @@ answer_step-answer-requires c =
       job = get_or c.args.p.job c.jobs_done-due.result no_job;
       terms = get_or c.args.c.terms c.jobs_done-due.result no_terms;
     } in
-    let turn_is : turn ≡ turn_of c.args.p c.args.c (job_of_phase now-run.phase) = let w : SFits w32 c.args.p.window = record { sfits = c.struct_told-1.given.0.1 } in
+    let turn_is : turn ≡ turn_of c.args.p c.args.c (job_of_phase now-run.phase) =
+    let w : SFits w32 c.args.p.window = record { sfits = c.struct_told-1.given.0.1 } in
     turn_of-made c.args.p c.args.c _ _ _ (to_z-of_z w) c.jobs_done-due.ensures in
     let a = c.args in
     subst (λ (x : Turn). StepInside x a.c.at_least a.c.at_most now-run) (sym turn_is)
@@ -111,7 +112,8 @@ put_answer-end-requires c =
     } in
     let step : Step = c.in-Value.st in
     let answered : Answered = stepped c.args.p c.args.c now-run step in
-    let turn_is : turn ≡ turn_of c.args.p c.args.c (job_of_phase now-run.phase) = let w : SFits w32 c.args.p.window = record { sfits = c.struct_told-1.given.0.1 } in
+    let turn_is : turn ≡ turn_of c.args.p c.args.c (job_of_phase now-run.phase) =
+    let w : SFits w32 c.args.p.window = record { sfits = c.struct_told-1.given.0.1 } in
     turn_of-made c.args.p c.args.c _ _ _ (to_z-of_z w) c.jobs_done-due.ensures in
     let answer-is : c.answer_step-answer.result ≡ answered.answer = let a = c.args in
     c.answer_step-answer.ensures
@@ -145,15 +147,19 @@ returns-then-ends_session c =
     let step : Step = c.in-Value.st in
     let next : ℕ = c.in-Value.next in
     let answered : Answered = stepped c.args.p c.args.c now-run step in
-    let step-read : step_line rest c.loop-place.number ≡ read step (drop next c.args.text.now) (c.loop-place.number + 1) = c.read_step_at-read.ensures.line_value ∙ ap (step_reading _ _ _) c.in-Value.is in
-    let turn_is : turn ≡ turn_of c.args.p c.args.c (job_of_phase now-run.phase) = let w : SFits w32 c.args.p.window = record { sfits = c.struct_told-1.given.0.1 } in
+    let step-read : step_line rest c.loop-place.number ≡ read step (drop next c.args.text.now) (c.loop-place.number + 1) =
+    c.read_step_at-read.ensures.line_value ∙ ap (step_reading _ _ _) c.in-Value.is in
+    let turn_is : turn ≡ turn_of c.args.p c.args.c (job_of_phase now-run.phase) =
+    let w : SFits w32 c.args.p.window = record { sfits = c.struct_told-1.given.0.1 } in
     turn_of-made c.args.p c.args.c _ _ _ (to_z-of_z w) c.jobs_done-due.ensures in
     let answer-is : c.answer_step-answer.result ≡ answered.answer = let a = c.args in
     c.answer_step-answer.ensures
     ∙ ap (λ (x : Turn). answer_at x a.c.at_least a.c.at_most now-run step) (turn_is) in
-    let stored : Stored c.loop-place.out c.loop-place.end (answer_line answered.answer) c.put_answer-end.new.out c.put_answer-end.result = stored-as (ap answer_line answer-is) c.put_answer-end.ensures.stored in
+    let stored : Stored c.loop-place.out c.loop-place.end (answer_line answered.answer) c.put_answer-end.new.out c.put_answer-end.result =
+    stored-as (ap answer_line answer-is) c.put_answer-end.ensures.stored in
     let next-run : Run = run_of c.move_run-after.result.phase c.move_run-after.result.before c.move_run-after.new.seen in
-    let run_is : answered.run ≡ next-run = sym (moved_made _ _ _ c.move_run-after.ensures.value c.move_run-after.ensures.seen_after ∙ ap (moved c.args.p.jobs now-run) answer-is) in
+    let run_is : answered.run ≡ next-run =
+    sym (moved_made _ _ _ c.move_run-after.ensures.value c.move_run-after.ensures.seen_after ∙ ap (moved c.args.p.jobs now-run) answer-is) in
     let a = c.args in
     let w =
     answers_so_far-last a.p a.c a.text.now a.out.now a.from a.line a.at a.run c.loop-place.out run c.loop-place.place
@@ -161,7 +167,8 @@ returns-then-ends_session c =
     c.loop-place.end
     c.loop-place.invariant c.loop-place-test.true _ _ c.put_answer-end.ensures.upper_bound step next answered
     step-read refl stored
-    (sym (ap ends_session answer-is) ∙ sym c.ends_session.ensures ∙ c.if-ends_session.true) in record { stored = w.stored; run_value = sym run_is ∙ w.left; from_bound = w.short }
+    (sym (ap ends_session answer-is) ∙ sym c.ends_session.ensures ∙ c.if-ends_session.true) in
+    record { stored = w.stored; run_value = sym run_is ∙ w.left; from_bound = w.short }
 
 pub overflow_add-number : goal.overflow_add-number
 overflow_add-number c =
@@ -188,15 +195,19 @@ loop-place-preserved c =
     let step : Step = c.in-Value.st in
     let next : ℕ = c.in-Value.next in
     let answered : Answered = stepped c.args.p c.args.c now-run step in
-    let step-read : step_line rest c.loop-place.number ≡ read step (drop next c.args.text.now) (c.loop-place.number + 1) = c.read_step_at-read.ensures.line_value ∙ ap (step_reading _ _ _) c.in-Value.is in
-    let turn_is : turn ≡ turn_of c.args.p c.args.c (job_of_phase now-run.phase) = let w : SFits w32 c.args.p.window = record { sfits = c.struct_told-1.given.0.1 } in
+    let step-read : step_line rest c.loop-place.number ≡ read step (drop next c.args.text.now) (c.loop-place.number + 1) =
+    c.read_step_at-read.ensures.line_value ∙ ap (step_reading _ _ _) c.in-Value.is in
+    let turn_is : turn ≡ turn_of c.args.p c.args.c (job_of_phase now-run.phase) =
+    let w : SFits w32 c.args.p.window = record { sfits = c.struct_told-1.given.0.1 } in
     turn_of-made c.args.p c.args.c _ _ _ (to_z-of_z w) c.jobs_done-due.ensures in
     let answer-is : c.answer_step-answer.result ≡ answered.answer = let a = c.args in
     c.answer_step-answer.ensures
     ∙ ap (λ (x : Turn). answer_at x a.c.at_least a.c.at_most now-run step) (turn_is) in
-    let stored : Stored c.loop-place.out c.loop-place.end (answer_line answered.answer) c.put_answer-end.new.out c.put_answer-end.result = stored-as (ap answer_line answer-is) c.put_answer-end.ensures.stored in
+    let stored : Stored c.loop-place.out c.loop-place.end (answer_line answered.answer) c.put_answer-end.new.out c.put_answer-end.result =
+    stored-as (ap answer_line answer-is) c.put_answer-end.ensures.stored in
     let next-run : Run = run_of c.move_run-after.result.phase c.move_run-after.result.before c.move_run-after.new.seen in
-    let run_is : answered.run ≡ next-run = sym (moved_made _ _ _ c.move_run-after.ensures.value c.move_run-after.ensures.seen_after ∙ ap (moved c.args.p.jobs now-run) answer-is) in
+    let run_is : answered.run ≡ next-run =
+    sym (moved_made _ _ _ c.move_run-after.ensures.value c.move_run-after.ensures.seen_after ∙ ap (moved c.args.p.jobs now-run) answer-is) in
     let a = c.args in
     subst
     (λ (r : Run).

@@ -9,7 +9,8 @@ use Rattle.session.proofs.steps.put_answers.Given as goal
 
 abbrev pub invariant-loop-place : goal.invariant-loop-place
 invariant-loop-place l =
-    AnswersSoFar l.p l.c l.text l.initial.out l.from l.line l.at (run_of l.initial.phase l.initial.before l.initial.seen) l.out (run_of l.phase l.before l.seen) l.place l.number l.end
+    AnswersSoFar l.p l.c l.text l.initial.out l.from l.line l.at (run_of l.initial.phase l.initial.before l.initial.seen) l.out
+    (run_of l.phase l.before l.seen) l.place l.number l.end
 
 abbrev pub decreases-loop-place : goal.decreases-loop-place
 decreases-loop-place l =

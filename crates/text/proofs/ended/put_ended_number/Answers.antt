@@ -9,4 +9,6 @@ put_byte-requires c =
 
 pub returns : goal.returns
 returns c =
-    let p = stored-append (stored-number c.ranges.z c.put_number-behind.ensures) c.put_byte.ensures in record { stored = p; upper_bound = number-near c.args.z c.args.end c.ranges.z p }
+    let p =
+    stored-append (stored-number c.ranges.z c.put_number-behind.ensures) c.put_byte.ensures in
+    record { stored = p; upper_bound = number-near c.args.z c.args.end c.ranges.z p }

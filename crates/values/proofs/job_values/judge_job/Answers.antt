@@ -47,7 +47,8 @@ returns-in_default-second c =
       release = record { sfits = t.1.1.0.1 };
       deadline = record { sfits = t.1.1.1.0.1 };
     } in
-    let left₁ : job_judged n₀ j₀ ≡ from_max n₀ (j₀) = lines-pass _ _ (job_judged-lines n₀ j₀) c.judge_number-first.result (rw (to_z-of_z numbers.min) at c.judge_number-first.ensures)
+    let left₁ : job_judged n₀ j₀ ≡ from_max n₀ (j₀) =
+    lines-pass _ _ (job_judged-lines n₀ j₀) c.judge_number-first.result (rw (to_z-of_z numbers.min) at c.judge_number-first.ensures)
     c.in-Accepted.is in
     let f = numbers in
     lines-stop _ _ left₁ c.judge_number-second.result (rw (to_z-of_z f.min, to_z-of_z f.max) at c.judge_number-second.ensures)
@@ -66,7 +67,8 @@ returns-in_default-third c =
       release = record { sfits = t.1.1.0.1 };
       deadline = record { sfits = t.1.1.1.0.1 };
     } in
-    let left₁ : job_judged n₀ j₀ ≡ from_max n₀ (j₀) = lines-pass _ _ (job_judged-lines n₀ j₀) c.judge_number-first.result (rw (to_z-of_z numbers.min) at c.judge_number-first.ensures)
+    let left₁ : job_judged n₀ j₀ ≡ from_max n₀ (j₀) =
+    lines-pass _ _ (job_judged-lines n₀ j₀) c.judge_number-first.result (rw (to_z-of_z numbers.min) at c.judge_number-first.ensures)
     c.in-Accepted.is in
     let left₂ : job_judged n₀ j₀ ≡ from_release n₀ (j₀) = let f = numbers in
     lines-pass _ _ left₁ c.judge_number-second.result (rw (to_z-of_z f.min, to_z-of_z f.max) at c.judge_number-second.ensures)
@@ -87,7 +89,8 @@ returns c =
       release = record { sfits = t.1.1.0.1 };
       deadline = record { sfits = t.1.1.1.0.1 };
     } in
-    let left₁ : job_judged n₀ j₀ ≡ from_max n₀ (j₀) = lines-pass _ _ (job_judged-lines n₀ j₀) c.judge_number-first.result (rw (to_z-of_z numbers.min) at c.judge_number-first.ensures)
+    let left₁ : job_judged n₀ j₀ ≡ from_max n₀ (j₀) =
+    lines-pass _ _ (job_judged-lines n₀ j₀) c.judge_number-first.result (rw (to_z-of_z numbers.min) at c.judge_number-first.ensures)
     c.in-Accepted.is in
     let left₂ : job_judged n₀ j₀ ≡ from_release n₀ (j₀) = let f = numbers in
     lines-pass _ _ left₁ c.judge_number-second.result (rw (to_z-of_z f.min, to_z-of_z f.max) at c.judge_number-second.ensures)

@@ -37,7 +37,8 @@ pub returns-in_default : goal.returns-in_default
 returns-in_default c =
     let p₀ : Plan = c.args.p in
     let fits₀ : PlanFits (p₀) = plan-fits p₀ _ c.struct_told-1.given in
-    let left₀ : judged_answer (judged_plan p₀) ≡ and_then (number_judged (pos 1) longest_window p₀.window 1) (from_rounds p₀) = judged_plan-is p₀ fits₀.placed (plan_text-short p₀ fits₀) ∙ judged_by_lines-lines (p₀) in
+    let left₀ : judged_answer (judged_plan p₀) ≡ and_then (number_judged (pos 1) longest_window p₀.window 1) (from_rounds p₀) =
+    judged_plan-is p₀ fits₀.placed (plan_text-short p₀ fits₀) ∙ judged_by_lines-lines (p₀) in
     let window-fits : SFits w32 p₀.window = record { sfits = c.struct_told-1.given.0.1 } in
     let p = p₀ in
     let told = promised p c.judge_number-window.result fits₀
@@ -52,11 +53,13 @@ pub returns-in_default-rounds : goal.returns-in_default-rounds
 returns-in_default-rounds c =
     let p₀ : Plan = c.args.p in
     let fits₀ : PlanFits (p₀) = plan-fits p₀ _ c.struct_told-1.given in
-    let left₀ : judged_answer (judged_plan p₀) ≡ and_then (number_judged (pos 1) longest_window p₀.window 1) (from_rounds p₀) = judged_plan-is p₀ fits₀.placed (plan_text-short p₀ fits₀) ∙ judged_by_lines-lines (p₀) in
+    let left₀ : judged_answer (judged_plan p₀) ≡ and_then (number_judged (pos 1) longest_window p₀.window 1) (from_rounds p₀) =
+    judged_plan-is p₀ fits₀.placed (plan_text-short p₀ fits₀) ∙ judged_by_lines-lines (p₀) in
     let window-fits : SFits w32 p₀.window = record { sfits = c.struct_told-1.given.0.1 } in
     let p₁ : Plan = p₀ in
     let fits₁ : PlanFits (p₁) = fits₀ in
-    let left₁ : judged_answer (judged_plan p₁) ≡ from_rounds (p₁) = lines-pass (number_judged (pos 1) longest_window p₁.window 1) (from_rounds p₁) left₀ c.judge_number-window.result
+    let left₁ : judged_answer (judged_plan p₁) ≡ from_rounds (p₁) =
+    lines-pass (number_judged (pos 1) longest_window p₁.window 1) (from_rounds p₁) left₀ c.judge_number-window.result
     (rw (to_z-of_z window-fits) at c.judge_number-window.ensures)
     c.in-Accepted.is in
     let p = p₁ in
@@ -72,11 +75,13 @@ pub returns-in_default-last : goal.returns-in_default-last
 returns-in_default-last c =
     let p₀ : Plan = c.args.p in
     let fits₀ : PlanFits (p₀) = plan-fits p₀ _ c.struct_told-1.given in
-    let left₀ : judged_answer (judged_plan p₀) ≡ and_then (number_judged (pos 1) longest_window p₀.window 1) (from_rounds p₀) = judged_plan-is p₀ fits₀.placed (plan_text-short p₀ fits₀) ∙ judged_by_lines-lines (p₀) in
+    let left₀ : judged_answer (judged_plan p₀) ≡ and_then (number_judged (pos 1) longest_window p₀.window 1) (from_rounds p₀) =
+    judged_plan-is p₀ fits₀.placed (plan_text-short p₀ fits₀) ∙ judged_by_lines-lines (p₀) in
     let window-fits : SFits w32 p₀.window = record { sfits = c.struct_told-1.given.0.1 } in
     let p₁ : Plan = p₀ in
     let fits₁ : PlanFits (p₁) = fits₀ in
-    let left₁ : judged_answer (judged_plan p₁) ≡ from_rounds (p₁) = lines-pass (number_judged (pos 1) longest_window p₁.window 1) (from_rounds p₁) left₀ c.judge_number-window.result
+    let left₁ : judged_answer (judged_plan p₁) ≡ from_rounds (p₁) =
+    lines-pass (number_judged (pos 1) longest_window p₁.window 1) (from_rounds p₁) left₀ c.judge_number-window.result
     (rw (to_z-of_z window-fits) at c.judge_number-window.ensures)
     c.in-Accepted.is in
     let p₂ : Plan = p₁ in
@@ -96,11 +101,13 @@ pub returns-in_default-jobs : goal.returns-in_default-jobs
 returns-in_default-jobs c =
     let p₀ : Plan = c.args.p in
     let fits₀ : PlanFits (p₀) = plan-fits p₀ _ c.struct_told-1.given in
-    let left₀ : judged_answer (judged_plan p₀) ≡ and_then (number_judged (pos 1) longest_window p₀.window 1) (from_rounds p₀) = judged_plan-is p₀ fits₀.placed (plan_text-short p₀ fits₀) ∙ judged_by_lines-lines (p₀) in
+    let left₀ : judged_answer (judged_plan p₀) ≡ and_then (number_judged (pos 1) longest_window p₀.window 1) (from_rounds p₀) =
+    judged_plan-is p₀ fits₀.placed (plan_text-short p₀ fits₀) ∙ judged_by_lines-lines (p₀) in
     let window-fits : SFits w32 p₀.window = record { sfits = c.struct_told-1.given.0.1 } in
     let p₁ : Plan = p₀ in
     let fits₁ : PlanFits (p₁) = fits₀ in
-    let left₁ : judged_answer (judged_plan p₁) ≡ from_rounds (p₁) = lines-pass (number_judged (pos 1) longest_window p₁.window 1) (from_rounds p₁) left₀ c.judge_number-window.result
+    let left₁ : judged_answer (judged_plan p₁) ≡ from_rounds (p₁) =
+    lines-pass (number_judged (pos 1) longest_window p₁.window 1) (from_rounds p₁) left₀ c.judge_number-window.result
     (rw (to_z-of_z window-fits) at c.judge_number-window.ensures)
     c.in-Accepted.is in
     let p₂ : Plan = p₁ in
@@ -132,7 +139,8 @@ judge_jobs-all_jobs-requires c =
     let p₃ : Plan = p₂ in
     let fits₃ : PlanFits (p₃) = fits₂ in
     let p₄ : Plan = p₃ in
-    let few₄ : p₄.jobs ≤ most_jobs = omega (whole, (number_judged-range (pos 1) (pos most_jobs) (pos p₄.jobs) 4 (sym c.judge_count-jobs.ensures ∙ c.in-Accepted-jobs.is)).1) in
+    let few₄ : p₄.jobs ≤ most_jobs =
+    omega (whole, (number_judged-range (pos 1) (pos most_jobs) (pos p₄.jobs) 4 (sym c.judge_count-jobs.ensures ∙ c.in-Accepted-jobs.is)).1) in
     let fits₄ : PlanFits (p₄) = fits₃ in
     (fits₄.placed, few₄)
 
@@ -140,11 +148,13 @@ pub returns-in_default-all_jobs : goal.returns-in_default-all_jobs
 returns-in_default-all_jobs c =
     let p₀ : Plan = c.args.p in
     let fits₀ : PlanFits (p₀) = plan-fits p₀ _ c.struct_told-1.given in
-    let left₀ : judged_answer (judged_plan p₀) ≡ and_then (number_judged (pos 1) longest_window p₀.window 1) (from_rounds p₀) = judged_plan-is p₀ fits₀.placed (plan_text-short p₀ fits₀) ∙ judged_by_lines-lines (p₀) in
+    let left₀ : judged_answer (judged_plan p₀) ≡ and_then (number_judged (pos 1) longest_window p₀.window 1) (from_rounds p₀) =
+    judged_plan-is p₀ fits₀.placed (plan_text-short p₀ fits₀) ∙ judged_by_lines-lines (p₀) in
     let window-fits : SFits w32 p₀.window = record { sfits = c.struct_told-1.given.0.1 } in
     let p₁ : Plan = p₀ in
     let fits₁ : PlanFits (p₁) = fits₀ in
-    let left₁ : judged_answer (judged_plan p₁) ≡ from_rounds (p₁) = lines-pass (number_judged (pos 1) longest_window p₁.window 1) (from_rounds p₁) left₀ c.judge_number-window.result
+    let left₁ : judged_answer (judged_plan p₁) ≡ from_rounds (p₁) =
+    lines-pass (number_judged (pos 1) longest_window p₁.window 1) (from_rounds p₁) left₀ c.judge_number-window.result
     (rw (to_z-of_z window-fits) at c.judge_number-window.ensures)
     c.in-Accepted.is in
     let p₂ : Plan = p₁ in
@@ -176,7 +186,8 @@ overflow_mul-line c =
     let p₂ : Plan = p₁ in
     let p₃ : Plan = p₂ in
     let p₄ : Plan = p₃ in
-    let few₄ : p₄.jobs ≤ most_jobs = omega (whole, (number_judged-range (pos 1) (pos most_jobs) (pos p₄.jobs) 4 (sym c.judge_count-jobs.ensures ∙ c.in-Accepted-jobs.is)).1) in
+    let few₄ : p₄.jobs ≤ most_jobs =
+    omega (whole, (number_judged-range (pos 1) (pos most_jobs) (pos p₄.jobs) 4 (sym c.judge_count-jobs.ensures ∙ c.in-Accepted-jobs.is)).1) in
     omega (arith, few₄)
 
 pub overflow_add-line : goal.overflow_add-line
@@ -186,18 +197,21 @@ overflow_add-line c =
     let p₂ : Plan = p₁ in
     let p₃ : Plan = p₂ in
     let p₄ : Plan = p₃ in
-    let few₄ : p₄.jobs ≤ most_jobs = omega (whole, (number_judged-range (pos 1) (pos most_jobs) (pos p₄.jobs) 4 (sym c.judge_count-jobs.ensures ∙ c.in-Accepted-jobs.is)).1) in
+    let few₄ : p₄.jobs ≤ most_jobs =
+    omega (whole, (number_judged-range (pos 1) (pos most_jobs) (pos p₄.jobs) 4 (sym c.judge_count-jobs.ensures ∙ c.in-Accepted-jobs.is)).1) in
     omega (arith, few₄)
 
 pub returns-in_default-bounds : goal.returns-in_default-bounds
 returns-in_default-bounds c =
     let p₀ : Plan = c.args.p in
     let fits₀ : PlanFits (p₀) = plan-fits p₀ _ c.struct_told-1.given in
-    let left₀ : judged_answer (judged_plan p₀) ≡ and_then (number_judged (pos 1) longest_window p₀.window 1) (from_rounds p₀) = judged_plan-is p₀ fits₀.placed (plan_text-short p₀ fits₀) ∙ judged_by_lines-lines (p₀) in
+    let left₀ : judged_answer (judged_plan p₀) ≡ and_then (number_judged (pos 1) longest_window p₀.window 1) (from_rounds p₀) =
+    judged_plan-is p₀ fits₀.placed (plan_text-short p₀ fits₀) ∙ judged_by_lines-lines (p₀) in
     let window-fits : SFits w32 p₀.window = record { sfits = c.struct_told-1.given.0.1 } in
     let p₁ : Plan = p₀ in
     let fits₁ : PlanFits (p₁) = fits₀ in
-    let left₁ : judged_answer (judged_plan p₁) ≡ from_rounds (p₁) = lines-pass (number_judged (pos 1) longest_window p₁.window 1) (from_rounds p₁) left₀ c.judge_number-window.result
+    let left₁ : judged_answer (judged_plan p₁) ≡ from_rounds (p₁) =
+    lines-pass (number_judged (pos 1) longest_window p₁.window 1) (from_rounds p₁) left₀ c.judge_number-window.result
     (rw (to_z-of_z window-fits) at c.judge_number-window.ensures)
     c.in-Accepted.is in
     let p₂ : Plan = p₁ in
@@ -237,7 +251,8 @@ judge_bounds-requires c =
     let p₃ : Plan = p₂ in
     let fits₃ : PlanFits (p₃) = fits₂ in
     let p₄ : Plan = p₃ in
-    let few₄ : p₄.jobs ≤ most_jobs = omega (whole, (number_judged-range (pos 1) (pos most_jobs) (pos p₄.jobs) 4 (sym c.judge_count-jobs.ensures ∙ c.in-Accepted-jobs.is)).1) in
+    let few₄ : p₄.jobs ≤ most_jobs =
+    omega (whole, (number_judged-range (pos 1) (pos most_jobs) (pos p₄.jobs) 4 (sym c.judge_count-jobs.ensures ∙ c.in-Accepted-jobs.is)).1) in
     let fits₄ : PlanFits (p₄) = fits₃ in
     let p₅ : Plan = p₄ in
     let p₆ : Plan = p₅ in
@@ -252,11 +267,13 @@ pub returns : goal.returns
 returns c =
     let p₀ : Plan = c.args.p in
     let fits₀ : PlanFits (p₀) = plan-fits p₀ _ c.struct_told-1.given in
-    let left₀ : judged_answer (judged_plan p₀) ≡ and_then (number_judged (pos 1) longest_window p₀.window 1) (from_rounds p₀) = judged_plan-is p₀ fits₀.placed (plan_text-short p₀ fits₀) ∙ judged_by_lines-lines (p₀) in
+    let left₀ : judged_answer (judged_plan p₀) ≡ and_then (number_judged (pos 1) longest_window p₀.window 1) (from_rounds p₀) =
+    judged_plan-is p₀ fits₀.placed (plan_text-short p₀ fits₀) ∙ judged_by_lines-lines (p₀) in
     let window-fits : SFits w32 p₀.window = record { sfits = c.struct_told-1.given.0.1 } in
     let p₁ : Plan = p₀ in
     let fits₁ : PlanFits (p₁) = fits₀ in
-    let left₁ : judged_answer (judged_plan p₁) ≡ from_rounds (p₁) = lines-pass (number_judged (pos 1) longest_window p₁.window 1) (from_rounds p₁) left₀ c.judge_number-window.result
+    let left₁ : judged_answer (judged_plan p₁) ≡ from_rounds (p₁) =
+    lines-pass (number_judged (pos 1) longest_window p₁.window 1) (from_rounds p₁) left₀ c.judge_number-window.result
     (rw (to_z-of_z window-fits) at c.judge_number-window.ensures)
     c.in-Accepted.is in
     let p₂ : Plan = p₁ in

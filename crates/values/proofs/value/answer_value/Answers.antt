@@ -19,7 +19,8 @@ returns-in-Accepted c =
     let j = c.judge_plan-judged in
     let d = c.decide-decision in
     let e = c.in-Accepted.is in
-    let told = wrote_as c.args.out.now (omega arith) (text-of-outcome c.args.p _ _ d.ensures.verdict_value d.ensures.calendar_value ∙ value-text c.args.p j.result
+    let told =
+    wrote_as c.args.out.now (omega arith) (text-of-outcome c.args.p _ _ d.ensures.verdict_value d.ensures.calendar_value ∙ value-text c.args.p j.result
     j.ensures.value e) (c.write_decision.ensures.value, (c.write_decision.ensures.out_after, c.write_decision.ensures.c_len_bound)) in
     record { value = told.0; out_after = told.1.0; p_len_bound = told.1.1 }
 

@@ -18,7 +18,9 @@ pub returns-then-i-ge-MOST_BOUNDS : goal.returns-then-i-ge-MOST_BOUNDS
 returns-then-i-ge-MOST_BOUNDS c =
     let a = c.args in
     let l = c.loop-i in
-    let places : length a.bound ≡ most_bounds = c.before.before.before.before.well_formed.1.1.1.0.1.0.1 in record { stored = left_out text a.bound a.bounds (bounds_text-nil) l.invariant.3 (omega arith); upper_bound = omega arith }
+    let places : length a.bound ≡ most_bounds =
+    c.before.before.before.before.well_formed.1.1.1.0.1.0.1 in
+    record { stored = left_out text a.bound a.bounds (bounds_text-nil) l.invariant.3 (omega arith); upper_bound = omega arith }
 
 pub loop-i-preserved : goal.loop-i-preserved
 loop-i-preserved c =

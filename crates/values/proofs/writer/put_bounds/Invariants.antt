@@ -14,7 +14,8 @@ text ds = bounds_text ds
 
 abbrev pub invariant-loop-i : goal.invariant-loop-i
 invariant-loop-i l =
-    (l.i ≤ most_bounds) × (l.end ≤ l.at + 73 * l.i) × (length l.out ≡ length l.initial.out) × LeftToWrite l.initial.out l.at (text (take l.bounds l.bound)) l.out l.end (left_from text l.bound l.bounds l.i)
+    (l.i ≤ most_bounds) × (l.end ≤ l.at + 73 * l.i) × (length l.out ≡ length l.initial.out)
+    × LeftToWrite l.initial.out l.at (text (take l.bounds l.bound)) l.out l.end (left_from text l.bound l.bounds l.i)
 
 abbrev pub decreases-loop-i : goal.decreases-loop-i
 decreases-loop-i l = l.bounds - l.i

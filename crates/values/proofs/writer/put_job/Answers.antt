@@ -34,7 +34,10 @@ pub put_line-fourth-requires : goal.put_line-fourth-requires
 put_line-fourth-requires c = record { at_bound = omega arith; key_len_bound = omega arith }
 
 pub put_line-requires : goal.put_line-requires
-put_line-requires c = record { at_bound = omega (arith, c.put_line-fourth.ensures.upper_bound, c.put_line-third.ensures.upper_bound, c.put_line-second.ensures.upper_bound, c.requires); key_len_bound = omega arith }
+put_line-requires c = record {
+  at_bound = omega (arith, c.put_line-fourth.ensures.upper_bound, c.put_line-third.ensures.upper_bound, c.put_line-second.ensures.upper_bound, c.requires);
+  key_len_bound = omega arith;
+}
 
 pub returns : goal.returns
 unfolding bytes jobs_text

@@ -14,7 +14,8 @@ text js = jobs_text js []
 
 abbrev pub invariant-loop-i : goal.invariant-loop-i
 invariant-loop-i l =
-    (l.i ≤ most_jobs) × (l.end ≤ l.at + 120 * l.i) × (length l.out ≡ length l.initial.out) × LeftToWrite l.initial.out l.at (text (take l.jobs l.job)) l.out l.end (left_from text l.job l.jobs l.i)
+    (l.i ≤ most_jobs) × (l.end ≤ l.at + 120 * l.i) × (length l.out ≡ length l.initial.out)
+    × LeftToWrite l.initial.out l.at (text (take l.jobs l.job)) l.out l.end (left_from text l.job l.jobs l.i)
 
 abbrev pub decreases-loop-i : goal.decreases-loop-i
 decreases-loop-i l = l.jobs - l.i
