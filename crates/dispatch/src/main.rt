@@ -1,16 +1,34 @@
 // The dispatch program: standard input is a plan followed by steps; it prints the answers to the steps, or the one line of a plan that is refused. A read that
 // fails ends the text, as its end does: the steps before it are answered.
-use libc::{STDERR_FILENO, STDIN_FILENO, STDOUT_FILENO};
+#![tactic(auto)]
+
+ghost use Rattle.std.specs.Prelude.{◌≤◌, length};
+
 use lines::LONGEST_TEXT;
 use session::MOST_BYTES;
+use std::io::Read;
 
-fn main() {
+// Reads until the text is full, the input ends or a read fails, and answers how many bytes it put at the text's beginning.
+fn read_full(input: &mut impl Read, text: &mut [u8]) -> usize
+    ensures { result ≤ length text.new }
+{
+    let mut n = 0;
+    while n < text.len() {
+        match input.read(&mut text[n..]) {
+            Ok(0) | Err(_) => break,
+            Ok(more) => n += more,
+        }
+    }
+    n
+}
+
+fn main(rt: HostRuntime) {
     // One byte more than the longest text has, so that a longer one is recognised.
     let mut text = [0u8; LONGEST_TEXT + 1];
-    let n = io::read_full(STDIN_FILENO, &mut text);
+    let n = read_full(&mut rt.stdin(), &mut text);
     let mut out = [0u8; MOST_BYTES];
     let m = session::answer_read(&text, n, &mut out);
-    if !io::write_all(STDOUT_FILENO, &out[..m]) {
-        io::write_all(STDERR_FILENO, b"dispatch: not all was written\n");
+    if rt.write_all(&out[..m]).is_err() {
+        let _ = rt.eprintln("dispatch: not all was written");
     }
 }
