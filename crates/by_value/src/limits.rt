@@ -10,143 +10,143 @@ use runs::{Before, Phase, Run};
 // ---- runs
 
 // An ask of P in a run.
-fn asked(run: Run) {
+fn asked(rt: &impl Print, run: Run) {
     let p = plan_p();
     let c = calendar_p();
     let a = runs::ask(p, c, run);
-    told(a);
+    told(rt, a);
 }
 
 // An ask of P in its first window, in some phase.
-fn first_asked(phase: Phase) {
+fn first_asked(rt: &impl Print, phase: Phase) {
     let run = first_run(phase);
-    asked(run);
+    asked(rt, run);
 }
 
 // An ask of P in window 2, or in window 1 with that window's places in use, after a job that ran from start to finish.
-fn later_asked(phase: Phase, before: Before, start: i64, finish: i64) {
+fn later_asked(rt: &impl Print, phase: Phase, before: Before, start: i64, finish: i64) {
     let run = run_with(phase, before, start, finish);
-    asked(run);
+    asked(rt, run);
 }
 
 // Windows 0 and 1,002, and window 1,001 for another job than the first, and running; then window 1,001, in which the run is over.
-fn windows() {
+fn windows(rt: &impl Print) {
     let none = waiting(0, 1);
     let past = waiting(1002, 1);
     let other = waiting(1001, 2);
     let busy = running(1001, 1, 7);
     let over = waiting(1001, 1);
-    first_asked(none);
-    first_asked(past);
-    first_asked(other);
-    first_asked(busy);
-    first_asked(over);
+    first_asked(rt, none);
+    first_asked(rt, past);
+    first_asked(rt, other);
+    first_asked(rt, busy);
+    first_asked(rt, over);
 }
 
 // Jobs 0 and 2 of one, and a start before 0.
-fn jobs() {
+fn jobs(rt: &impl Print) {
     let none = waiting(1, 0);
     let second = waiting(1, 2);
     let early = running(1, 1, -1);
-    first_asked(none);
-    first_asked(second);
-    first_asked(early);
+    first_asked(rt, none);
+    first_asked(rt, second);
+    first_asked(rt, early);
 }
 
 // The times of the previous window: the last time, one after it, and one before 0; and the same without that window, of which they are no part.
-fn times() {
+fn times(rt: &impl Print) {
     let second = waiting(2, 1);
     let first = waiting(1, 1);
     let window = Before::Window;
     let nothing = Before::Nothing;
-    later_asked(second, window, 3, 100_000_000_000_000_000);
-    later_asked(second, window, 3, 100_000_000_000_000_001);
-    later_asked(second, window, -1, 7);
-    later_asked(first, nothing, 3, 100_000_000_000_000_001);
+    later_asked(rt, second, window, 3, 100_000_000_000_000_000);
+    later_asked(rt, second, window, 3, 100_000_000_000_000_001);
+    later_asked(rt, second, window, -1, 7);
+    later_asked(rt, first, nothing, 3, 100_000_000_000_000_001);
 }
 
-pub fn of_runs() {
-    say(b"runs outside the limits\n");
-    windows();
-    jobs();
-    times();
+pub fn of_runs(rt: &impl Print) {
+    say(rt, b"runs outside the limits\n");
+    windows(rt);
+    jobs(rt);
+    times(rt);
 }
 
 // ---- calendars
 
 // An ask of P at the run's beginning, with a calendar of its job.
-fn asked_by(low: i64, high: i64, below: u64, c: i32, above: u64, d: i32) {
+fn asked_by(rt: &impl Print, low: i64, high: i64, below: u64, c: i32, above: u64, d: i32) {
     let p = plan_p();
     let calendar = calendar_with(low, high, below, c, above, d);
     let run = runs::new_run();
     let a = runs::ask(p, calendar, run);
-    told(a);
+    told(rt, a);
 }
 
 // Low at its least and below it, and high above its greatest.
-fn ends() {
-    asked_by(-1_000_000_000, 6, 1, 8, 1, 12);
-    asked_by(-1_000_000_001, 6, 1, 8, 1, 12);
-    asked_by(0, 1_000_000_001, 1, 8, 1, 12);
+fn ends(rt: &impl Print) {
+    asked_by(rt, -1_000_000_000, 6, 1, 8, 1, 12);
+    asked_by(rt, -1_000_000_001, 6, 1, 8, 1, 12);
+    asked_by(rt, 0, 1_000_000_001, 1, 8, 1, 12);
 }
 
 // From below and from above: the start of the job itself, and a c out of range; and a c that no bit names, which is no part of the calendar.
-fn sides() {
-    asked_by(0, 6, 5, 8, 1, 12);
-    asked_by(0, 6, 1, 8, 5, 12);
-    asked_by(0, 6, 1, -1_000_000_001, 1, 12);
-    asked_by(0, 6, 1, 8, 1, 1_000_000_001);
-    asked_by(0, 6, 0, -1_000_000_001, 1, 12);
+fn sides(rt: &impl Print) {
+    asked_by(rt, 0, 6, 5, 8, 1, 12);
+    asked_by(rt, 0, 6, 1, 8, 5, 12);
+    asked_by(rt, 0, 6, 1, -1_000_000_001, 1, 12);
+    asked_by(rt, 0, 6, 1, 8, 1, 1_000_000_001);
+    asked_by(rt, 0, 6, 0, -1_000_000_001, 1, 12);
 }
 
-pub fn of_calendars() {
-    say(b"calendars outside the limits\n");
-    ends();
-    sides();
+pub fn of_calendars(rt: &impl Print) {
+    say(rt, b"calendars outside the limits\n");
+    ends(rt);
+    sides(rt);
 }
 
 // ---- times of steps
 
 // A start and a finish outside the range, which come before 8 and 7; and the last time, which is inside it.
-fn given() {
+fn given(rt: &impl Print) {
     let p = plan_p();
     let c = calendar_p();
     let run = runs::new_run();
     let early = runs::start_at(p, c, run, RunTime(-1));
-    told(early);
+    told(rt, early);
     let past = runs::finish_at(p, c, run, RunTime(100_000_000_000_000_001));
-    told(past);
+    told(rt, past);
     let last = runs::start_at(p, c, run, RunTime(100_000_000_000_000_000));
-    told(last);
+    told(rt, last);
 }
 
 // An offer from -5 on, which no plan has: an auto start there is outside the range of T, and one at 0 is not.
-fn chosen() {
+fn chosen(rt: &impl Print) {
     let p = plan_p();
     let c = calendar_with(-5, 6, 1, 8, 1, 12);
     let run = runs::new_run();
     let asked = runs::ask(p, c, run);
-    told(asked);
+    told(rt, asked);
     let auto = runs::start_auto(p, c, run);
-    told(auto);
+    told(rt, auto);
     let at_0 = runs::start_at(p, c, run, RunTime(0));
-    told(at_0);
+    told(rt, at_0);
 }
 
 // The plan's own refusal comes before 2,0.
-fn ordered() {
+fn ordered(rt: &impl Print) {
     let p = plan_like_p(0, 1000, 4);
     let c = calendar_with(0, 6, 5, 8, 1, 12);
     let past = waiting(1001, 2);
     let run = shut_run(past);
     let a = runs::ask(p, c, run);
-    told(a);
+    told(rt, a);
 }
 
-pub fn of_times() {
-    say(b"times outside the limits\n");
-    given();
-    chosen();
-    say(b"a plan outside its own\n");
-    ordered();
+pub fn of_times(rt: &impl Print) {
+    say(rt, b"times outside the limits\n");
+    given(rt);
+    chosen(rt);
+    say(rt, b"a plan outside its own\n");
+    ordered(rt);
 }
