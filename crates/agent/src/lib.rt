@@ -1,4 +1,5 @@
 // The export for C.
+#![tactic(auto)]
 
 mod entry;
 
