@@ -3,7 +3,7 @@
 # make test        the gate: everything that must hold before a change lands
 # make install     command, programs, library, header, manual pages and pkg-config file below PREFIX
 # make uninstall   takes them away again
-# make lint        the manual pages, the proved sources' layout, the scripts and the second implementation, each read by its linter
+# make lint        the manual pages, the scripts and the second implementation, each read by its linter
 # make figures     measures, and writes docs/FIGURES.md
 # make picture     draws docs/window.svg and docs/day.svg from sessions of examples/
 
@@ -14,7 +14,7 @@ VERSION := $(shell sed -n 's/^version=//p' bin/gekumosari)
 programs = target/bin/calendar target/bin/dispatch
 archive = target/staticlib/libagent.a
 library = target/lib/libgekumosari.so.0
-sources := crates.txt $(shell find crates -type f -not -path '*/must-fail/*')
+sources := crates.txt $(shell find crates -type f -not -path '*/must-fail/*' -not -path '*/out/*')
 
 .PHONY: all demo test install uninstall lint figures picture
 # Two runs of `rt` would be in each other's way.
@@ -33,12 +33,12 @@ endef
 # `rt` proves again only what has changed; nothing is made where something is not proved.
 $(programs) &: $(sources)
 	$(kit)
-	@bin/prove check calendar dispatch
+	@bin/prove calendar dispatch
 	@touch -c $(programs)
 
 $(archive): $(sources)
 	$(kit)
-	@bin/prove staticlib agent
+	@bin/prove agent
 	@touch -c $(archive)
 
 # The archive's code has no fixed place, so the linker makes the shared library of it as it is.
@@ -88,7 +88,6 @@ uninstall:
 # Of the scripts, programs for sed, awk and bash stand in single quotes, and are meant so (SC2016).
 lint:
 	mandoc -T lint -W warning man/*.1 man/*.3
-	rt fmt --check
 	shellcheck -e SC2016 tests/apply.sh $$(grep -lE '^#!.*[/ ](ba)?sh$$' .ci/run bin/* tests/*/run harness/fuzz/run)
 	pyflakes3 $$(grep -lE '^#!.*python3$$' tests/*/run tests/*/test) tests/*/*.py
 	cd harness && cargo fmt --check
