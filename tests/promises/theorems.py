@@ -6,7 +6,9 @@ import re
 
 from contracts import bare, cut, tree
 
-THEOREM = re.compile(r"[A-Za-z0-9]+(-[A-Za-z0-9′]+)+$")
+# A name with a hyphen is a theorem's; so is one in snake case that is nothing else: no definition, no function and no edit.
+HYPHENED = re.compile(r"\w+(-[\w']+)+$")
+SNAKE = re.compile(r"(?=.*[a-z])[A-Za-z0-9]+(_[A-Za-z0-9']+)+$")
 DEMAND = 'docs/DEMAND-3.md'
 FRONT = 'crates/promises/specs/'
 STRATEGY = 'crates/strategy/specs/'
@@ -19,6 +21,11 @@ LEAST = {'settled-means', 'no-strategy-means', 'offer-not-empty', 'offer-exact',
 def coded(text):
     """What stands in code letters."""
     return re.findall(r'`([^`\n]+)`', text)
+
+
+def is_theorem(name, others):
+    """Whether a name is a theorem's, where `others` are names of other things."""
+    return bool(HYPHENED.match(name) or SNAKE.match(name) and name not in others)
 
 
 def bared(text):
@@ -39,7 +46,7 @@ def stated(text):
         module = re.match(r' *module \S+ (.*) where$', line)
         if module:
             modules.append((indent, module.group(1)))
-        law = re.match(r" *pub ([\w′-]+)(?: \{[^}]*\})? :(?: (.*))?$", line)
+        law = re.match(r" *pub ([\w'-]+)(?: \{[^}]*\})? :(?: (.*))?$", line)
         if law and record is None:
             said = [law.group(2) or '']
             for after in lines[at + 1:]:
@@ -60,7 +67,7 @@ def is_of_accepted(said, heads):
     premises = [tree(head) or [] for head in heads] + cut(tree(said) or [], '→')[:-1]
     takes = [part for premise in premises for part in [bare(premise)] + premise]
     plans = [part[-1] for part in takes if part[-2:-1] == ['Accepted'] and (len(part) == 2 or part[1:-2] == [':'])]
-    return any(re.search(r'(?<![\w.])%s(?![\w′])' % plan, said) for plan in plans)
+    return any(re.search(r"(?<![\w.])%s(?![\w'])" % plan, said) for plan in plans)
 
 
 def blocks(page):
@@ -68,7 +75,13 @@ def blocks(page):
     return re.split(r'\n\s*\n|\n(?=[-|]|\d+\. )', page)
 
 
-def named(block, exists):
+def definitions(text, is_page):
+    """The definitions of a file; of one that has no laws, `is_page`, all that is public."""
+    kinds = r'(?:(?:abbrev|unfoldable)(?: pub)?|pub)' if is_page else r'(?:abbrev|unfoldable)(?: pub)?'
+    return set(re.findall(r"(?m)^ *%s ([\w'-]+)(?: \{[^}]*\})? :" % kinds, bared(text)))
+
+
+def named(block, exists, others):
     """The theorems that a block names, and the files of laws that it names; a file of the crate `strategy` goes by its name alone."""
     names, files = [], []
     for code in coded(block):
@@ -77,7 +90,7 @@ def named(block, exists):
             files.append(code)
         elif re.fullmatch(r'[A-Z]\w+(\.antt)?', code) and exists(short):
             files.append(short)
-        elif THEOREM.match(code):
+        elif is_theorem(code, others):
             names.append(code)
     return names, files
 
@@ -106,16 +119,16 @@ def whole(page):
     return {name: ' '.join(said.split()) for name, said in found.items()}
 
 
-def faults(read, exists, every, pages, apart):
-    """What is wrong: `every` are all files of specs/, `pages` the texts of the pages, and `apart` the files of the front page whose laws are looked up by
-    operation."""
+def faults(read, exists, every, pages, apart, others):
+    """What is wrong: `every` are all files of specs/, `pages` the texts of the pages, `apart` the files of the front page whose laws are looked up by
+    operation, and `others` the names of other things than theorems."""
     texts = {path: stated(read(path)) for path in every}
     shown = front(read)
     known = set()
     for page, text in pages.items():
         always = [STRATEGY + 'Theorems.antt'] + shown if page == DEMAND else []
         for block in blocks(text):
-            names, files = named(block, exists)
+            names, files = named(block, exists, others)
             known |= set(names)
             within = files + always or every
             yield from ('%s: the theorem `%s` is not stated%s' % (page, name, ' in ' + ', '.join(files) if files else '')
