@@ -1,27 +1,28 @@
 """What a contract says. A promise determines its answer where it is an equation of the answer with a definition: one side is the result, a field
-of it, or a lent slice at the exit, and the other is a definition of what came in. A few named forms say the same of two things at once."""
+of it, or what a lent slice holds at the exit, and the other is a definition of what came in. A few named forms say the same of two things at once."""
 import re
 
-# What an `ensures` may say to determine something. In a form R is the result, X a parameter that is lent to be written, .F a field; T is a term of what came
-# in, and D one whose first word is a definition that the function's row of docs/PROMISES.md names, or the length of one. With each stands the law by which it determines R and X, and
-# the law's file; a form without a law leaves something open, and is for the operations which the page's table of exceptions names.
+# What an `ensures` may say to determine something. In a form R is the result, X a parameter that is lent to be written, of which X.old is what it holds as the
+# call begins and X.new what it holds at the return, .F a field; T is a term of what came in, and D one whose first word is a definition that the function's row
+# of docs/PROMISES.md names, or the length or a field of one. With each stands the law by which it determines R and X, and the law's file; a form without a law
+# leaves something open, and is for the operations which the page's table of exceptions names.
 ONLY = ('only', 'crates/text/specs/Unique.antt')
 FORMS = (
     ('R ≡ D', ONLY),
-    ('R .F ≡ D', ONLY),
-    ('now R ≡ D', ONLY),
-    ('now (R .F) ≡ D', ONLY),
-    ('now (X .exit) ≡ D', ONLY),
+    ('R.F ≡ D', ONLY),
+    ('R.now ≡ D', ONLY),
+    ('R.F.now ≡ D', ONLY),
+    ('X.new ≡ D', ONLY),
     # what a writer leaves in a slice, and the place behind it
-    ('Stored (now (X .entry)) T T (now (X .exit)) R', ('stored-unique', 'crates/text/specs/Unique.antt')),
+    ('Stored X.old T T X.new R', ('stored-unique', 'crates/text/specs/Unique.antt')),
     # whether there is a contradiction, and each weight: a record of the two
-    ('flat R (now (X .exit)) ≡ D', ('put-unique', 'crates/promises/specs/Uniqueness.antt')),
+    ('flat R X.new ≡ D', ('put-unique', 'crates/promises/specs/Uniqueness.antt')),
     # whether there is a contradiction, and else the weights of the nodes that remain
-    ('setIn T R (now (X .exit)) ≡ D', None),
+    ('set_in T R X.new ≡ D', None),
     # the times of the nodes of two windows
-    ('TimesHeld T (R .early) (R .late)', None),
+    ('TimesHeld T R.early R.late', None),
     # the joined table where a plan is settled
-    ('SettledOn T (rowsOf T (now (X .exit)))', None),
+    ('SettledOn T (rows_of T X.new)', None),
 )
 
 # A premise that may stand before a form, and what the function's `requires` must then say: that there is such a plan.
@@ -29,23 +30,41 @@ GIVEN = {'TableHeldFor': 'TableHeld'}
 
 # Words of a term that are no names: what is counted, joined or put in front of a list. Every other sign could make an equation a part of something weaker.
 SIGNS = {'+', '-', '*', '^', '++', '∷', '[]', '+ℤ', '&&'}
-NAME = re.compile(r"[\w'«»][\w'«».·-]*$|\.\w+$")
+NAME = re.compile(r"[\w'«»][\w'«».-]*$|\.\w+$")
+
+# What a clause calls the answer, and the words behind a value that are no fields of it: what a reference points to, and a parameter before and after the call.
+RESULT = 'result'
+STATES = {'.now', '.old', '.new', '.entry', '.exit'}
 
 
-def tree(text):
-    """A term as the list of its words, with a list for what stands in parentheses; None where they do not match."""
-    opened = [[]]
-    for word in re.findall(r'[(){}]|[^\s(){}]+', text):
+def tree(text, values=()):
+    """A term as the list of its words, with a list for what stands in parentheses; None where they do not match. What stands tight behind a closed
+    parenthesis or one of some values, as in (f x).seen and out.old, makes a list with it: a part of that value."""
+    opened, closed_at = [[]], None
+    for found in re.finditer(r'[(){}]|[^\s(){}]+', text):
+        word = found.group()
         if word in '({':
             opened[-1].append([])
             opened.append(opened[-1][-1])
-        elif word not in ')}':
-            opened[-1].append(word)
-        elif len(opened) == 1:
-            return None
-        else:
+        elif word in ')}':
+            if len(opened) == 1:
+                return None
             opened.pop()
+            closed_at = found.end()
+        elif re.match(r'\.\w', word):
+            if found.start() != closed_at:
+                return None
+            opened[-1][-1] = [opened[-1][-1]] + parts_of(word)
+        else:
+            base = re.match(r"[^.]*", word).group()
+            is_part = base.strip('«»') in values and re.match(r'\.\w', word[len(base):])
+            opened[-1].append([base] + parts_of(word[len(base):]) if is_part else word)
     return opened[0] if len(opened) == 1 else None
+
+
+def parts_of(word):
+    """The fields that a word has behind a value."""
+    return ['.' + name for name in word.split('.')[1:]]
 
 
 def words(term):
@@ -126,44 +145,51 @@ class Contract:
             self.unread.append('a result that lends')
         self.requires, self.ensures = [], []
         for clause in clauses:
-            said = re.fullmatch(r'(requires|ensures)\s*\{\s*(?:λ\s+(\S+)\.\s+)?⌜(.*)⌝\s*\}\s*', clause, re.S)
-            term = tree(said.group(3)) if said else None
-            if term is None or said.group(1) == 'ensures' and not said.group(2):
+            said = re.fullmatch(r'(requires|ensures)(?:\s+[a-z]\w*)?\s*\{(.*)\}\s*', clause, re.S)
+            plan = re.match(r"\s*\((\w[\w']*) : Plan\) →", said.group(2)) if said else None
+            term = tree(said.group(2), {name.strip('«»') for name in self.parameters} | {RESULT} | ({plan.group(1)} if plan else set())) if said else None
+            if term is None:
                 self.unread.append('`%s`' % ' '.join(clause.split()))
-            elif said.group(1) == 'ensures':
-                self.ensures.append((said.group(2), term))
             else:
-                self.requires.append(term)
+                (self.ensures if said.group(1) == 'ensures' else self.requires).append(term)
 
 
-def closed(term, result):
-    """Whether a term is one of what came in: no result, no exit, and no sign that could weaken what stands around it."""
+def closed(term, contract):
+    """Whether a term is one of what came in: no result, of a lent parameter what it held as the call began, and no sign that could weaken what stands around
+    it."""
     every = words(term)
-    return bool(every) and result not in every and '.exit' not in every and all(word in SIGNS or NAME.match(word) for word in every)
+    return (bool(every) and not {RESULT, '.new', '.exit'} & set(every) and all(word in SIGNS or NAME.match(word) for word in every)
+            and not set(words(lifted(term, contract))) & set(contract.lent))
 
 
-def matches(form, term, contract, result):
+def lifted(term, contract):
+    """A term without what lent parameters held as the call began."""
+    return [lifted(part, contract) if isinstance(part, list) else part
+            for part in term if not (isinstance(part, list) and part[0] in contract.lent and part[1] == '.old')]
+
+
+def matches(form, term, contract):
     """What a form says of a term, as a list of what it determines: `''` for the result, `.field`, or the name of a lent parameter; None where it is not of the
     form."""
     if form == 'T':
-        return [] if closed([term], result) else None
+        return [] if closed([term], contract) else None
     if isinstance(form, str) or isinstance(term, str):
-        if form == 'R' and term == result and result != '_':
+        if form == 'R' and term == RESULT:
             return ['']
         if form == 'X' and term in contract.lent:
             return [term]
-        if form == '.F' and isinstance(term, str) and term.startswith('.'):
+        if form == '.F' and isinstance(term, str) and term.startswith('.') and term not in STATES:
             return [term]
         return [] if form == term else None
     if len(form) != len(term):
         return None
-    if form == ['X', '.entry']:
-        return [] if term[0] in contract.lent and term[1] == '.entry' else None
-    found = [matches(part, piece, contract, result) for part, piece in zip(form, term)]
+    if form == ['X', '.old']:
+        return [] if term[0] in contract.lent and term[1] == '.old' else None
+    found = [matches(part, piece, contract) for part, piece in zip(form, term)]
     return None if None in found else [one for part in found for one in part]
 
 
-def equation(form, term, contract, result, defined):
+def equation(form, term, contract, defined):
     """The same of an equation, whose right side begins with a definition, or of a predicate that is one."""
     sides, forms = cut(term, '≡'), cut(form, '≡')
     if len(sides) != len(forms):
@@ -171,51 +197,44 @@ def equation(form, term, contract, result, defined):
     right = bare(sides[-1])
     if len(forms) == 2:
         counted = bare(right[1]) if right[:1] == ['length'] and len(right) == 2 and isinstance(right[1], list) else right
+        if len(counted) == 2 and isinstance(counted[0], list) and isinstance(counted[1], str) and counted[1].startswith('.'):
+            counted = bare(counted[0])
         head = counted[0] if counted and isinstance(counted[0], str) else ''
-        if plain(head) not in defined or head in contract.parameters or not closed(right, result):
+        if plain(head) not in defined or head in contract.parameters or not closed(right, contract):
             return None
     elif plain(forms[0][0]) not in defined:
         return None
-    found = matches(forms[0], sides[0], contract, result)
+    found = matches(forms[0], sides[0], contract)
     if found and any(one.startswith('.') for one in found):
         return [one for one in found if one]
     return found
 
 
-def stripped(term, contract, result):
+def stripped(term, contract):
     """A clause without the plan that it speaks of, where it speaks of every one, and without a premise that the `requires` grants."""
     term = bare(term)
-    if len(term) > 2 and isinstance(term[0], list) and term[0][1:] == [':', 'Plan'] and term[1] == '→' and term[0][0] not in [result] + contract.parameters:
+    if len(term) > 2 and isinstance(term[0], list) and term[0][1:] == [':', 'Plan'] and term[1] == '→' and term[0][0] not in [RESULT] + contract.parameters:
         plan, parts = term[0][0], cut(term[2:], '→')
         premise = parts[0]
-        if len(parts) == 2 and premise[0] in GIVEN and premise[1] == plan:
-            granted = [GIVEN[premise[0]]] + at_entry(premise[2:])
-            return parts[1] if granted in [at_entry(bare(one)) for one in contract.requires] else term
+        if len(parts) == 2 and isinstance(premise[0], str) and premise[0] in GIVEN and premise[1] == plan:
+            granted = [GIVEN[premise[0]]] + premise[2:]
+            return parts[1] if granted in [bare(one) for one in contract.requires] else term
         return parts[0] if len(parts) == 1 else term
     return term
 
 
-def at_entry(term):
-    """A term in which what a parameter holds is written `now x`, as in a `requires`."""
-    if isinstance(term, str):
-        return term
-    if len(term) == 2 and term[1] == '.entry':
-        return term[0]
-    return [at_entry(part) for part in term]
-
-
 def told(contract, defined):
     """Of each part of each `ensures`: its term, the form that it has and what it determines; the form is None where it determines nothing."""
-    for result, term in contract.ensures:
+    for term in contract.ensures:
         for part in conjuncts(term):
-            part = stripped(part, contract, result)
+            part = stripped(part, contract)
             for form, law in FORMS:
-                found = equation(tree(form), part, contract, result, defined)
+                found = equation(tree(form, {'R', 'X'}), part, contract, defined)
                 if found is not None:
-                    yield result, part, form, law, found
+                    yield part, form, law, found
                     break
             else:
-                yield result, part, None, None, []
+                yield part, None, None, []
 
 
 def fields(sources, kind):
@@ -232,7 +251,7 @@ def undetermined(contract, defined, sources, is_excepted):
     """What a contract leaves open."""
     yield from ('%s is not understood' % one for one in contract.unread)
     found, heads = set(), set()
-    for _, part, form, law, said in told(contract, defined):
+    for part, form, law, said in told(contract, defined):
         if form and (law or is_excepted):
             found |= set(said)
             heads |= {plain(word) for word in words(part)}
@@ -251,9 +270,10 @@ def undetermined(contract, defined, sources, is_excepted):
 
 def statement(text, name):
     """What a law of a file says, and the names that it and the modules of the file bind; (None, ..) where there is no such law."""
-    found = re.search(r'(?ms)^( *)pub %s(?: \{[^}]*\})? :(.*?)^\1(?:unfolding\b|%s(?![\w′-]))' % (re.escape(name), re.escape(name)), text)
+    found = re.search(r'(?ms)^( *)pub %s(?: \{[^}]*\})? :(.*?)^\1(?:unfolding\b|%s(?![\w\'-]))' % (re.escape(name), re.escape(name)), text)
     heads = ' '.join(re.findall(r'(?m)^ *module _ (.*) where$', text))
-    return (tree(found.group(2)) if found else None), bound(tree(heads) + (tree(found.group(2)) if found else []))
+    names = bound(tree(heads) + (tree(found.group(2)) if found else []))
+    return (tree(found.group(2), names) if found else None), names
 
 
 def bound(term):
@@ -266,8 +286,8 @@ def bound(term):
 
 
 def held(term):
-    """A term without `now`: a law speaks of lists, and a contract of what a parameter holds."""
-    parts = [held(part) if isinstance(part, list) else part for part in term if part != 'now']
+    """A term without `.now`: a law speaks of lists, and a contract of what a reference points to."""
+    parts = [held(part) if isinstance(part, list) else part for part in term if part != '.now']
     return parts[0] if len(parts) == 1 else parts
 
 
@@ -280,7 +300,7 @@ def fits(pattern, term, names, taken):
     return len(pattern) == len(term) and all(fits(one, other, names, taken) for one, other in zip(pattern, term))
 
 
-def says(law, names, part, parameters, result):
+def says(law, names, part, parameters):
     """Whether a premise of a law is a part of a contract: each name of the law stands for something that came in or for the answer, and a name that is also a
     parameter's for that parameter."""
     for premise in cut(law, '→')[:-1]:
@@ -289,20 +309,30 @@ def says(law, names, part, parameters, result):
             taken = {}
             if len(sides) == len(others) and all(fits(held(bare(one)), held(bare(other)), names, taken) for one, other in zip(sides, others)):
                 spoken = {name: {plain(word).strip('«»') for word in words([term])} for name, term in taken.items()}
-                if all(said & ({name} if name in parameters else parameters | {result}) for name, said in spoken.items()):
+                if all(said & ({name} if name in parameters else parameters | {RESULT}) for name, said in spoken.items()):
                     return True
     return False
 
 
 def unsaid(contract, defined, laws):
     """The parts of a contract that determine something and of which no law of uniqueness speaks; each law is its statement and its names."""
-    every = [bare(term)[0][0] for _, term in contract.ensures if isinstance(bare(term)[0], list) and bare(term)[0][1:] == [':', 'Plan']]
+    every = [bare(term)[0][0] for term in contract.ensures if isinstance(bare(term)[0], list) and bare(term)[0][1:] == [':', 'Plan']]
     parameters = {name.strip('«»') for name in contract.parameters + every}
-    for result, part, form, law, _ in told(contract, defined):
-        if form and law and not any(says(one, names, part, parameters, result) for one, names in laws if one):
+    for part, form, law, _ in told(contract, defined):
+        if form and law and not any(says(one, names, part, parameters) for one, names in laws if one):
             yield '`%s`' % shown(part)
 
 
 def shown(term):
     """A term as it is written."""
-    return ' '.join('(%s)' % shown(part) if isinstance(part, list) else part for part in term)
+    return ' '.join(part if isinstance(part, str) else tight(part) if is_part(part) else '(%s)' % shown(part) for part in term)
+
+
+def is_part(term):
+    """Whether a term is a part of a value."""
+    return len(term) > 1 and all(isinstance(one, str) and one.startswith('.') for one in term[1:])
+
+
+def tight(term):
+    """A part of a value as it is written."""
+    return (term[0] if isinstance(term[0], str) else '(%s)' % shown(term[0])) + ''.join(term[1:])
