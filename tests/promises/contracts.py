@@ -67,6 +67,11 @@ def parts_of(word):
     return ['.' + name for name in word.split('.')[1:]]
 
 
+def is_part(term):
+    """Whether a term is a part of a value."""
+    return len(term) > 1 and all(isinstance(one, str) and one.startswith('.') for one in term[1:])
+
+
 def words(term):
     """All words of a term."""
     return [word for part in term for word in (words(part) if isinstance(part, list) else [part])]
@@ -120,7 +125,7 @@ class Contract:
 
     def __init__(self, text):
         self.unread = []
-        head, *clauses = re.split(r'(?m)^\s*(?=(?:requires|ensures)\b)', text)
+        head, *clauses = re.split(r'(?m)^\s*(?=(?:requires|ensures|ghost)\b)', text)
         inside, depth = '', 0
         rest = head[head.index('(', head.index('fn ')):]
         for at, letter in enumerate(rest):
@@ -143,6 +148,8 @@ class Contract:
         self.type = rest.split('->')[1].strip().rstrip('{').strip() if '->' in rest else None
         if self.type and re.search(r"&('\w+ )?mut\b", self.type):
             self.unread.append('a result that lends')
+        if RESULT in self.parameters:
+            self.unread.append('a parameter `%s`' % RESULT)
         self.requires, self.ensures = [], []
         for clause in clauses:
             said = re.fullmatch(r'(requires|ensures)(?:\s+[a-z]\w*)?\s*\{(.*)\}\s*', clause, re.S)
@@ -165,7 +172,7 @@ def closed(term, contract):
 def lifted(term, contract):
     """A term without what lent parameters held as the call began."""
     return [lifted(part, contract) if isinstance(part, list) else part
-            for part in term if not (isinstance(part, list) and part[0] in contract.lent and part[1] == '.old')]
+            for part in term if not (isinstance(part, list) and len(part) > 1 and part[0] in contract.lent and part[1] == '.old')]
 
 
 def matches(form, term, contract):
@@ -197,7 +204,7 @@ def equation(form, term, contract, defined):
     right = bare(sides[-1])
     if len(forms) == 2:
         counted = bare(right[1]) if right[:1] == ['length'] and len(right) == 2 and isinstance(right[1], list) else right
-        if len(counted) == 2 and isinstance(counted[0], list) and isinstance(counted[1], str) and counted[1].startswith('.'):
+        if is_part(counted) and isinstance(counted[0], list):
             counted = bare(counted[0])
         head = counted[0] if counted and isinstance(counted[0], str) else ''
         if plain(head) not in defined or head in contract.parameters or not closed(right, contract):
@@ -216,7 +223,7 @@ def stripped(term, contract):
     if len(term) > 2 and isinstance(term[0], list) and term[0][1:] == [':', 'Plan'] and term[1] == '→' and term[0][0] not in [RESULT] + contract.parameters:
         plan, parts = term[0][0], cut(term[2:], '→')
         premise = parts[0]
-        if len(parts) == 2 and isinstance(premise[0], str) and premise[0] in GIVEN and premise[1] == plan:
+        if len(parts) == 2 and len(premise) > 1 and isinstance(premise[0], str) and premise[0] in GIVEN and premise[1] == plan:
             granted = [GIVEN[premise[0]]] + premise[2:]
             return parts[1] if granted in [bare(one) for one in contract.requires] else term
         return parts[0] if len(parts) == 1 else term
@@ -326,11 +333,6 @@ def unsaid(contract, defined, laws):
 def shown(term):
     """A term as it is written."""
     return ' '.join(part if isinstance(part, str) else tight(part) if is_part(part) else '(%s)' % shown(part) for part in term)
-
-
-def is_part(term):
-    """Whether a term is a part of a value."""
-    return len(term) > 1 and all(isinstance(one, str) and one.startswith('.') for one in term[1:])
 
 
 def tight(term):
