@@ -36,7 +36,7 @@ use Rattle.runs.specs.ValueStepLaws as value-laws
 use Rattle.strategy.specs.Histories.{History, ran_for, turn}
 use Rattle.strategy.specs.Strategies.{Kept, StrategyAfter, StrategyFor, StrategyForAll}
 use Rattle.strategy.specs.Reaching.{AtTurn, history_after, Reached, ReachedWith, StepEffect}
-use Rattle.strategy.specs.Theorems as demand-3
+use Rattle.strategy.proofs.Theorems as demand-3
 use Rattle.promises.specs.ValueRuns.{InsideReached, values-from-new}
 
 -- ---- demand 1: 'A refusal moves neither the run ..'

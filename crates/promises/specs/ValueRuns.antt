@@ -20,7 +20,7 @@ use Rattle.runs.specs.ValueStepLaws.{step-inside, step-outside}
 use Rattle.runs.specs.KeepsLaws.{new_run-is, step_keeps}
 use Rattle.runs.specs.MadeLaws.{made_inside}
 use Rattle.strategy.specs.Reaching.{begun, ReachedWith}
-use Rattle.strategy.specs.ReachingLaws.{step-reached}
+use Rattle.strategy.proofs.ReachingLaws.{step-reached}
 
 pub record InsideReached (p : Plan) (c : Calendar) (r : Run) : Type 0 where
   pub inside : Inside p c r

@@ -24,10 +24,10 @@ use Rattle.bounds.specs.BuildLaws.{both_true, event_of-node_of}
 use Rattle.rounds.specs.Given.{meant, has_next, given_bounds, up_to, down_to, in_order, ranges, orders, own_bounds, between_bounds}
 use Rattle.strategy.specs.Histories.{History}
 use Rattle.strategy.specs.Strategies.{bound_in}
-use Rattle.strategy.specs.Keeping.{Holds, when, gap, Keeps}
-use Rattle.strategy.specs.AcceptedLaws.{one-this, bounds-there}
-use Rattle.strategy.specs.CellLaws.{least_iff}
-use Rattle.strategy.specs.EliminationLaws.{below-or-last}
+use Rattle.strategy.proofs.Keeping.{Holds, when, gap, Keeps}
+use Rattle.strategy.proofs.AcceptedLaws.{one-this, bounds-there}
+use Rattle.strategy.proofs.CellLaws.{least_iff}
+use Rattle.strategy.proofs.EliminationLaws.{below-or-last}
 
 -- ---- the plan's bounds, place by place and as a list
 

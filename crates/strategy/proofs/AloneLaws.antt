@@ -25,10 +25,10 @@ use Rattle.bounds.specs.Elimination.{only_if, finish_cell, start_cell, without_f
 use Rattle.bounds.specs.BuildLaws.{event_of-start, event_of-finish, by_node}
 use Rattle.rounds.specs.Rounds.{own_nodes, shift_of}
 use Rattle.rounds.specs.Next.{onto}
-use Rattle.strategy.specs.SetLaws.{judged_set-at, judged_set-agrees, judged_set-some}
-use Rattle.strategy.specs.PlaceLaws.{then_set-bounds}
-use Rattle.strategy.specs.WindowLaws.{this-shift}
-use Rattle.strategy.specs.JoinedLaws.{next_node, next-later, moved_later, event-next-start, event-next-finish, job-next, next-shift}
+use Rattle.strategy.proofs.SetLaws.{judged_set-at, judged_set-agrees, judged_set-some}
+use Rattle.strategy.proofs.PlaceLaws.{then_set-bounds}
+use Rattle.strategy.proofs.WindowLaws.{this-shift}
+use Rattle.strategy.proofs.JoinedLaws.{next_node, next-later, moved_later, event-next-start, event-next-finish, job-next, next-shift}
 
 -- ---- a judgement moved by a window
 

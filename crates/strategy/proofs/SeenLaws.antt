@@ -16,8 +16,8 @@ use Rattle.plan.specs.declared.Plan.{Plan}
 use Rattle.plan.specs.PlanLines.{no_job}
 use Rattle.strategy.specs.Histories.{Ran, History, no_ran, ran_for, turn, on_window, seen_from}
 use Rattle.strategy.specs.Strategies.{ran_in, Forced}
-use Rattle.strategy.specs.Keeping.{RunsInside}
-use Rattle.strategy.specs.HistoryLaws.{length_more}
+use Rattle.strategy.proofs.Keeping.{RunsInside}
+use Rattle.strategy.proofs.HistoryLaws.{length_more}
 
 -- ---- lists
 

@@ -46,7 +46,7 @@ use Rattle.runs.specs.Seen.{time_at, first_seen}
 use Rattle.runs.specs.Offers.{turn_of, term_at, offer_of}
 use Rattle.runs.specs.Steps.{OnOffer}
 use Rattle.runs.specs.OfferLaws.{PastTerms, AtOrAbove, AtOrBelow, AboveLower, BelowUpper, offer_at-from-iff, offer_at-to-iff}
-use Rattle.strategy.specs.Keeping.{Holds}
+use Rattle.strategy.proofs.Keeping.{Holds}
 
 -- ---- what the calendar holds
 

@@ -9,10 +9,10 @@ use Rattle.plan.specs.declared.Plan.{Plan}
 use Rattle.plan.specs.Accepted.{Accepted}
 use Rattle.strategy.specs.Histories.{Ran, History, no_ran, ran_for, turn, on_window, seen_from}
 use Rattle.strategy.specs.Strategies.{ran_in, place_in, bound_in, KeptIn, Kept, Forced}
-use Rattle.strategy.specs.EliminationLaws.{below-or-last}
-use Rattle.strategy.specs.HistoryLaws.{Follows, length_more, ran-new, each_more, turn-min-max, forced-play}
-use Rattle.strategy.specs.WindowLaws.{Held, place-two}
-use Rattle.strategy.specs.SeenLaws.{at-most-or-above, length_seen, ran-seen, seen_more, seen_none}
+use Rattle.strategy.proofs.EliminationLaws.{below-or-last}
+use Rattle.strategy.proofs.HistoryLaws.{Follows, length_more, ran-new, each_more, turn-min-max, forced-play}
+use Rattle.strategy.proofs.WindowLaws.{Held, place-two}
+use Rattle.strategy.proofs.SeenLaws.{at-most-or-above, length_seen, ran-seen, seen_more, seen_none}
 
 -- ---- one window and the next
 
@@ -199,7 +199,7 @@ module _ (p : Plan) where
       room t (pos j *ℤ p.window) (turn p i).max (turn p i).deadline (subst (λ x. ((t +ℤ x) -ℤ pos j *ℤ p.window) ≤ℤ (turn p i).deadline) max-is d)
     where
       max-is : (turn p (length h)).max ≡ (turn p i).max
-      max-is = ap (λ j. j.max) (ap (turn p) k ∙ Rattle.strategy.specs.SeenLaws.turn-seen p j i)
+      max-is = ap (λ j. j.max) (ap (turn p) k ∙ Rattle.strategy.proofs.SeenLaws.turn-seen p j i)
 
   pub forced-leaves_room : Accepted p → (Q : History → Type 0) → ((h : History) → Q h → Kept p h) → (g : ℕ) (h : History) → LeavesRoom h
       → Forced p Q g h → Forced p (λ h. Q h × LeavesRoom h) g h

@@ -16,10 +16,10 @@ use Rattle.text.specs.Numbers.{within}
 use Rattle.runs.specs.ValueLimits.{last_time}
 use Rattle.strategy.specs.Histories.{Ran, History, ran_for, turn, on_window, seen_from}
 use Rattle.strategy.specs.Strategies.{ran_in, KeptIn, StrategyAfter}
-use Rattle.strategy.specs.HistoryLaws.{length_more, ran-new, turn-min-max}
-use Rattle.strategy.specs.SeenLaws.{length_seen, ran-seen}
-use Rattle.strategy.specs.AcceptedLaws.{turn-accepted}
-use Rattle.strategy.specs.RoundLaws.{strategy-kept}
+use Rattle.strategy.proofs.HistoryLaws.{length_more, ran-new, turn-min-max}
+use Rattle.strategy.proofs.SeenLaws.{length_seen, ran-seen}
+use Rattle.strategy.proofs.AcceptedLaws.{turn-accepted}
+use Rattle.strategy.proofs.RoundLaws.{strategy-kept}
 
 module _ (p : Plan) (good : Accepted p) (h : History) (j i g : ℕ) (size : length h ≡ j * p.jobs + i) (job : i < p.jobs) (t : ℤ)
     (s : StrategyAfter p h t g) where

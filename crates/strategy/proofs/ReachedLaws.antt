@@ -28,12 +28,12 @@ use Rattle.runs.specs.AnswerLaws.{answer-empty, ask-offered, start-taken, start-
 use Rattle.strategy.specs.Histories.{Ran, History, ran_for, turn}
 use Rattle.strategy.specs.Strategies.{Kept, StrategyAfter}
 use Rattle.strategy.specs.Reaching.{AtTurn, with_finish, history_after, Reached, begun, more, StepEffect, nothing, start-on-offer, finish-inside-times}
-use Rattle.strategy.specs.ReachingLaws.{turn-job, step-effect}
+use Rattle.strategy.proofs.ReachingLaws.{turn-job, step-effect}
 use Rattle.plan.specs.Accepted.{Accepted}
-use Rattle.strategy.specs.TimeLaws.{start-time}
-use Rattle.strategy.specs.KeptLaws.{always-kept}
-use Rattle.strategy.specs.VerdictLaws.{IsSettled, settled_is}
-use Rattle.strategy.specs.GameLaws.{
+use Rattle.strategy.proofs.TimeLaws.{start-time}
+use Rattle.strategy.proofs.KeptLaws.{always-kept}
+use Rattle.strategy.proofs.VerdictLaws.{IsSettled, settled_is}
+use Rattle.strategy.proofs.GameLaws.{
   Settling,
   settling,
   Winnable,
@@ -44,9 +44,9 @@ use Rattle.strategy.specs.GameLaws.{
   winning-strategies,
   strategies-winning,
 }
-use Rattle.strategy.specs.RunLaws.{ShowsHistory}
-use Rattle.strategy.specs.WinningLaws.{offer-winning, winning-offer, offer-some}
-use Rattle.strategy.specs.ShowsLaws.{goes_on, next-begins}
+use Rattle.strategy.proofs.RunLaws.{ShowsHistory}
+use Rattle.strategy.proofs.WinningLaws.{offer-winning, winning-offer, offer-some}
+use Rattle.strategy.proofs.ShowsLaws.{goes_on, next-begins}
 
 module _ (p : Plan) (good : Accepted p) (m : ℕ) (c : Rows) (s : IsSettled p good m c) (f : Settling p good m c s) where
   -- it waits for the start of job i + 1 of window j + 1

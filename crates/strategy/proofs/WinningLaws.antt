@@ -16,12 +16,12 @@ use Rattle.runs.specs.declared.Offer.{Offer}
 use Rattle.runs.specs.Offers.{offer_of}
 use Rattle.runs.specs.Steps.{OnOffer}
 use Rattle.strategy.specs.Histories.{History}
-use Rattle.strategy.specs.CellLaws.{bounded-cell}
-use Rattle.strategy.specs.VerdictLaws.{IsSettled}
-use Rattle.strategy.specs.PlaceLaws.{WellFormed}
-use Rattle.strategy.specs.StageLaws.{Stages, before-well_formed, length-tables}
-use Rattle.strategy.specs.OfferLaws.{StartFits, offer-start_fits, start_fits-offer}
-use Rattle.strategy.specs.GameLaws.{
+use Rattle.strategy.proofs.CellLaws.{bounded-cell}
+use Rattle.strategy.proofs.VerdictLaws.{IsSettled}
+use Rattle.strategy.proofs.PlaceLaws.{WellFormed}
+use Rattle.strategy.proofs.StageLaws.{Stages, before-well_formed, length-tables}
+use Rattle.strategy.proofs.OfferLaws.{StartFits, offer-start_fits, start_fits-offer}
+use Rattle.strategy.proofs.GameLaws.{
   Settling,
   Winnable,
   Winning,
@@ -33,7 +33,7 @@ use Rattle.strategy.specs.GameLaws.{
   later-well_formed,
   later-fits,
 }
-use Rattle.strategy.specs.RunLaws.{ShowsHistory, later-start_fits, start_fits-later, first-start_fits, start_fits-first}
+use Rattle.strategy.proofs.RunLaws.{ShowsHistory, later-start_fits, start_fits-later, first-start_fits, start_fits-first}
 
 module _ (p : Plan) (good : Accepted p) (m : ℕ) (c : Rows) (s : IsSettled p good m c) (f : Settling p good m c s) where
   abbrev ts : List Rows

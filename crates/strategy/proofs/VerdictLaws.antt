@@ -31,10 +31,10 @@ use Rattle.rounds.specs.Rounds.{
 }
 use Rattle.rounds.specs.SameLaws.{same_rows-unique}
 use Rattle.strategy.specs.Strategies.{Strategy, StrategyFor, StrategyForAll}
-use Rattle.strategy.specs.EliminationLaws.{below-or-last}
-use Rattle.strategy.specs.RoundLaws.{C, round-parts}
-use Rattle.strategy.specs.BeginLaws.{nothing-kept, begin-none, begin-own, begin-alone, begin-strategy}
-use Rattle.strategy.specs.FirstLaws.{round-alone}
+use Rattle.strategy.proofs.EliminationLaws.{below-or-last}
+use Rattle.strategy.proofs.RoundLaws.{C, round-parts}
+use Rattle.strategy.proofs.BeginLaws.{nothing-kept, begin-none, begin-own, begin-alone, begin-strategy}
+use Rattle.strategy.proofs.FirstLaws.{round-alone}
 
 module _ (p : Plan) (good : Accepted p) where
   pub C-next : (m : ℕ) (c0 c : Rows) → C0 p ≡ bounds c0 → C p m ≡ bounds c → C p (suc m) ≡ round p c0 c

@@ -24,13 +24,13 @@ use Rattle.runs.specs.SeenLaws.{first_seen-most}
 use Rattle.rounds.specs.Next.{onto}
 use Rattle.strategy.specs.Histories.{Ran, History, seen_from}
 use Rattle.strategy.specs.Strategies.{ran_in}
-use Rattle.strategy.specs.Keeping.{Holds, when}
-use Rattle.strategy.specs.CellLaws.{plus-iff}
-use Rattle.strategy.specs.SeenLaws.{at-most-or-above, ran-seen}
-use Rattle.strategy.specs.JoinedLaws.{next_node, next-later, moved_later}
-use Rattle.strategy.specs.AloneLaws.{MovedCells}
-use Rattle.strategy.specs.StageLaws.{Allowed}
-use Rattle.strategy.specs.OfferLaws.{InForce, table_begin, node_time, StartFits}
+use Rattle.strategy.proofs.Keeping.{Holds, when}
+use Rattle.strategy.proofs.CellLaws.{plus-iff}
+use Rattle.strategy.proofs.SeenLaws.{at-most-or-above, ran-seen}
+use Rattle.strategy.proofs.JoinedLaws.{next_node, next-later, moved_later}
+use Rattle.strategy.proofs.AloneLaws.{MovedCells}
+use Rattle.strategy.proofs.StageLaws.{Allowed}
+use Rattle.strategy.proofs.OfferLaws.{InForce, table_begin, node_time, StartFits}
 
 -- ---- what a run shows
 

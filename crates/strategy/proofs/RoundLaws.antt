@@ -16,13 +16,13 @@ use Rattle.bounds.specs.BuildLaws.{event_of-start, event_of-finish, by_node}
 use Rattle.rounds.specs.Rounds.{C0, joined, round}
 use Rattle.strategy.specs.Histories.{History, no_ran, seen_from}
 use Rattle.strategy.specs.Strategies.{Kept, Forced, Strategy}
-use Rattle.strategy.specs.Keeping.{when, Keeps, RunsInside}
-use Rattle.strategy.specs.HistoryLaws.{Follows, forced-map, forced-split, forced-join, forced-play}
-use Rattle.strategy.specs.PlaceLaws.{WellFormed, then_set-bounds, elim-well_formed, elim-keeps, elim-back}
-use Rattle.strategy.specs.WindowLaws.{Held, held-own, held_across, own_held}
-use Rattle.strategy.specs.SeenLaws.{length_seen, runs_inside-seen, forced-seen, seen-forced, seen_next}
-use Rattle.strategy.specs.KeptLaws.{Always, kept-before, held_next, LeavesRoom, held_of, leaves_room-of, always-kept, forced-leaves_room}
-use Rattle.strategy.specs.JoinedLaws.{C0-well_formed, C0-keeps, C0-back, Both, joined-well_formed, joined_keeps, joined_back}
+use Rattle.strategy.proofs.Keeping.{when, Keeps, RunsInside}
+use Rattle.strategy.proofs.HistoryLaws.{Follows, forced-map, forced-split, forced-join, forced-play}
+use Rattle.strategy.proofs.PlaceLaws.{WellFormed, then_set-bounds, elim-well_formed, elim-keeps, elim-back}
+use Rattle.strategy.proofs.WindowLaws.{Held, held-own, held_across, own_held}
+use Rattle.strategy.proofs.SeenLaws.{length_seen, runs_inside-seen, forced-seen, seen-forced, seen_next}
+use Rattle.strategy.proofs.KeptLaws.{Always, kept-before, held_next, LeavesRoom, held_of, leaves_room-of, always-kept, forced-leaves_room}
+use Rattle.strategy.proofs.JoinedLaws.{C0-well_formed, C0-keeps, C0-back, Both, joined-well_formed, joined_keeps, joined_back}
 
 -- 'C(0) is one window's own bounds. Round m (m from 1): put C(m-1) on the next window, C(0) on this one, ..'
 unfoldable pub C : Plan → ℕ → Set

@@ -16,7 +16,7 @@ use Rattle.bounds.specs.Events.{job_at, earliest, latest}
 use Rattle.bounds.specs.Judgements.{judged, judged_same, judged_running, judged_reverse, judged_origin, judged_apart, at_least}
 use Rattle.strategy.specs.Histories.{History}
 use Rattle.strategy.specs.Strategies.{ran_in}
-use Rattle.strategy.specs.Keeping.{when, RunsWithin, EventInRange, long_or_short}
+use Rattle.strategy.proofs.Keeping.{when, RunsWithin, EventInRange, long_or_short}
 
 -- ---- the tests
 

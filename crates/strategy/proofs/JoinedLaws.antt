@@ -25,14 +25,14 @@ use Rattle.rounds.specs.OnNextLaws as on-next
 use Rattle.rounds.specs.OnNextLaws.{onto-event, shift_by-event, on_next-onto}
 use Rattle.strategy.specs.Histories.{History, on_window, seen_from, turn}
 use Rattle.strategy.specs.Strategies.{ran_in}
-use Rattle.strategy.specs.Keeping.{Holds, when, gap, Keeps, RunsInside, OriginBounded, NodesSeen}
-use Rattle.strategy.specs.CellLaws.{least_iff, plus-iff}
-use Rattle.strategy.specs.SetLaws.{job_at-turn, judged_set-past, judged-keeps, judged-back, judged-none}
-use Rattle.strategy.specs.HistoryLaws.{Fails}
-use Rattle.strategy.specs.PlaceLaws.{WellFormed, judged-well_formed}
-use Rattle.strategy.specs.GivenLaws.{BetweenKept, least_of-pair_kept, least_of-kept, kept-least_of, PairKept, all_own}
-use Rattle.strategy.specs.WindowLaws.{own_below, across-below, this-shift}
-use Rattle.strategy.specs.SeenLaws.{at-most-or-above, ran-seen, turn-seen}
+use Rattle.strategy.proofs.Keeping.{Holds, when, gap, Keeps, RunsInside, OriginBounded, NodesSeen}
+use Rattle.strategy.proofs.CellLaws.{least_iff, plus-iff}
+use Rattle.strategy.proofs.SetLaws.{job_at-turn, judged_set-past, judged-keeps, judged-back, judged-none}
+use Rattle.strategy.proofs.HistoryLaws.{Fails}
+use Rattle.strategy.proofs.PlaceLaws.{WellFormed, judged-well_formed}
+use Rattle.strategy.proofs.GivenLaws.{BetweenKept, least_of-pair_kept, least_of-kept, kept-least_of, PairKept, all_own}
+use Rattle.strategy.proofs.WindowLaws.{own_below, across-below, this-shift}
+use Rattle.strategy.proofs.SeenLaws.{at-most-or-above, ran-seen, turn-seen}
 
 -- ---- C(0)
 

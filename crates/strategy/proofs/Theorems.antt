@@ -27,14 +27,14 @@ use Rattle.runs.specs.StepEffectLaws.{started-running, final-next, final-over}
 use Rattle.strategy.specs.Histories.{History, ran_for, turn, seen_from}
 use Rattle.strategy.specs.Strategies.{Kept, Forced, Strategy, StrategyAfter, StrategyFor, StrategyForAll}
 use Rattle.strategy.specs.Reaching.{AtTurn, history_after, Reached, ReachedWith, StepEffect}
-use Rattle.strategy.specs.Keeping.{Keeps, RunsInside, LongOrShort, OriginBounded, NodesSeen}
-use Rattle.strategy.specs.SetLaws.{judged-iff, judged-none}
-use Rattle.strategy.specs.EliminationLaws.{KeepsAt, set_at, finish-iff, start-iff}
-use Rattle.strategy.specs.KeptLaws.{LeavesRoom}
-use Rattle.strategy.specs.RoundLaws.{C, strategy-kept, strategy-keeps, keeps-strategy}
-use Rattle.strategy.specs.VerdictLaws.{settled_is, settled-from-then, settled-strategy, settled-outcome, none_is, none-outcome}
-use Rattle.strategy.specs.GameLaws.{fewer-windows}
-use Rattle.strategy.specs.ReachedLaws.{
+use Rattle.strategy.proofs.Keeping.{Keeps, RunsInside, LongOrShort, OriginBounded, NodesSeen}
+use Rattle.strategy.proofs.SetLaws.{judged-iff, judged-none}
+use Rattle.strategy.proofs.EliminationLaws.{KeepsAt, set_at, finish-iff, start-iff}
+use Rattle.strategy.proofs.KeptLaws.{LeavesRoom}
+use Rattle.strategy.proofs.RoundLaws.{C, strategy-kept, strategy-keeps, keeps-strategy}
+use Rattle.strategy.proofs.VerdictLaws.{settled_is, settled-from-then, settled-strategy, settled-outcome, none_is, none-outcome}
+use Rattle.strategy.proofs.GameLaws.{fewer-windows}
+use Rattle.strategy.proofs.ReachedLaws.{
   reached-kept,
   reached-some,
   reached-offer,
@@ -50,7 +50,7 @@ use Rattle.strategy.specs.ReachedLaws.{
   reached-final,
   reached-outside,
 }
-use Rattle.strategy.specs.ReachingLaws as reaching-laws
+use Rattle.strategy.proofs.ReachingLaws as reaching-laws
 
 -- ---- what a strategy is, as equations
 

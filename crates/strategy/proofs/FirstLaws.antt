@@ -23,13 +23,13 @@ use Rattle.rounds.specs.Given.{place_of, event_at, between_bounds}
 use Rattle.rounds.specs.Rounds.{C0, own_nodes, shift_of, on_next, joined}
 use Rattle.rounds.specs.OnNextLaws.{on_next-onto}
 use Rattle.rounds.specs.Next.{onto}
-use Rattle.strategy.specs.SetLaws.{judged_set-at}
-use Rattle.strategy.specs.PlaceLaws.{then_set-bounds}
-use Rattle.strategy.specs.GivenLaws.{listed-accepted, listed-one-this, across-all}
-use Rattle.strategy.specs.WindowLaws.{place-this}
-use Rattle.strategy.specs.JoinedLaws.{C0-well_formed, C0-past, next_node, next-later, joined_cell}
-use Rattle.strategy.specs.RoundLaws.{C, Round, round-parts}
-use Rattle.strategy.specs.AloneLaws.{MovedCells, shifted, next-below, judgement-next, kept-plus, elim-shifted}
+use Rattle.strategy.proofs.SetLaws.{judged_set-at}
+use Rattle.strategy.proofs.PlaceLaws.{then_set-bounds}
+use Rattle.strategy.proofs.GivenLaws.{listed-accepted, listed-one-this, across-all}
+use Rattle.strategy.proofs.WindowLaws.{place-this}
+use Rattle.strategy.proofs.JoinedLaws.{C0-well_formed, C0-past, next_node, next-later, joined_cell}
+use Rattle.strategy.proofs.RoundLaws.{C, Round, round-parts}
+use Rattle.strategy.proofs.AloneLaws.{MovedCells, shifted, next-below, judgement-next, kept-plus, elim-shifted}
 
 -- ---- no bound between windows is one of the next window alone
 

@@ -24,8 +24,8 @@ use Rattle.bounds.specs.Tables.{Cell, off, upto, Rows, at, build, judgement, is_
 use Rattle.bounds.specs.BuildLaws.{at-build, at-build-past, any_below-some, any_below-none, event_of-start, event_of-finish, by_node, not-origin}
 use Rattle.bounds.specs.JudgementsLaws.{judged-from-origin, judged-to-origin}
 use Rattle.strategy.specs.Histories.{History, turn}
-use Rattle.strategy.specs.Keeping.{Holds, gap, Keeps, RunsInside, LongOrShort, EventInRange, OriginBounded, NodesSeen}
-use Rattle.strategy.specs.JudgementLaws.{Fits, FitsAt, judged-left, judged-never}
+use Rattle.strategy.proofs.Keeping.{Holds, gap, Keeps, RunsInside, LongOrShort, EventInRange, OriginBounded, NodesSeen}
+use Rattle.strategy.proofs.JudgementLaws.{Fits, FitsAt, judged-left, judged-never}
 
 -- ---- the job at a place of two windows is the one whose turn it is
 

@@ -4,7 +4,7 @@ use Rattle.std.specs.Int.Signed.{le_z}
 use Rattle.whole.specs.Rules.{wholes}
 use Rattle.bounds.specs.Tables.{Cell, off, upto, lesser_cell, plus, join}
 use Rattle.bounds.specs.Elimination.{only_if}
-use Rattle.strategy.specs.Keeping.{Holds}
+use Rattle.strategy.proofs.Keeping.{Holds}
 
 lesser-holds : (w v x : ℤ) (b : Bool) → le_z w v ≡ b → Holds (cond b (upto w) (upto v)) x ↔ ((x ≤ℤ w) × (x ≤ℤ v))
 lesser-holds w v x true e = omega wholes

@@ -27,7 +27,7 @@ use Rattle.strategy.specs.Reaching.{
   start-on-offer,
   finish-inside-times,
 }
-use Rattle.strategy.specs.SeenLaws.{turn-seen}
+use Rattle.strategy.proofs.SeenLaws.{turn-seen}
 
 -- ---- whose turn it is
 

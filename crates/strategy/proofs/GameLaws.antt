@@ -14,14 +14,14 @@ use Rattle.bounds.specs.Elimination.{eliminated}
 use Rattle.rounds.specs.Rounds.{C0, joined, round}
 use Rattle.strategy.specs.Histories.{History, ran_for, turn, seen_from}
 use Rattle.strategy.specs.Strategies.{Kept, Forced, Strategy}
-use Rattle.strategy.specs.Keeping.{when, Keeps, RunsInside}
-use Rattle.strategy.specs.HistoryLaws.{length_more, each_more, runs_inside-more, turn-min-max, follows-more, forced-map, forced-split, forced-play}
-use Rattle.strategy.specs.PlaceLaws.{WellFormed, then_set-bounds, elim-back}
-use Rattle.strategy.specs.WindowLaws.{Held}
-use Rattle.strategy.specs.SeenLaws.{length_seen, runs_inside-seen, seen-ran_for, forced-seen, seen-forced, seen_next, seen_all, turn-after}
-use Rattle.strategy.specs.KeptLaws.{Always, held_none, held_one, held-earlier, LeavesRoomAt, LeavesRoom, leaves_room-of, always-kept, starts-leaves_room}
-use Rattle.strategy.specs.JoinedLaws.{Both, joined-well_formed, joined_back}
-use Rattle.strategy.specs.RoundLaws.{
+use Rattle.strategy.proofs.Keeping.{when, Keeps, RunsInside}
+use Rattle.strategy.proofs.HistoryLaws.{length_more, each_more, runs_inside-more, turn-min-max, follows-more, forced-map, forced-split, forced-play}
+use Rattle.strategy.proofs.PlaceLaws.{WellFormed, then_set-bounds, elim-back}
+use Rattle.strategy.proofs.WindowLaws.{Held}
+use Rattle.strategy.proofs.SeenLaws.{length_seen, runs_inside-seen, seen-ran_for, forced-seen, seen-forced, seen_next, seen_all, turn-after}
+use Rattle.strategy.proofs.KeptLaws.{Always, held_none, held_one, held-earlier, LeavesRoomAt, LeavesRoom, leaves_room-of, always-kept, starts-leaves_room}
+use Rattle.strategy.proofs.JoinedLaws.{Both, joined-well_formed, joined_back}
+use Rattle.strategy.proofs.RoundLaws.{
   strategy-kept,
   Round,
   round-parts,
@@ -34,10 +34,10 @@ use Rattle.strategy.specs.RoundLaws.{
   both-keeps,
   keeps-both,
 }
-use Rattle.strategy.specs.BeginLaws.{nothing-runs_inside, begin-game, first-held, first-strategy, strategy-first}
-use Rattle.strategy.specs.FirstLaws.{C-judged, joined-shifted, round-alone}
-use Rattle.strategy.specs.VerdictLaws.{C-next, IsSettled, settled-after}
-use Rattle.strategy.specs.StageLaws.{Allowed, allowed-rest, rest-allowed, Stages, stages}
+use Rattle.strategy.proofs.BeginLaws.{nothing-runs_inside, begin-game, first-held, first-strategy, strategy-first}
+use Rattle.strategy.proofs.FirstLaws.{C-judged, joined-shifted, round-alone}
+use Rattle.strategy.proofs.VerdictLaws.{C-next, IsSettled, settled-after}
+use Rattle.strategy.proofs.StageLaws.{Allowed, allowed-rest, rest-allowed, Stages, stages}
 
 -- fewer windows follow from more
 pub fewer-windows : (p : Plan) → Accepted p → (h : History) (g k a : ℕ) → Strategy p h (g + (a + k) * p.jobs) → Strategy p h (g + k * p.jobs)

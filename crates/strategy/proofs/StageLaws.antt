@@ -20,10 +20,10 @@ use Rattle.bounds.specs.Elimination.{without_finish, without_start, then_set, wi
 use Rattle.calendars.specs.Calendars.{then_tables, before_starts}
 use Rattle.strategy.specs.Histories.{History, ran_for, turn}
 use Rattle.strategy.specs.Strategies.{Forced}
-use Rattle.strategy.specs.Keeping.{Holds, when, gap, Keeps, RunsInside}
-use Rattle.strategy.specs.EliminationLaws.{keeps-more, without-s, below-or-last}
-use Rattle.strategy.specs.HistoryLaws.{length_more, runs_inside-more, turn-min-max, forced-map, forced-split}
-use Rattle.strategy.specs.PlaceLaws.{
+use Rattle.strategy.proofs.Keeping.{Holds, when, gap, Keeps, RunsInside}
+use Rattle.strategy.proofs.EliminationLaws.{keeps-more, without-s, below-or-last}
+use Rattle.strategy.proofs.HistoryLaws.{length_more, runs_inside-more, turn-min-max, forced-map, forced-split}
+use Rattle.strategy.proofs.PlaceLaws.{
   when-old,
   when-start,
   WellFormed,
@@ -37,7 +37,7 @@ use Rattle.strategy.specs.PlaceLaws.{
   elim-keeps,
   elim-back,
 }
-use Rattle.strategy.specs.AloneLaws.{MovedCells, without-finish, without-start}
+use Rattle.strategy.proofs.AloneLaws.{MovedCells, without-finish, without-start}
 
 -- the tables around the start at place k, of a table with rest places more
 pub record Stage (p : Plan) (t : Rows) (k rest : ℕ) : Type 0 where

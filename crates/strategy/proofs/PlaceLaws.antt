@@ -16,11 +16,11 @@ use Rattle.bounds.specs.Elimination.{finish_cell, start_cell, without_finish, wi
 use Rattle.bounds.specs.BuildLaws.{event_of-start, event_of-finish, by_node}
 use Rattle.strategy.specs.Histories.{Ran, History, ran_for, turn}
 use Rattle.strategy.specs.Strategies.{Forced}
-use Rattle.strategy.specs.Keeping.{Holds, when, gap, Keeps, RunsInside, long_or_short, OriginBounded}
-use Rattle.strategy.specs.CellLaws.{bounded-cell}
-use Rattle.strategy.specs.SetLaws.{job_at-turn, judged-origin_bounded, judged-keeps, judged-back, judged-none, judged-diagonal}
-use Rattle.strategy.specs.EliminationLaws.{without-f, without-s, finish-out, finish-in, start-out, start-in, below-or-last}
-use Rattle.strategy.specs.HistoryLaws.{
+use Rattle.strategy.proofs.Keeping.{Holds, when, gap, Keeps, RunsInside, long_or_short, OriginBounded}
+use Rattle.strategy.proofs.CellLaws.{bounded-cell}
+use Rattle.strategy.proofs.SetLaws.{job_at-turn, judged-origin_bounded, judged-keeps, judged-back, judged-none, judged-diagonal}
+use Rattle.strategy.proofs.EliminationLaws.{without-f, without-s, finish-out, finish-in, start-out, start-in, below-or-last}
+use Rattle.strategy.proofs.HistoryLaws.{
   length_more,
   ran-old,
   ran-new,

@@ -13,8 +13,8 @@ use Rattle.plan.specs.declared.Plan.{Plan}
 use Rattle.bounds.specs.Events.{job_at, start_node, finish_node}
 use Rattle.bounds.specs.Tables.{Cell, off, upto, plus, join, Rows, at}
 use Rattle.bounds.specs.Elimination.{only_if, finish_cell, start_cell}
-use Rattle.strategy.specs.Keeping.{Holds}
-use Rattle.strategy.specs.CellLaws.{least_iff, plus-iff, join-keeps, join-back, holds-only_if}
+use Rattle.strategy.proofs.Keeping.{Holds}
+use Rattle.strategy.proofs.CellLaws.{least_iff, plus-iff, join-keeps, join-back, holds-only_if}
 
 -- ---- times of nodes
 

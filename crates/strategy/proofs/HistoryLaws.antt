@@ -10,9 +10,9 @@ use Rattle.plan.specs.declared.Plan.{Plan}
 use Rattle.plan.specs.Accepted.{Accepted}
 use Rattle.strategy.specs.Histories.{Ran, History, no_ran, ran_for, turn}
 use Rattle.strategy.specs.Strategies.{ran_in, Forced}
-use Rattle.strategy.specs.AcceptedLaws.{turn-accepted}
-use Rattle.strategy.specs.Keeping.{RunsWithin, RunsInside, long_or_short, LongOrShort}
-use Rattle.strategy.specs.EliminationLaws.{below-or-last}
+use Rattle.strategy.proofs.AcceptedLaws.{turn-accepted}
+use Rattle.strategy.proofs.Keeping.{RunsWithin, RunsInside, long_or_short, LongOrShort}
+use Rattle.strategy.proofs.EliminationLaws.{below-or-last}
 
 -- ---- one job more
 

@@ -14,9 +14,9 @@ use Rattle.runs.specs.SeenLaws.{job_seen-start, job_seen-finish, job_seen-other,
 use Rattle.runs.specs.Steps.{closed_since}
 use Rattle.strategy.specs.Histories.{Ran, History}
 use Rattle.strategy.specs.Strategies.{ran_in}
-use Rattle.strategy.specs.EliminationLaws.{below-or-last}
-use Rattle.strategy.specs.HistoryLaws.{ran-old, ran-new}
-use Rattle.strategy.specs.RunLaws.{ShowsJob, ShowsPrevious, ShowsHistory}
+use Rattle.strategy.proofs.EliminationLaws.{below-or-last}
+use Rattle.strategy.proofs.HistoryLaws.{ran-old, ran-new}
+use Rattle.strategy.proofs.RunLaws.{ShowsJob, ShowsPrevious, ShowsHistory}
 
 module _ (p : Plan) (r : Run) (h : History) (j i : ℕ) (sh : ShowsHistory p r h j i) (few : p.jobs ≤ most_jobs) (low : i < p.jobs)
     (size : length h ≡ j * p.jobs + i) (since finish : RunTime) where

@@ -24,10 +24,10 @@ use Rattle.bounds.specs.BuildLaws.{either_true, neither-true}
 use Rattle.rounds.specs.Given.{place_of, event_at, meant, has_next, in_order, own_bounds, between_bounds}
 use Rattle.strategy.specs.Histories.{History, turn}
 use Rattle.strategy.specs.Strategies.{ran_in, place_in, kind_in, bound_in, GivenKept, KeptIn}
-use Rattle.strategy.specs.Keeping.{when, RunsWithin, RunsInside}
-use Rattle.strategy.specs.SetLaws.{job_at-turn}
-use Rattle.strategy.specs.EliminationLaws.{below-or-last}
-use Rattle.strategy.specs.GivenLaws.{
+use Rattle.strategy.proofs.Keeping.{when, RunsWithin, RunsInside}
+use Rattle.strategy.proofs.SetLaws.{job_at-turn}
+use Rattle.strategy.proofs.EliminationLaws.{below-or-last}
+use Rattle.strategy.proofs.GivenLaws.{
   places-listed,
   listed-accepted,
   BetweenKept,

@@ -13,15 +13,15 @@ use Rattle.rounds.specs.Rounds.{C0, joined, round}
 use Rattle.rounds.specs.Given.{own_bounds}
 use Rattle.strategy.specs.Histories.{History, seen_from}
 use Rattle.strategy.specs.Strategies.{Kept, Forced, Strategy, StrategyFor}
-use Rattle.strategy.specs.Keeping.{Keeps, RunsInside, LongOrShort, OriginBounded}
-use Rattle.strategy.specs.HistoryLaws.{forced-map, forced-split, forced-join, Fails, fails-before, fails-map}
-use Rattle.strategy.specs.PlaceLaws.{WellFormed, then_set-none, elim-well_formed, elim-back, elim-none}
-use Rattle.strategy.specs.GivenLaws.{BetweenKept}
-use Rattle.strategy.specs.WindowLaws.{Held, held-own}
-use Rattle.strategy.specs.SeenLaws.{seen_all}
-use Rattle.strategy.specs.KeptLaws.{Always, held_none, held_one, LeavesRoom, held_of, leaves_room-of, always-kept, forced-leaves_room}
-use Rattle.strategy.specs.JoinedLaws.{C0-none, Both, joined-well_formed, joined_keeps, joined-none}
-use Rattle.strategy.specs.RoundLaws.{C, strategy-kept, C-well_formed, C-held, strategy-both, strategy-keeps, keeps-strategy, more-windows}
+use Rattle.strategy.proofs.Keeping.{Keeps, RunsInside, LongOrShort, OriginBounded}
+use Rattle.strategy.proofs.HistoryLaws.{forced-map, forced-split, forced-join, Fails, fails-before, fails-map}
+use Rattle.strategy.proofs.PlaceLaws.{WellFormed, then_set-none, elim-well_formed, elim-back, elim-none}
+use Rattle.strategy.proofs.GivenLaws.{BetweenKept}
+use Rattle.strategy.proofs.WindowLaws.{Held, held-own}
+use Rattle.strategy.proofs.SeenLaws.{seen_all}
+use Rattle.strategy.proofs.KeptLaws.{Always, held_none, held_one, LeavesRoom, held_of, leaves_room-of, always-kept, forced-leaves_room}
+use Rattle.strategy.proofs.JoinedLaws.{C0-none, Both, joined-well_formed, joined_keeps, joined-none}
+use Rattle.strategy.proofs.RoundLaws.{C, strategy-kept, C-well_formed, C-held, strategy-both, strategy-keeps, keeps-strategy, more-windows}
 
 module _ (p : Plan) (good : Accepted p) where
   nothing-leaves_room : LeavesRoom p []
