@@ -11,7 +11,7 @@ HYPHENED = re.compile(r"\w+(-[\w']+)+$")
 SNAKE = re.compile(r"(?=.*[a-z])[A-Za-z0-9]+(_[A-Za-z0-9']+)+$")
 DEMAND = 'docs/DEMAND-3.md'
 FRONT = 'crates/promises/specs/'
-STRATEGY = 'crates/strategy/specs/'
+STRATEGY = 'crates/strategy/proofs/'
 ANY = 'of any plan,'
 
 # What demand 3 cannot be without.
