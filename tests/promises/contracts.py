@@ -3,9 +3,9 @@ of it, or what a lent slice holds at the exit, and the other is a definition of 
 import re
 
 # What an `ensures` may say to determine something. In a form R is the result, X a parameter that is lent to be written, of which X.old is what it holds as the
-# call begins and X.new what it holds at the return, .F a field; T is a term of what came in, and D one whose first word is a definition that the function's row
-# of docs/PROMISES.md names, or the length or a field of one. With each stands the law by which it determines R and X, and the law's file; a form without a law
-# leaves something open, and is for the operations which the page's table of exceptions names.
+# call begins and X.new what it holds at the return, .F a field, .G one of a lent structure; T is a term of what came in, and D one whose first word is a
+# definition that the function's row of docs/PROMISES.md names, or the length or a field of one, or a field of a parameter. With each stands the law by which
+# it determines R and X, and the law's file; a form without a law leaves something open, and is for the operations which the page's table of exceptions names.
 ONLY = ('only', 'crates/text/specs/Unique.antt')
 FORMS = (
     ('R ≡ D', ONLY),
@@ -15,18 +15,26 @@ FORMS = (
     ('X.new ≡ D', ONLY),
     # what a writer leaves in a slice, and the place behind it
     ('Stored X.old T T X.new R', ('stored-unique', 'crates/text/specs/Unique.antt')),
+    ('X.new.G ≡ D', ONLY),
     # whether there is a contradiction, and each weight: a record of the two
-    ('flat R X.new ≡ D', ('put-unique', 'crates/promises/specs/Uniqueness.antt')),
+    ('flat (is_err R) X.new.G ≡ D', ('put-unique', 'crates/promises/specs/Uniqueness.antt')),
     # whether there is a contradiction, and else the weights of the nodes that remain
-    ('set_in T R X.new ≡ D', None),
+    ('set_in T (is_err R) X.new.G ≡ D', None),
     # the times of the nodes of two windows
     ('TimesHeld T R.early R.late', None),
+    # what a text at its beginning holds is what the input has given since
+    ('Consumes (I.remaining X.old) (I.remaining X.new) (take R X.new)', None),
+    # what refuses a text: its refusal, and the bytes of its faulty line
+    ('part_told R ≡ D', ONLY),
     # the joined table where a plan is settled
-    ('SettledOn T (rows_of T X.new)', None),
+    ('SettledOn T (rows_of T X.new.G)', None),
 )
 
 # A premise that may stand before a form, and what the function's `requires` must then say: that there is such a plan.
 GIVEN = {'TableHeldFor': 'TableHeld'}
+
+# The type of an answer that is known where it is known whether it is an error.
+TOLD_BY_ERROR = 'Result<(), Contradiction>'
 
 # Words of a term that are no names: what is counted, joined or put in front of a list. Every other sign could make an equation a part of something weaker.
 SIGNS = {'+', '-', '*', '^', '++', '∷', '[]', '+ℤ', '&&'}
@@ -121,7 +129,8 @@ def split_at(text, sign):
 
 
 class Contract:
-    """A function's parameters, those of them that are lent to be written, its result type, and its clauses as terms. What is not understood is told."""
+    """A function's parameters, those of them that are lent to be written and their types, its result type, and its clauses as terms. What is not understood is
+    told."""
 
     def __init__(self, text):
         self.unread = []
@@ -133,7 +142,7 @@ class Contract:
             if depth == 0:
                 inside, rest = rest[1:at], rest[at + 1:]
                 break
-        self.parameters, self.lent = [], []
+        self.parameters, self.lent, self.kinds = [], [], {}
         for part in split_at(inside, ','):
             name, _, of = part.partition(':')
             if re.match(r"&('\w+ )?mut self$", part):
@@ -143,6 +152,7 @@ class Contract:
             lends = re.match(r"\s*&('\w+ )?mut\b(.*)", of)
             if lends:
                 self.lent.append(name)
+                self.kinds[name] = lends.group(2).strip()
             if re.search(r"&('\w+ )?mut\b", lends.group(2) if lends else of):
                 self.unread.append('what `%s` lends inside' % name)
         self.type = rest.split('->')[1].strip().rstrip('{').strip() if '->' in rest else None
@@ -192,6 +202,8 @@ def matches(form, term, contract):
         return None
     if form == ['X', '.old']:
         return [] if term[0] in contract.lent and term[1] == '.old' else None
+    if form == ['X', '.new', '.G']:
+        return [term[0] + term[2]] if term[0] in contract.lent and term[1] == '.new' and term[2] not in STATES else None
     found = [matches(part, piece, contract) for part, piece in zip(form, term)]
     return None if None in found else [one for part in found for one in part]
 
@@ -207,7 +219,8 @@ def equation(form, term, contract, defined):
         if is_part(counted) and isinstance(counted[0], list):
             counted = bare(counted[0])
         head = counted[0] if counted and isinstance(counted[0], str) else ''
-        if plain(head) not in defined or head in contract.parameters or not closed(right, contract):
+        is_own = is_part(right) and right[0] in contract.parameters
+        if not is_own and (plain(head) not in defined or head in contract.parameters) or not closed(right, contract):
             return None
     elif plain(forms[0][0]) not in defined:
         return None
@@ -236,6 +249,8 @@ def told(contract, defined):
         for part in conjuncts(term):
             part = stripped(part, contract)
             for form, law in FORMS:
+                if '(is_err R)' in form and contract.type != TOLD_BY_ERROR:
+                    continue
                 found = equation(tree(form, {'R', 'X'}), part, contract, defined)
                 if found is not None:
                     yield part, form, law, found
@@ -254,8 +269,8 @@ def fields(sources, kind):
     return ['.' + name for name in re.findall(r'(?m)^\s+(?:pub )?(\w+):', found.group(2))]
 
 
-def undetermined(contract, defined, sources, is_excepted):
-    """What a contract leaves open."""
+def undetermined(contract, defined, sources, is_excepted, owner=None):
+    """What a contract leaves open; `Self` is the type whose function it is, or None."""
     yield from ('%s is not understood' % one for one in contract.unread)
     found, heads = set(), set()
     for part, form, law, said in told(contract, defined):
@@ -264,10 +279,13 @@ def undetermined(contract, defined, sources, is_excepted):
             heads |= {plain(word) for word in words(part)}
     spoken = heads | {word for term in contract.requires for word in words(term)}
     if contract.type not in (None, '()') and '' not in found:
-        own = fields(sources, contract.type)
+        own = fields(sources, contract.type.split('<')[0])
         if not own or set(own) - found:
             yield 'the result' if not own or not found & set(own) else 'of the result %s' % ', '.join(sorted(set(own) - found))
-    yield from ('`%s` at the exit' % name for name in contract.lent if name not in found)
+    for name, kind in contract.kinds.items():
+        own = fields(sources, owner if kind == 'Self' and owner else kind)
+        if name not in found and not (own and all(name + field in found for field in own)):
+            yield '`%s` at the exit' % name
     yield from ('`%s`, which determines nothing' % name for name in sorted(set(defined) - heads))
     yield from ('what `%s` has to do with it' % name for name in contract.parameters if not spoken & {name, '«%s»' % name})
 

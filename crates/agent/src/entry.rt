@@ -3,8 +3,7 @@ ghost use Rattle.std.specs.Prelude.{◌≡◌, ◌≤◌, length};
 ghost use Rattle.session.specs.Sessions.{dispatch_output, most_session_bytes};
 ghost use Rattle.agent.specs.Entry.{entry_answer, entry_bytes};
 
-use lines::Written;
-
+// Stays: (a) a refusal's number below 0: the C interface.
 // The answer to a session text, written into a lent slice: its length, or -12 and not one byte changed, where it has no room. 458,808 bytes, the header's
 // GEKUMOSARI_MOST_BYTES, are room for every text.
 #[unsafe(no_mangle)]
@@ -13,13 +12,8 @@ pub extern "C" fn gekumosari_session(text: &[u8], out: &mut [u8]) -> i64
     ensures out_after { out.new ≡ entry_bytes text.now out.old }
     ensures text_len_bound { length (dispatch_output text.now) ≤ most_session_bytes }
 {
-    let told = session::answer(text, out);
-    match told {
-        Written::Length(length) => length as i64,
-        Written::Refused(x) => {
-            let n = lines::number(x);
-            let wide = n as i64;
-            0 - wide
-        }
+    match session::answer(text, out) {
+        Ok(length) => length as i64,
+        Err(x) => -(x.number() as i64),
     }
 }

@@ -1,6 +1,6 @@
 -- Tables in one array. The cases of `put_at`, as the code has them: no bound to put, one that is not less than what stands there, or one that is judged.
 use Prim.Native.Nat.{ℕ, zero, suc, ◌+◌, ◌-◌, ◌≤◌, ◌<◌}
-use Rattle.std.specs.Prelude.{◌≡◌, refl, Bool, true, false, cond, not, eqb, pos, ◌+ℤ◌}
+use Rattle.std.specs.Prelude.{◌≡◌, refl, Bool, true, false, cond, not, eqb, ltb, pos, ◌+ℤ◌}
 use Rattle.std.proofs.Math.Path.{sym, ap, ap₂}
 use Rattle.std.proofs.Common.{subst, ◌∙◌, zero-add, add-zero, add-one, length-set, get_or-set_other, SFits, of_z}
 use mathlib.Core.List.{List, [], ◌∷◌}
@@ -9,14 +9,15 @@ use Rattle.std.proofs.Math.IntN.{ℤ}
 use Rattle.std.specs.Int.Signed.{le_z}
 use Rattle.std.proofs.Math.ListN.{length, get_or}
 use borrow.Author.Tests.{eq-eqb, ne_eqb, not-false}
+use Rattle.std.proofs.lemmas.Bool.{ltb-true, ltb-false}
 use Rattle.std.specs.Int.{w32}
 use Rattle.std.proofs.Math.Facts.{sfits_lit}
 use Rattle.whole.specs.Clash.{clash}
 use Rattle.whole.specs.Split.{eq_z}
 use Rattle.whole.specs.SplitLaws.{bits-eqb}
 use Rattle.events.specs.declared.Events.{Events}
-use Rattle.events.specs.Bits.{bits_of, has_event, event_set, most_bits, HasRoom, with_first, next_event}
-use Rattle.events.specs.BitsLaws.{event_set-nil, event_set-first, event_set-room, next_event-skips}
+use Rattle.events.specs.Bits.{bits_of, has_event, event_set, most_bits, HasRoom, with_first, next_event, members_from}
+use Rattle.events.specs.BitsLaws.{event_set-nil, event_set-first, event_set-room, next_event-skips, members-first, members-over}
 use Rattle.bounds.specs.declared.Judgement.{Judgement}
 use Rattle.bounds.specs.declared.Judgement.TheVariants.{Contradiction, LeftOut, Kept}
 use Rattle.bounds.specs.Events.{node_of}
@@ -260,6 +261,37 @@ module _ (early late : List ℤ) (s y : ℕ) (w : ℤ) (ws : List ℤ) (set : Ev
   joined_cells-skips e k next =
       next_event-skips (bits_of set) s (λ e n. each_node step e n ws) joined_cells-past (λ e d. refl) e
       ∙ ap (λ (k : ℕ). each_node step k (s - k) ws) (sym next)
+
+  -- so where a set's members from node e on begin with z, the first node that has something to do is z, and its members after z are left
+  module _ (room : s ≤ most_bits) (e : ℕ) where
+    pub joined_cells-member : (z : ℕ) (zs : List ℕ) → members_from (bits_of set) e (s - e) ≡ z ∷ zs
+        → (z < s) × (each_node step e (s - e) ws ≡ each_node step z (s - z) ws) × (zs ≡ members_from (bits_of set) (z + 1) (s - (z + 1)))
+    joined_cells-member z zs h = by (ltb (next_event (bits_of set) e) s) refl
+      where
+        next : ℕ
+        next = next_event (bits_of set) e
+
+        by : (b : Bool) → ltb next s ≡ b
+            → (z < s) × (each_node step e (s - e) ws ≡ each_node step z (s - z) ws) × (zs ≡ members_from (bits_of set) (z + 1) (s - (z + 1)))
+        by true low =
+            let first = sym h ∙ members-first (bits_of set) e s next refl (ltb-true next s low) room in
+            let same : z ≡ next = cc in
+            let rest : zs ≡ members_from (bits_of set) (next + 1) (s - (next + 1)) = cc in
+            subst
+            (λ (z : ℕ). (z < s) × (each_node step e (s - e) ws ≡ each_node step z (s - z) ws) × (zs ≡ members_from (bits_of set) (z + 1) (s - (z + 1))))
+            (sym same)
+            (ltb-true next s low, joined_cells-skips e next refl, rest)
+        by false high = clash (let e : z ∷ zs ≡ [] = sym h ∙ members-over (bits_of set) e s next refl (ltb-false next s high) in cc)
+
+    pub joined_cells-over : members_from (bits_of set) e (s - e) ≡ [] → each_node step e (s - e) ws ≡ flat false ws
+    joined_cells-over h = by (ltb (next_event (bits_of set) e) s) refl
+      where
+        next : ℕ
+        next = next_event (bits_of set) e
+
+        by : (b : Bool) → ltb next s ≡ b → each_node step e (s - e) ws ≡ flat false ws
+        by true low = clash (let e = sym h ∙ members-first (bits_of set) e s next refl (ltb-true next s low) room in cc)
+        by false high = joined_cells-skips e next refl ∙ each_node-end step s next ws (ltb-false next s high)
 
 module _ (early late : List ℤ) (s y : ℕ) (ws : List ℤ) where
   pub joined_row-none : eq_z (weight_at ws y s) no_bound_mark ≡ true → flat false ws ≡ joined_row early late s y ws

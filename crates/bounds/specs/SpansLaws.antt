@@ -1,7 +1,8 @@
 -- The judgement from two arrays: it is the judgement by the four differences that they give, and where they hold a plan's times it is the
 -- plan's judgement. A time in range fits an i32 (`in_range-fits`).
-use Rattle.std.specs.Prelude.{ℕ, ◌<◌, ◌≡◌, refl, Bool, true, false, cond, List, eqb, ℤ, neg_ℤ, ◌+ℤ◌, ◌-ℤ◌}
-use Rattle.std.proofs.Common.{sym, ◌∙◌, ap, ap₂, eqb-true, SFits}
+use Rattle.std.specs.Prelude.{ℕ, ◌<◌, ◌≡◌, refl, Bool, true, false, cond, List, eqb, ℤ, pos, neg_ℤ, ◌+ℤ◌, ◌-ℤ◌}
+use Rattle.std.proofs.Common.{sym, ◌∙◌, ap, ap₂, subst, eqb-true, SFits}
+use borrow.Author.Tests.{eq-eqb}
 use Rattle.std.specs.Int.{w32}
 use Rattle.whole.specs.SplitLaws.{split-add, split-sub, split-neg}
 use Rattle.whole.specs.Order.{neg-sub}
@@ -11,7 +12,7 @@ use Rattle.bounds.specs.declared.Event.{Event}
 use Rattle.bounds.specs.declared.Event.TheVariants.{Origin, Start, Finish}
 use Rattle.bounds.specs.declared.Judgement.{Judgement}
 use Rattle.bounds.specs.Events.{earliest, latest, event_of, job_at, shift}
-use Rattle.bounds.specs.Judgements.{judged, at_least}
+use Rattle.bounds.specs.Judgements.{judged, at_least, from_origin}
 use Rattle.bounds.specs.Spans.{judged_by, judged_at, time_of_node, Times, InRange}
 
 pub in_range-fits : {t : ℤ} → InRange t → SFits w32 t
@@ -27,6 +28,30 @@ pub judged_at-by : (early late : List ℤ) (y z : ℕ) (w : ℤ) {low high later
     → judged_by low high later sooner a b w ≡ judged_at early late y z w
 unfolding judged_at
 judged_at-by early late y z w e1 e2 e3 e4 e5 e6 = rw (e1, e2, e3, e4, e5, e6)
+
+-- ---- y = z; and only one of them is the origin
+
+module _ (low high late early w : ℤ) where
+  self : (y : Event) → at_least (pos 0) w ≡ judged_by low high late early y y w
+  unfolding judged_by
+  self Origin = refl
+  self (Start j) = rw (eq-eqb j j refl) refl
+  self (Finish j) = rw (eq-eqb j j refl) refl
+
+  pub judged_by-same : (y z : Event) → y ≡ z → at_least (pos 0) w ≡ judged_by low high late early y z w
+  judged_by-same y z e = subst (λ z. at_least (pos 0) w ≡ judged_by low high late early y z w) e (self y)
+
+  pub judged_by-from : (z : Event) → (Origin ≡ z → ⊥) → from_origin low w ≡ judged_by low high late early Origin z w
+  unfolding judged_by
+  judged_by-from Origin n = absurd (n refl)
+  judged_by-from (Start k) n = refl
+  judged_by-from (Finish k) n = refl
+
+  pub judged_by-to : (y : Event) → (y ≡ Origin → ⊥) → from_origin low w ≡ judged_by low high late early y Origin w
+  unfolding judged_by
+  judged_by-to Origin n = absurd (n refl)
+  judged_by-to (Start j) n = refl
+  judged_by-to (Finish j) n = refl
 
 -- ---- the plan's judgement
 

@@ -7,19 +7,18 @@ ghost use Rattle.bounds.specs.Events.{most_nodes};
 use super::Table;
 use events::Events;
 
-// The nodes z before s for which z - s has a bound.
-pub fn bounded_nodes<'a>(weights: &'a [i32; Table::SIZE], s: usize) -> Events
-    requires { s < most_nodes }
-    ensures { bits_of result ≡ bounded_nodes weights.now s }
-{
-    let row = s * Table::SIDE;
-    let mut set = Events::empty();
-    let mut z = s;
-    while 0 < z {
-        z -= 1;
-        let v = weights[row + z];
-        let on = v != Table::NO_BOUND;
-        set = set.with_first(on);
+impl Table {
+    // The nodes z before s for which z - s has a bound.
+    pub(crate) fn bounded_nodes(&self, s: usize) -> Events
+        requires { s < most_nodes }
+        ensures { bits_of result ≡ bounded_nodes self.now.weights s }
+    {
+        let row = s * Table::SIDE;
+        let mut set = Events::empty();
+        for z in (0..s).rev() {
+            let v = self.weights[row + z];
+            set = set.with_first(v != Table::NO_BOUND);
+        }
+        set
     }
-    set
 }

@@ -46,45 +46,14 @@ fn apart(low: i32, high: i32, w: i32) -> Judgement
 pub fn judge(y: Event, z: Event, low: i32, high: i32, late: i32, early: i32, w: i32) -> Judgement
     ensures { result ≡ judged_by low high late early y z w }
 {
-    match y {
-        Event::Origin => match z {
-            Event::Origin => at_least(0, w),
-            Event::Start(_) => from_origin(low, w),
-            Event::Finish(_) => from_origin(low, w),
-        },
-        Event::Start(j) => match z {
-            Event::Origin => from_origin(low, w),
-            Event::Start(k) => {
-                if j == k {
-                    at_least(0, w)
-                } else {
-                    apart(low, high, w)
-                }
-            }
-            Event::Finish(k) => {
-                if j == k {
-                    at_least(late, w)
-                } else {
-                    apart(low, high, w)
-                }
-            }
-        },
-        Event::Finish(j) => match z {
-            Event::Origin => from_origin(low, w),
-            Event::Start(k) => {
-                if j == k {
-                    at_least(early, w)
-                } else {
-                    apart(low, high, w)
-                }
-            }
-            Event::Finish(k) => {
-                if j == k {
-                    at_least(0, w)
-                } else {
-                    apart(low, high, w)
-                }
-            }
-        },
+    if y == z {
+        return at_least(0, w);
+    }
+    match (y, z) {
+        (Event::Start(j), Event::Finish(k)) if j == k => at_least(late, w),
+        (Event::Finish(j), Event::Start(k)) if j == k => at_least(early, w),
+        (Event::Origin, _) => from_origin(low, w),
+        (_, Event::Origin) => from_origin(low, w),
+        _ => apart(low, high, w),
     }
 }

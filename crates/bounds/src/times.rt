@@ -37,8 +37,7 @@ pub fn times_of(p: Plan) -> Spans
     let mut early = [0; Table::SIDE];
     let mut late = [0; Table::SIDE];
     let places = p.jobs + p.jobs;
-    let mut k = 0;
-    while k < places {
+    for k in 0..places {
         let job = job_at(p, k);
         let later = shift_at(p, k);
         let first_start = job.release + later;
@@ -51,10 +50,6 @@ pub fn times_of(p: Plan) -> Spans
         early[f] = first_finish;
         late[s] = last_start;
         late[f] = last_finish;
-        k += 1;
     }
-    Spans {
-        early: early,
-        late: late,
-    }
+    Spans { early, late }
 }

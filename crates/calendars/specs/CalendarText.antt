@@ -1,5 +1,5 @@
 -- The calendar program's output (document 01, 'Offers and runs': 'Calendar program: standard input is a plan; it prints ..').
-use Rattle.std.specs.Prelude.{ℕ, zero, suc, ◌+◌, ◌*◌, ◌-◌, ◌/◌, ◌%◌, cond, List, [], ◌∷◌, ◌++◌, eqb, ltb, ℤ, pos, get_or}
+use Rattle.std.specs.Prelude.{ℕ, zero, suc, ◌+◌, ◌*◌, ◌-◌, ◌/◌, ◌%◌, cond, List, [], ◌∷◌, ◌++◌, eqb, ltb, ℤ, pos, get_or, Result, Ok, Err}
 use Rattle.text.specs.Bytes.{bytes}
 use Rattle.text.specs.Lines.{LF, comma}
 use Rattle.text.specs.Numbers.{decimal, digits}
@@ -10,12 +10,11 @@ use Rattle.plan.specs.PlanLines.{plan_alone}
 use Rattle.lines.specs.Keyed.{keyed}
 use Rattle.calendars.specs.declared.Terms.{Terms}
 use Rattle.calendars.specs.declared.Calendar.{Calendar}
-use Rattle.rounds.specs.declared.Verdict.{Verdict}
-use Rattle.rounds.specs.declared.VerdictTold.{VerdictTold}
-use Rattle.rounds.specs.declared.VerdictTold.TheVariants.{Settled, Refused}
-use Rattle.rounds.specs.Rounds.{Outcome, outcome, verdict_of, verdict_told}
+use Rattle.calendars.specs.declared.Decision.{Decision}
+use Rattle.lines.specs.declared.Refusal.{Refusal}
+use Rattle.rounds.specs.Rounds.{Outcome, outcome}
 use Rattle.events.specs.Bits.{bits_of, has_event, most_events}
-use Rattle.calendars.specs.Calendars.{events_ahead, no_terms, made_calendar}
+use Rattle.calendars.specs.Calendars.{events_ahead, no_terms, decision}
 
 -- ---- the events' names: 'p events (previous window) before t events, by job, s before f'. jobs is the plan's count of jobs.
 
@@ -87,16 +86,13 @@ most_calendar_bytes = 32768
 
 -- ---- the program: from the bytes of the input to those of the output
 
--- the text of a verdict, with a calendar for so many jobs: 'it prints `settled=`, then for each job ..', or 'refused=N,D'
-abbrev pub told_text : ℕ → VerdictTold → Calendar → List ℕ
-told_text jobs (Settled m) c = calendar_text jobs m c
-told_text jobs (Refused x) c = refused_line x
-
-abbrev pub decision_text : ℕ → Verdict → Calendar → List ℕ
-decision_text jobs v c = told_text jobs (verdict_told v) c
+-- the text of what is decided, for so many jobs: 'it prints `settled=`, then for each job ..', or 'refused=N,D'
+abbrev pub decision_text : ℕ → Result Decision Refusal → List ℕ
+decision_text jobs (Ok d) = calendar_text jobs d.round d.calendar
+decision_text jobs (Err x) = refused_line x
 
 unfoldable pub outcome_text : Plan → Outcome → List ℕ
-outcome_text p o = decision_text p.jobs (verdict_of p o) (made_calendar p o)
+outcome_text p o = decision_text p.jobs (decision p o)
 
 unfoldable pub answered : Reading Plan → List ℕ
 answered (read p s n) = outcome_text p (outcome p)

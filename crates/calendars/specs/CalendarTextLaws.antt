@@ -1,11 +1,11 @@
 -- The laws of the calendar's text.
 -- How long it is: an event's name has at most 22 bytes (`event_bytes-short`), a term's line `most_term_bytes` (`term_line-short`).
 -- One turn of a writer: the next term of a side (`term_lines-next`, `term_lines-stop`; by what is left, `left-term`, `left-terms`), and the next job (`left-job`,
--- `left-jobs`).
+-- `left-jobs`). The terms of a side are a line for each of its events (`term_lines-members`); `TermsLeft` is what holds while they are written.
 -- What writers did: an event's name from its parts (`stored-event`), and how far a term moves the place (`stored-term-near`). Laws of
 -- whole lines are in `KeyedLaws` of `lines`.
 
-use Prim.Native.Nat.{ℕ, suc, ◌+◌, ◌*◌, ◌-◌, ◌/◌, ◌^◌, ◌≤◌, ◌<◌}
+use Prim.Native.Nat.{ℕ, zero, suc, ◌+◌, ◌*◌, ◌-◌, ◌/◌, ◌^◌, ◌≤◌, ◌<◌}
 use Rattle.std.specs.Prelude.{◌≡◌, refl, Bool, true, false, cond, List, [], ◌∷◌, ◌++◌, ltb, ℤ, pos, length, get_or}
 use Rattle.std.proofs.Common.{sym, ◌∙◌, subst, length-append, SFits, to_z, of_z, to_z-of_z}
 use Rattle.std.proofs.Math.Path.{ap}
@@ -18,11 +18,13 @@ use Rattle.text.specs.Lines.{LF, comma}
 use Rattle.text.specs.Numbers.{decimal, digits}
 use Rattle.text.specs.DigitLaws.{digits-short}
 use Rattle.text.specs.NumberLaws.{decimal-short}
-use Rattle.events.specs.Bits.{has_event, most_bits, next_event}
+use Rattle.events.specs.Bits.{has_event, most_bits, members_from, next_event}
 use Rattle.events.specs.BitsLaws.{next_event-has, next_event-skips}
+use Rattle.std.specs.List.{flat_map}
+use Rattle.plan.specs.ListLaws.{All}
 use Rattle.calendars.specs.declared.Calendar.{Calendar}
 use Rattle.calendars.specs.Calendars.{no_terms}
-use Rattle.text.specs.LeftLaws.{LeftToWrite, left-past, left_end}
+use Rattle.text.specs.LeftLaws.{LeftToWrite, left-whole, left-past, left_end}
 use Rattle.calendars.specs.CalendarText.{
   event_letter,
   event_kind,
@@ -103,6 +105,73 @@ module _ (jobs : ℕ) (key : List ℕ) (set : ℕ) (cs : List ℤ) (row : ℕ) w
 
       pub left-terms : count ≤ k → Stored out at s o j
       left-terms b = left_end (subst (λ (t : List ℕ). LeftToWrite out at s o j t) (term_lines-stop b) l)
+
+-- ---- the terms of one side: a line for each of its events
+
+module _ (jobs : ℕ) (key : List ℕ) (cs : List ℤ) (row : ℕ) where
+  abbrev pub line_of : ℕ → List ℕ
+  line_of k = term_line jobs key k (get_or cs (row + k) (pos 0))
+
+  pub term_lines-members : (set e n : ℕ) → term_lines jobs key set cs row e n ≡ flat_map line_of (members_from set e n)
+  unfolding term_lines members_from
+  term_lines-members set e zero = refl
+  term_lines-members set e (suc n) = by (has_event e set) (term_lines-members set (suc e) n)
+    where
+      by : (b : Bool) → term_lines jobs key set cs row (suc e) n ≡ flat_map line_of (members_from set (suc e) n) → cond b (line_of e) [] ++ term_lines jobs key set cs row (suc e) n
+          ≡ flat_map line_of (cond b (e ∷ members_from set (suc e) n) (members_from set (suc e) n))
+      by true h = ap (λ (s : List ℕ). line_of e ++ s) h
+      by false h = h
+
+-- there are at most so many, and each is before the last place
+pub record Few (count : ℕ) (most : ℕ) (ks : List ℕ) : Type 0 where
+  pub few : length ks ≤ most
+  pub each_below : All (λ k. k < count) ks
+
+members-few : (set e n count : ℕ) → e + n ≤ count → Few count n (members_from set e n)
+unfolding members_from
+members-few set e zero count h = record { few = omega arith; each_below = tt }
+members-few set e (suc n) count h = by (has_event e set) (members-few set (suc e) n count (omega arith))
+  where
+    by : (b : Bool) → Few count n (members_from set (suc e) n) → Few count (suc n) (cond b (e ∷ members_from set (suc e) n) (members_from set (suc e) n))
+    by true later = record { few = omega (arith, later.few); each_below = (omega arith, later.each_below) }
+    by false later = record { few = omega (arith, later.few); each_below = later.each_below }
+
+-- the loop over them, of at most count: the lines of those that are left to be given are left to be written
+pub record TermsLeft (jobs : ℕ) (key : List ℕ) (cs : List ℤ) (row count : ℕ) (out : List ℕ) (at : ℕ) (s out' : List ℕ) (at' : ℕ) (ks : List ℕ) : Type 0 where
+  pub left : LeftToWrite out at s out' at' (flat_map (line_of jobs key cs row) ks)
+  pub near : at' + most_term_bytes * length ks ≤ at + most_term_bytes * count
+  pub each_below : All (λ k. k < count) ks
+
+module _ (jobs : ℕ) (key : List ℕ) (cs : List ℤ) (row count : ℕ) (out : List ℕ) (at : ℕ) where
+  pub TermsLeft-start : (set : ℕ) {ks : List ℕ} → ks ≡ members_from set 0 (count - 0)
+      → TermsLeft jobs key cs row count out at (term_lines jobs key set cs row 0 count) out at ks
+  TermsLeft-start set e =
+      let all : count - 0 ≡ count = omega arith in
+      let few = members-few set 0 (count - 0) count (omega arith) in
+      let text = ap (term_lines jobs key set cs row 0) (sym all) ∙ term_lines-members jobs key cs row set 0 (count - 0) in
+      rw e
+      (record {
+        left = subst (λ (t : List ℕ). LeftToWrite out at (term_lines jobs key set cs row 0 count) out at t) text (left-whole out at _);
+        near = omega (arith, few.few);
+        each_below = few.each_below;
+      })
+
+  module _ {s o : List ℕ} {j : ℕ} {ks : List ℕ} (h : TermsLeft jobs key cs row count out at s o j ks) where
+    pub TermsLeft-below : {k : ℕ} {later : List ℕ} → ks ≡ k ∷ later → k < count
+    TermsLeft-below e = (subst (λ (ks : List ℕ). All (λ k. k < count) ks) e h.each_below).0
+
+    pub TermsLeft-next : {k : ℕ} {later : List ℕ} → ks ≡ k ∷ later → {o' : List ℕ} {j' : ℕ} → j' ≤ j + most_term_bytes
+        → Stored o j (term_line jobs key k (get_or cs (row + k) (pos 0))) o' j'
+        → TermsLeft jobs key cs row count out at s o' j' later
+    TermsLeft-next e n d =
+        record {
+          left = left-past (subst (λ (ks : List ℕ). LeftToWrite out at s o j (flat_map (line_of jobs key cs row) ks)) e h.left) d;
+          near = omega (arith, h.near, ap length e, n);
+          each_below = (subst (λ (ks : List ℕ). All (λ k. k < count) ks) e h.each_below).1;
+        }
+
+    pub TermsLeft-end : ks ≡ [] → Stored out at s o j
+    TermsLeft-end e = left_end (subst (λ (ks : List ℕ). LeftToWrite out at s o j (flat_map (line_of jobs key cs row) ks)) e h.left)
 
 -- ---- the jobs
 

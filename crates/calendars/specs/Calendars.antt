@@ -1,5 +1,5 @@
 -- The calendar (document 01, 'Elimination': 'Calendar: with the settled set, the bounds on each start just before it is eliminated').
-use Rattle.std.specs.Prelude.{ℕ, zero, suc, ◌+◌, ◌*◌, Bool, true, false, List, [], ◌∷◌, ◌++◌, ℤ, pos, neg_ℤ, ◌-ℤ◌}
+use Rattle.std.specs.Prelude.{ℕ, zero, suc, ◌+◌, ◌*◌, Bool, true, false, List, [], ◌∷◌, ◌++◌, ℤ, pos, neg_ℤ, ◌-ℤ◌, Result, Ok, Err}
 use Rattle.plan.specs.declared.Plan.{Plan}
 use Rattle.plan.specs.Limits.{most_jobs}
 use Rattle.plan.specs.PlanLines.{filled}
@@ -8,7 +8,9 @@ use Rattle.bounds.specs.Tables.{Cell, off, upto, Rows, at, listed, Set, contradi
 use Rattle.bounds.specs.Elimination.{without_finish, without_start, then_set}
 use Rattle.calendars.specs.declared.Terms.{Terms}
 use Rattle.calendars.specs.declared.Calendar.{Calendar}
-use Rattle.rounds.specs.Rounds.{C0, joined, Outcome, settled, no_strategy, unsettled}
+use Rattle.calendars.specs.declared.Decision.{Decision}
+use Rattle.lines.specs.declared.Refusal.{Refusal}
+use Rattle.rounds.specs.Rounds.{C0, joined, Outcome, settled, no_strategy, unsettled, verdict_of, verdict_told}
 use Rattle.events.specs.Bits.{events_of, event_set}
 use Rattle.events.specs.Bits.{most_events}
 
@@ -107,3 +109,13 @@ abbrev pub made_calendar : Plan → Outcome → Calendar
 made_calendar p (settled m t) = calendar p t
 made_calendar p (no_strategy K) = no_calendar p
 made_calendar p unsettled = no_calendar p
+
+-- ---- what is decided
+
+-- a settled plan's round with its calendar; or the refusal of the verdict
+abbrev pub with_calendar : Result ℕ Refusal → Calendar → Result Decision Refusal
+with_calendar (Ok m) c = Ok (record { round = m; calendar = c })
+with_calendar (Err x) c = Err x
+
+abbrev pub decision : Plan → Outcome → Result Decision Refusal
+decision p o = with_calendar (verdict_told (verdict_of p o)) (made_calendar p o)

@@ -8,10 +8,13 @@ use Rattle.calendars.specs.declared.Side.TheVariants.{Below, Above}
 use Rattle.events.specs.Bits.{event_set, most_events}
 use Rattle.calendars.specs.Calendars.{is_on, weight, node_of_event}
 
--- the weight by which event e bounds the start s
+-- the weight by which a node y bounds the start s; and by which event e does
+abbrev pub weight_by : Side → List ℤ → ℕ → ℕ → ℤ
+weight_by Below ws s y = weight_at ws s y
+weight_by Above ws s y = weight_at ws y s
+
 abbrev pub weight_on : Side → List ℤ → ℕ → ℕ → ℤ
-weight_on Below ws s e = weight_at ws s (node_of_event e)
-weight_on Above ws s e = weight_at ws (node_of_event e) s
+weight_on side ws s e = weight_by side ws s (node_of_event e)
 
 -- the c of a cell: start >= E + c from below, start <= E + c from above
 abbrev pub c_on : Side → Cell → ℤ

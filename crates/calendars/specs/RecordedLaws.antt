@@ -2,7 +2,8 @@
 -- Lists: one more store (`sets_more`).
 -- Cells: the c of the mark is 0 (`c_on-mark`), and of a bound it is the weight on its side (`c_on-below`, `c_on-above`); the weight on a side is read in the
 -- start's row or in its column (`weight_on-below`, `weight_on-above`). One turn of the walk over the events: `events_on-more` and `cs_on-more`. In a fit table the
--- weights lie in range (`weight_on-fits`), the c are `least_cs` and `most_cs` (`cs_on-least`, `cs_on-most`), and the terms are `terms_of` (`terms_of-is`).
+-- weights lie in range (`weight_on-fits`, `origin-fits`), the c are `least_cs` and `most_cs` (`cs_on-least`, `cs_on-most`), and the terms are `terms_of`
+-- (`terms_of-is`, `terms_of-weights`).
 use Rattle.std.specs.Prelude.{ℕ, suc, ◌+◌, ◌*◌, ◌<◌, refl, Bool, true, false, not, List, [], ◌∷◌, ◌++◌, ℤ, pos, ◌-ℤ◌, length, set}
 use Rattle.std.proofs.Math.Path.{◌≡◌, ap, ap₂}
 use Rattle.std.proofs.Common.{sym, subst, ◌∙◌, add-zero, add-one, arith}
@@ -14,7 +15,7 @@ use Rattle.clock.specs.declared.WindowTime.{WindowTime}
 use Rattle.plan.specs.declared.Plan.{Plan}
 use Rattle.plan.specs.Accepted.{Accepted}
 use Rattle.bounds.specs.Events.{start_node}
-use Rattle.bounds.specs.Tables.{upto, Rows, at, listed}
+use Rattle.bounds.specs.Tables.{Cell, upto, Rows, at, listed}
 use Rattle.bounds.specs.Flat.{no_bound_mark, is_bound, weight_at, cell_of, cell_at, rows_of, WeightInRange}
 use Rattle.bounds.specs.Held.{JudgedTable, CellAtMost}
 use Rattle.bounds.specs.BuildLaws.{length-listed, listed_more, event_set-listed, at-build}
@@ -129,24 +130,22 @@ module _ (p : Plan) (a : Accepted p) (i : ℕ) (job : i < p.jobs) (ws : List ℤ
   events-above : events_on Above ws count ≡ event_set (listed (events_before p i) (λ e. is_on (from_above t s e)))
   events-above = ap event_set (listed-ext count (is_on_side Above ws count) (λ e. is_on (from_above t s e)) (λ e h. ap is_on (cell-above e h)))
 
-  -- the origin's two bounds are always there
-  origin-weight : (y z : ℕ) (v : ℤ) → y < suc s → z < suc s → CellAtMost (at t y z) v → weight_at ws y z ≡ weight (at t y z)
-  origin-weight y z v h l m =
-      let built : at t y z ≡ cell_at ws y z = at-build (suc s) (cell_at ws) y z h l in
-      sym (ap weight built ∙ held-weight (weight_at ws y z) (eq_z (weight_at ws y z) no_bound_mark) refl m.weight (sym built ∙ m.held))
+  -- the origin's two bounds
+  pub origin-fits : (y z : ℕ) → y < suc s → z < suc s → WeightInRange (weight_at ws y z)
+  origin-fits y z h l = judged-table-weights p (suc s) ws fit a (omega arith) y z h l
 
   pub terms_of-is : (low high : WindowTime) (below above : Events)
-      → low.0 ≡ neg_ℤ (weight_at ws s 0) -ℤ p.window
-      → high.0 ≡ weight_at ws 0 s -ℤ p.window
+      → low.0 ≡ c_on Below (cell_at ws s 0) -ℤ p.window
+      → high.0 ≡ c_on Above (cell_at ws 0 s) -ℤ p.window
       → bits_of below ≡ events_on Below ws count
       → bits_of above ≡ events_on Above ws count
       → ◌≡◌ {A = Terms} (record { low = low; high = high; below = below; above = above }) (terms_of p i t)
   unfolding terms_of
   terms_of-is low high below above l h b u =
-      let first = origin-weight s 0 _ (omega arith) (omega arith) (fit.below s (omega arith) (omega arith)) in
-      let last = origin-weight 0 s _ (omega arith) (omega arith) (fit.above s (omega arith) (omega arith)) in
-      let low-is = l ∙ ap (λ (w : ℤ). neg_ℤ w -ℤ p.window) first in
-      let high_is = h ∙ ap (λ (w : ℤ). w -ℤ p.window) last in
+      let first = sym (at-build (suc s) (cell_at ws) s 0 (omega arith) (omega arith)) in
+      let last = sym (at-build (suc s) (cell_at ws) 0 s (omega arith) (omega arith)) in
+      let low-is = l ∙ ap (λ (d : Cell). c_on Below d -ℤ p.window) first in
+      let high_is = h ∙ ap (λ (d : Cell). c_on Above d -ℤ p.window) last in
       made low-is high_is (b ∙ events-below) (u ∙ events-above)
     where
       made : {x y : ℤ} {m n : ℕ} → low.0 ≡ x → high.0 ≡ y → bits_of below ≡ m → bits_of above ≡ n
@@ -158,3 +157,19 @@ module _ (p : Plan) (a : Accepted p) (i : ℕ) (job : i < p.jobs) (ws : List ℤ
           ∙ ap₂ (λ (s t : Events). record { low = record { 0 = x }; high = record { 0 = y }; below = s; above = t })
           (events_of-bits below b)
           (events_of-bits above u)
+
+  -- the origin's two bounds are always there, so that their weights can be read
+  origin-weight : (y z : ℕ) (v : ℤ) → y < suc s → z < suc s → CellAtMost (at t y z) v → weight_at ws y z ≡ weight (cell_at ws y z)
+  origin-weight y z v h l m =
+      sym (held-weight (weight_at ws y z) (eq_z (weight_at ws y z) no_bound_mark) refl m.weight (sym (at-build (suc s) (cell_at ws) y z h l) ∙ m.held))
+
+  pub terms_of-weights : (low high : WindowTime) (below above : Events)
+      → low.0 ≡ neg_ℤ (weight_at ws s 0) -ℤ p.window
+      → high.0 ≡ weight_at ws 0 s -ℤ p.window
+      → bits_of below ≡ events_on Below ws count
+      → bits_of above ≡ events_on Above ws count
+      → ◌≡◌ {A = Terms} (record { low = low; high = high; below = below; above = above }) (terms_of p i t)
+  terms_of-weights low high below above l h b u =
+      let first = origin-weight s 0 _ (omega arith) (omega arith) (fit.below s (omega arith) (omega arith)) in
+      let last = origin-weight 0 s _ (omega arith) (omega arith) (fit.above s (omega arith) (omega arith)) in
+      terms_of-is low high below above (l ∙ ap (λ (w : ℤ). neg_ℤ w -ℤ p.window) first) (h ∙ ap (λ (w : ℤ). w -ℤ p.window) last) b u

@@ -1,18 +1,18 @@
 -- No two answers meet the promise of a public operation: each promise is an equation, and `only` of the crate `text` says the rest.
-use Rattle.std.specs.Prelude.{ℕ, ◌≡◌, List, length, take}
-use Rattle.std.proofs.Common.{ap₂}
+use Rattle.std.specs.Prelude.{ℕ, ◌≡◌, List, length, take, Result}
 use Rattle.text.specs.Unique.{only}
 use Rattle.text.specs.Lent.{written}
 use Rattle.plan.specs.declared.Plan.{Plan}
-use Rattle.lines.specs.declared.Written.{Written}
+use Rattle.lines.specs.declared.Refusal.{Refusal}
 use Rattle.lines.specs.Written.{written_as, written_whole}
+use Rattle.lines.specs.declared.FaultyPart.{FaultyPart}
 use Rattle.lines.specs.Reading.{refused_number, refused_value, faulty_part}
-use Rattle.rounds.specs.declared.Verdict.{Verdict}
-use Rattle.rounds.specs.Rounds.{outcome, verdict}
+use Rattle.lines.specs.Answers.{part_told, reported}
+use Rattle.rounds.specs.Rounds.{outcome}
 use Rattle.rounds.specs.TextVerdict.{settled_alone}
 use Rattle.calendars.specs.declared.Calendar.{Calendar}
 use Rattle.calendars.specs.declared.Decision.{Decision}
-use Rattle.calendars.specs.Calendars.{no_calendar, made_calendar}
+use Rattle.calendars.specs.Calendars.{no_calendar, decision}
 use Rattle.calendars.specs.CalendarText.{decision_text, calendar_output}
 use Rattle.lines.specs.Unique.{whole_unique}
 
@@ -23,22 +23,20 @@ empty-calendar-unique p = only
 
 -- ---- what is decided
 
-pub decide-unique : (p : Plan) {r q : Decision} → (r.verdict ≡ verdict p) × (r.calendar ≡ made_calendar p (outcome p))
-    → (q.verdict ≡ verdict p) × (q.calendar ≡ made_calendar p (outcome p))
-    → r ≡ q
-decide-unique p d e = ap₂ (λ (v : Verdict) (c : Calendar). record { verdict = v; calendar = c }) (only d.0 e.0) (only d.1 e.1)
+pub decide-unique : (p : Plan) {r q : Result Decision Refusal} → r ≡ decision p (outcome p) → q ≡ decision p (outcome p) → r ≡ q
+decide-unique p = only
 
-pub write-decision-unique : (jobs : ℕ) (v : Verdict) (c : Calendar) (out : List ℕ) {r q : Written} → r ≡ written_as (decision_text jobs v c) out
-    → q ≡ written_as (decision_text jobs v c) out
+pub write-decision-unique : (jobs : ℕ) (d : Result Decision Refusal) (out : List ℕ) {r q : Result ℕ Refusal} → r ≡ written_as (decision_text jobs d) out
+    → q ≡ written_as (decision_text jobs d) out
     → r ≡ q
-write-decision-unique jobs v c out = only
+write-decision-unique jobs d out = only
 
-pub write-decision-bytes-unique : (jobs : ℕ) (v : Verdict) (c : Calendar) (out : List ℕ) {o p : List ℕ} → o ≡ written (decision_text jobs v c) out
-    → p ≡ written (decision_text jobs v c) out
+pub write-decision-bytes-unique : (jobs : ℕ) (d : Result Decision Refusal) (out : List ℕ) {o p : List ℕ} → o ≡ written (decision_text jobs d) out
+    → p ≡ written (decision_text jobs d) out
     → o ≡ p
-write-decision-bytes-unique jobs v c out = only
+write-decision-bytes-unique jobs d out = only
 
-pub answer-unique : (s out : List ℕ) {r q : Written} → r ≡ written_as (calendar_output s) out → q ≡ written_as (calendar_output s) out → r ≡ q
+pub answer-unique : (s out : List ℕ) {r q : Result ℕ Refusal} → r ≡ written_as (calendar_output s) out → q ≡ written_as (calendar_output s) out → r ≡ q
 answer-unique s out = only
 
 pub answer-bytes-unique : (s out : List ℕ) {o p : List ℕ} → o ≡ written (calendar_output s) out → p ≡ written (calendar_output s) out → o ≡ p
@@ -50,11 +48,16 @@ pub answer-read-unique : (s : List ℕ) (n : ℕ) (out : List ℕ) {r q : ℕ} {
     → (r ≡ q) × (o ≡ p)
 answer-read-unique s n out = whole_unique (calendar_output (take n s)) out
 
--- ---- the refusal of a plan's text: the part, and what the two numbers become
+-- ---- the refusal of a plan's text: nothing, or the refusal and the bytes of the line
 
+pub refused-in-plan-unique : (s : List ℕ) (r q : Result Unit FaultyPart) → part_told r ≡ reported (settled_alone s) → part_told q ≡ reported (settled_alone s)
+    → part_told r ≡ part_told q
+refused-in-plan-unique s r q = only
+
+-- and of its parts: the bytes of the line, and the two numbers
 module _ (s : List ℕ) where
-  pub refused-in-plan-unique : {r q : List ℕ} → r ≡ faulty_part (settled_alone s) → q ≡ faulty_part (settled_alone s) → r ≡ q
-  refused-in-plan-unique = only
+  pub refused-in-plan-part-unique : {r q : List ℕ} → r ≡ faulty_part (settled_alone s) → q ≡ faulty_part (settled_alone s) → r ≡ q
+  refused-in-plan-part-unique = only
 
   pub refused-in-plan-number-unique : {n m : ℕ} → n ≡ refused_number (settled_alone s) → m ≡ refused_number (settled_alone s) → n ≡ m
   refused-in-plan-number-unique = only

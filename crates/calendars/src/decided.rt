@@ -1,38 +1,25 @@
-// What is decided of a plan: its verdict, and its calendar.
+// What is decided of a plan: its round and its calendar, or the refusal of its verdict.
 ghost use Rattle.std.specs.Prelude.{◌≡◌};
 ghost use Rattle.plan.specs.Accepted.{Accepted};
-ghost use Rattle.rounds.specs.Rounds.{outcome, verdict};
-ghost use Rattle.calendars.specs.Calendars.{made_calendar};
+ghost use Rattle.rounds.specs.Rounds.{outcome};
+ghost use Rattle.calendars.specs.Calendars.{decision};
 
 use crate::Decision;
-use crate::walk::{calendar_of, empty_calendar};
+use crate::walk::calendar_of;
 use bounds::Table;
+use lines::Refusal;
 use plan::Plan;
-use rounds::{Verdict, settle};
+use rounds::{settle, tell_verdict};
 
-// The verdict on an accepted plan and, where it is settled, its calendar; beside any other verdict a calendar that says nothing.
-pub fn decide(p: Plan) -> Decision
+// The round in which an accepted plan settles, and its calendar; 4 or 5 where it does not settle.
+pub fn decide(p: Plan) -> Result<Decision, Refusal>
     requires { Accepted p }
-    ensures verdict_value { result.verdict ≡ verdict p }
-    ensures calendar_value { result.calendar ≡ made_calendar p (outcome p) }
+    ensures { result ≡ decision p (outcome p) }
 {
     let times = bounds::times_of(p);
-    let early = times.early;
-    let late = times.late;
     let mut joined = Table::empty();
-    let verdict = settle(p, &early, &late, &mut joined.weights);
-    match verdict {
-        Verdict::Settled(_) => {
-            let calendar = calendar_of(p, &joined.weights, &early, &late);
-            Decision { verdict, calendar }
-        }
-        Verdict::NoStrategy(_) => {
-            let calendar = empty_calendar();
-            Decision { verdict, calendar }
-        }
-        Verdict::Unsettled(_) => {
-            let calendar = empty_calendar();
-            Decision { verdict, calendar }
-        }
-    }
+    let verdict = settle(p, &times, &mut joined);
+    let round = tell_verdict(verdict)?;
+    let calendar = calendar_of(p, &joined, &times);
+    Ok(Decision { round, calendar })
 }

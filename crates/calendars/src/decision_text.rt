@@ -1,43 +1,51 @@
 // The text of a decision, written into a lent slice.
 ghost use Rattle.std.specs.Prelude.{◌≡◌, ◌≤◌, length};
-ghost use Rattle.text.specs.Lent.{Stored, written};
+ghost use Rattle.text.specs.Lent.{written};
 ghost use Rattle.plan.specs.Limits.{most_jobs};
 ghost use Rattle.lines.specs.Written.{written_as};
 ghost use Rattle.calendars.specs.CalendarText.{decision_text, most_calendar_bytes};
 
 use crate::print::put_calendar;
-use crate::{Calendar, MOST_BYTES};
-use lines::{Refusal, Written, put_refused};
-use rounds::{Verdict, VerdictTold, tell_verdict};
+use crate::{Decision, MOST_BYTES};
+use lines::{Refusal, Text, put_refused};
 
-// The text of a decision, as far as there is room; answers its length.
-fn put_decision(out: &mut [u8], jobs: usize, v: Verdict, c: Calendar) -> usize
-    requires { jobs ≤ most_jobs }
-    ensures stored { Stored out.old 0 (decision_text jobs v c) out.new result }
-    ensures upper_bound { result ≤ most_calendar_bytes }
-{
-    let told = tell_verdict(v);
-    match told {
-        VerdictTold::Settled(m) => put_calendar(out, 0, jobs, m, c),
-        VerdictTold::Refused(x) => put_refused(out, 0, x),
+// What is decided of a plan with so many jobs.
+#[derive(Clone, Copy)]
+struct Decided<'a> {
+    jobs: usize,
+    decision: &'a Result<Decision, Refusal>,
+}
+
+// The calendar, or the line of the refusal.
+impl<'a> Text for Decided<'a> {
+    ghost text = { λ d. decision_text d.jobs d.decision.now };
+
+    ghost can_put = { λ d. d.jobs ≤ most_jobs };
+
+    ghost most = { λ _. most_calendar_bytes };
+
+    fn most(&self) -> usize {
+        MOST_BYTES
+    }
+
+    fn put(&self, out: &mut [u8]) -> usize {
+        match self.decision {
+            Ok(d) => put_calendar(out, 0, self.jobs, d.round, &d.calendar),
+            Err(x) => put_refused(out, 0, *x),
+        }
     }
 }
 
-// The whole text of a decision, or 12 and not one byte changed. It is measured first, on a part without places, unless any calendar has room.
-pub fn write_decision(out: &mut [u8], jobs: usize, v: Verdict, c: Calendar) -> Written
+// The whole text of a decision, or 12 and not one byte changed.
+pub fn write_decision(
+    out: &mut [u8],
+    jobs: usize,
+    decision: &Result<Decision, Refusal>,
+) -> Result<usize, Refusal>
     requires { jobs ≤ most_jobs }
-    ensures value { result ≡ written_as (decision_text jobs v c) out.old }
-    ensures out_after { out.new ≡ written (decision_text jobs v c) out.old }
-    ensures c_len_bound { length (decision_text jobs v c) ≤ most_calendar_bytes }
+    ensures value { result ≡ written_as (decision_text jobs decision.now) out.old }
+    ensures out_after { out.new ≡ written (decision_text jobs decision.now) out.old }
+    ensures c_len_bound { length (decision_text jobs decision.now) ≤ most_calendar_bytes }
 {
-    if MOST_BYTES <= out.len() {
-        let length = put_decision(out, jobs, v, c);
-        return Written::Length(length);
-    }
-    let length_of_text = put_decision(&mut out[..0], jobs, v, c);
-    if out.len() < length_of_text {
-        return Written::Refused(Refusal::NoRoom);
-    }
-    let length = put_decision(out, jobs, v, c);
-    Written::Length(length)
+    lines::write(&Decided { jobs, decision }, out)
 }

@@ -3,7 +3,6 @@
 
 use clock::WindowTime;
 use events::Events;
-use rounds::Verdict;
 
 // What bounds the start of one job: the origin's two bounds on the window's own clock, and the events that bound it from below and
 // from above. Events are numbered in the calendar's order: the previous window's events first, by job, s before f, then the present window's. The origin is
@@ -22,6 +21,7 @@ pub const MOST_TERMS: usize = plan::MOST_JOBS * events::MOST_EVENTS;
 
 // A calendar. The c of event e for the job at place i stands at i * MOST_EVENTS + e, of `at_least` in start >= E + c and of `at_most` in
 // start <= E + c; places that no bit names are no part of the calendar, and hold zeros where the calendar was made here.
+// Stays: (a) arrays of all places side by side, since a calendar is fixed memory, and its user fills these three fields.
 #[derive(Clone, Copy)]
 pub struct Calendar {
     pub terms: [Terms; plan::MOST_JOBS],
@@ -29,10 +29,10 @@ pub struct Calendar {
     pub at_most: [i32; MOST_TERMS],
 }
 
-// What is decided of a plan: its verdict and, where it is settled, its calendar; beside any other verdict a calendar that says nothing.
+// What is decided of a settled plan: the round in which it settles, and its calendar. Of any other plan the refusal of its verdict is reported instead.
 #[derive(Clone, Copy)]
 pub struct Decision {
-    pub verdict: Verdict,
+    pub round: u64,
     pub calendar: Calendar,
 }
 

@@ -6,26 +6,17 @@ ghost use Rattle.calendars.specs.CalendarText.{calendar_output, most_calendar_by
 
 use crate::decided::decide;
 use crate::decision_text::write_decision;
-use lines::{TextAnswer, Written, write_refused};
+use lines::{Refusal, write_refused};
 
 // The answer to a plan's text: the calendar of a settled plan, or the line of the plan's refusal; 12 and not one byte changed, where it has no room. 32,768
 // bytes are room for every text.
-pub fn answer(text: &[u8], out: &mut [u8]) -> Written
+pub fn answer(text: &[u8], out: &mut [u8]) -> Result<usize, Refusal>
     ensures value { result ≡ written_as (calendar_output text.now) out.old }
     ensures out_after { out.new ≡ written (calendar_output text.now) out.old }
     ensures text_len_bound { length (calendar_output text.now) ≤ most_calendar_bytes }
 {
-    let read = plan::read_plan(text);
-    let told = read.answer;
-    match told {
-        TextAnswer::Accepted => {
-            let p = read.plan;
-            let jobs = p.jobs;
-            let decision = decide(p);
-            let verdict = decision.verdict;
-            let calendar = decision.calendar;
-            write_decision(out, jobs, verdict, calendar)
-        }
-        TextAnswer::Refused(x) => write_refused(out, x),
+    match plan::read_plan(text) {
+        Ok(read) => write_decision(out, read.plan.jobs, &decide(read.plan)),
+        Err(fault) => write_refused(out, fault.refusal),
     }
 }

@@ -10,7 +10,7 @@ ghost use Rattle.calendars.specs.Calendars.{before_starts, calendar_of, no_calen
 
 use crate::recorded::put_terms_of;
 use crate::{Calendar, MOST_TERMS, Terms};
-use bounds::{Table, drop_finish, drop_start};
+use bounds::{Spans, Table};
 use clock::WindowTime;
 use events::Events;
 use plan::{MOST_JOBS, Plan};
@@ -35,34 +35,19 @@ pub fn empty_calendar() -> Calendar
 
 // 'Calendar: with the settled set, the bounds on each start just before it is eliminated.' The table holds the settled set on the next window, C(0) on this
 // one and the bounds between, and its elimination gives no contradiction.
-pub fn calendar_of<'a>(
-    p: Plan,
-    joined: &'a [i32; Table::SIZE],
-    early: &'a [i32; Table::SIDE],
-    late: &'a [i32; Table::SIDE],
-) -> Calendar
-    requires { (TableHeldFor p early.now late.now (nodes (p.jobs + p.jobs)) joined.now)
-        × (is_contradictory (eliminated p p.jobs p.jobs (rows_of (nodes (p.jobs + p.jobs)) joined.now)) ≡ false) }
-    ensures { result ≡ calendar_of p (before_starts p p.jobs (rows_of (nodes (p.jobs + p.jobs)) joined.now)) }
+pub fn calendar_of(p: Plan, joined: &Table, times: &Spans) -> Calendar
+    requires { (TableHeldFor p times.now.early times.now.late (nodes (p.jobs + p.jobs)) joined.now.weights)
+        × (is_contradictory (eliminated p p.jobs p.jobs (rows_of (nodes (p.jobs + p.jobs)) joined.now.weights)) ≡ false) }
+    ensures { result ≡ calendar_of p (before_starts p p.jobs (rows_of (nodes (p.jobs + p.jobs)) joined.now.weights)) }
 {
-    let jobs = p.jobs;
-    let none = empty_calendar();
-    let mut terms = none.terms;
-    let mut least = none.at_least;
-    let mut most = none.at_most;
-    let mut weights = *joined;
-    let mut left = jobs;
-    while 0 < left {
-        left -= 1;
-        let k = jobs + left;
-        drop_finish(&mut weights, early, late, k);
-        let start = put_terms_of(&mut least, &mut most, &weights, p, left);
-        terms[left] = start;
-        drop_start(&mut weights, early, late, k);
+    let mut c = empty_calendar();
+    let mut table = *joined;
+    for i in (0..p.jobs).rev() {
+        let k = p.jobs + i;
+        // A settled set gives no contradiction, neither here nor below.
+        let _ = table.drop_finish(times, k);
+        c.terms[i] = put_terms_of(&mut c.at_least, &mut c.at_most, &table, p, i);
+        let _ = table.drop_start(times, k);
     }
-    Calendar {
-        terms: terms,
-        at_least: least,
-        at_most: most,
-    }
+    c
 }

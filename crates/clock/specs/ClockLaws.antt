@@ -1,7 +1,9 @@
 -- In the ranges of `Spans` a window begins no later than as many of the longest windows on the run's clock, so that this time and one near it fit an i64.
--- What the machine adds to a time is the number of milliseconds itself. Two comparisons tell whether a time is between two others.
+-- What the machine adds to a time is the number of milliseconds itself. Two comparisons tell whether a time is between two others; which of two times is the
+-- earlier one is as the order that is derived with their type has it (`is_earlier-lt`).
 use Rattle.std.specs.Prelude.{ℕ, ◌*◌, ◌-◌, ◌≤◌, ◌≡◌, true, false, ℤ, pos, ◌+ℤ◌, ◌≤ℤ◌}
-use Rattle.std.proofs.Common.{⊎_elim, mul-le-mul, arith, SFits, to_z, of_z, to_z-of_z}
+use Rattle.std.proofs.Common.{⊎_elim, mul-le-mul, arith, rules, SFits, to_z, of_z, to_z-of_z}
+use Rattle.std.specs.Ordering.{partial_lt}
 use Rattle.std.specs.Int.Signed.{le_z}
 use Rattle.std.specs.Int.{w32, w64}
 use Rattle.whole.specs.Widths.{i32-widened}
@@ -9,6 +11,7 @@ use Rattle.whole.specs.Split.{up, dn}
 use Rattle.whole.specs.SplitLaws.{split_one, split-mul}
 use Rattle.whole.specs.Rules.{whole, wholes}
 use Rattle.clock.specs.declared.RunTime.{RunTime}
+use Rattle.clock.specs.contracts.RunTimePartialOrd.TheImpl as derived
 use Rattle.clock.specs.Clock.{begins_at, is_earlier, is_between}
 use Rattle.clock.specs.Spans.{longest_length, last_window, WindowInRange, NearBeginning}
 
@@ -52,3 +55,6 @@ module _ (from to t : RunTime) where
   pub is_between-on : is_earlier t from ≡ false → is_earlier to t ≡ false → is_between from to t ≡ true
   is_between-on e f =
       let h : le_z from.0 t.0 ≡ true = omega whole in let k : le_z t.0 to.0 ≡ true = omega whole in rw (h, k)
+
+pub is_earlier-lt : (t u : RunTime) → partial_lt derived.ghosts.partial_cmp t u ≡ is_earlier t u
+is_earlier-lt t u = search rules

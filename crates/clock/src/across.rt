@@ -11,10 +11,7 @@ fn begins_at(window: i32, j: u64) -> RunTime
     requires { WindowInRange window j }
     ensures { result ≡ begins_at window j }
 {
-    let before = (j - 1) as i64;
-    let length = window as i64;
-    let beginning = before * length;
-    RunTime(beginning)
+    RunTime((j - 1) as i64 * i64::from(window))
 }
 
 // A time of window j, on the run's clock.
@@ -23,9 +20,5 @@ pub fn on_run(window: i32, j: u64, t: WindowTime) -> RunTime
     requires near_beginning { NearBeginning t.0 }
     ensures { result ≡ on_run window j t }
 {
-    let first = begins_at(window, j);
-    let beginning = first.0;
-    let own = t.0;
-    let time = beginning + own;
-    RunTime(time)
+    RunTime(begins_at(window, j).0 + t.0)
 }

@@ -6,12 +6,12 @@ mod across;
 mod times;
 
 pub use across::on_run;
-pub use times::{is_between, is_earlier, moved_by};
+pub use times::is_between;
 
 // A time on a window's own clock, which begins with the window.
-#[derive(Clone, Copy)]
+#[derive(Clone, Copy, PartialEq, Eq, PartialOrd, Ord)]
 pub struct WindowTime(pub i64);
 
 // A time on the run's clock, which begins with window 1.
-#[derive(Clone, Copy)]
+#[derive(Clone, Copy, PartialEq, Eq, PartialOrd, Ord)]
 pub struct RunTime(pub i64);

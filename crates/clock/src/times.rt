@@ -1,40 +1,30 @@
-// Times on the run's clock: compared, and moved.
+// Times on the run's clock, moved, and between two others. Which of two is the earlier one is derived with the type.
 
 ghost use Rattle.std.specs.Prelude.{◌≡◌, ◌+ℤ◌};
 ghost use Rattle.std.specs.Int.{w64};
 ghost use Rattle.std.proofs.Common.{SFits};
-ghost use Rattle.clock.specs.Clock.{is_earlier, is_between, moved_by};
+ghost use Rattle.clock.specs.Clock.{is_between, moved_by};
 
 use crate::RunTime;
+use std::ops::Add;
 
-// Whether t is earlier than u.
-pub fn is_earlier(t: RunTime, u: RunTime) -> bool
-    ensures { result ≡ is_earlier t u }
-{
-    let this = t.0;
-    let other = u.0;
-    this < other
-}
-
+// Stays: (a) a function of its own: its public contract says of two ends what a range's does not name.
 // Whether t is from one time to another, both included.
 pub fn is_between(from: RunTime, to: RunTime, t: RunTime) -> bool
     ensures { result ≡ is_between from to t }
 {
-    if is_earlier(t, from) {
-        return false;
-    }
-    if is_earlier(to, t) {
-        return false;
-    }
-    true
+    (from..=to).contains(&t)
 }
 
 // The time c milliseconds after t, or before it where c is negative.
-pub fn moved_by(t: RunTime, c: i32) -> RunTime
-    requires { SFits w64 (t.0 +ℤ c) }
-    ensures { result ≡ moved_by t c }
-{
-    let this = t.0;
-    let after = c as i64;
-    RunTime(this + after)
+impl Add<i32> for RunTime {
+    type Output = RunTime;
+
+    ghost can_add = { λ t c. SFits w64 (t.0 +ℤ c) };
+
+    ghost add_gives = { λ t c u. u ≡ moved_by t c };
+
+    fn add(self, c: i32) -> RunTime {
+        RunTime(self.0 + i64::from(c))
+    }
 }

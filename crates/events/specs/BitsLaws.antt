@@ -13,8 +13,8 @@
 -- (`next_event-has`), and none from e on to it is (`next_event-least`). So a walk that does nothing at an event outside the set can go on at the next event
 -- (`next_event-skips`): a loop `let mut e = set.next(first); while e < count { ..; e = set.next(e + 1); }` does what a walk over every event does.
 -- The count from e on is one for the next event and the count after it (`count_from-next`), and 0 where there is none (`count_from-none`).
--- The members from e on are those from the next event on (`members-next`), which comes first among them (`members-here`); past the last event there is none
--- (`members-none`).
+-- The members from e on are those from the next event on (`members-next`), which comes first among them (`members-here`, `members-first`); past the last
+-- event there is none (`members-none`, `members-over`). Each member is an event of the set in the range that they were asked of (`members-each`).
 
 use Rattle.std.specs.Prelude.{ℕ, zero, suc, ◌+◌, ◌*◌, ◌-◌, ◌/◌, ◌%◌, ◌^◌, ◌≤◌, ◌<◌, ◌≡◌, refl, ◌⊎◌, Bool, true, false, cond, List, [], ◌∷◌, ◌++◌, eqb, leb, ltb, length, get_or}
 use Rattle.std.proofs.Common.{sym, ap, ◌∙◌, inl, inr, ⊎_elim, true≢false, pow-suc, div-one, zero-add, add-zero, suc-add, add-suc, add-one, arith, pow_mono, shr_lt, eqb-true, eq-eqb, ne_eqb, leb-true, leb-false, ltb-true, ltb-false}
@@ -424,3 +424,37 @@ unfolding members_from
 members-next s e count k next =
     next_event-skips s count (members_from s) (λ e n l h. members-past s e n h) (λ e d. refl) e
     ∙ ap (λ (j : ℕ). members_from s j (count - j)) (sym next)
+
+-- the first member from an event on, where it is before count; and none, where it is not
+pub members-first : (s e count k : ℕ) → k ≡ next_event s e → k < count → count ≤ most_bits
+    → members_from s e (count - e) ≡ k ∷ members_from s (k + 1) (count - (k + 1))
+members-first s e count k next l h =
+    members-next s e count k next ∙ members-here s k count l (rw next (next_event-has s e (omega (arith, next))))
+
+pub members-over : (s e count k : ℕ) → k ≡ next_event s e → count ≤ k → members_from s e (count - e) ≡ []
+members-over s e count k next h = members-next s e count k next ∙ members-none s k count h
+
+-- what holds of each of some events
+abbrev pub EachOf : (ℕ → Type 0) → List ℕ → Type 0
+EachOf P [] = Unit
+EachOf P (e ∷ es) = P e × EachOf P es
+
+-- an event of a set, not before the first one and below count: each of the members is one
+pub record Member (s first count e : ℕ) : Type 0 where
+  pub from : first ≤ e
+  pub below : e < count
+  pub has : has_event e s ≡ true
+
+each-from : (s first count e n : ℕ) → first ≤ e → ((k : ℕ) → k < n → e + k < count) → EachOf (Member s first count) (members_from s e n)
+unfolding members_from
+each-from s first count e zero l h = tt
+each-from s first count e (suc n) l h =
+    of (has_event e s) refl (each-from s first count (suc e) n (omega arith) (λ k m. omega (arith, h (suc k) (omega arith))))
+  where
+    of : (b : Bool) → has_event e s ≡ b → EachOf (Member s first count) (members_from s (suc e) n)
+        → EachOf (Member s first count) (cond b (e ∷ members_from s (suc e) n) (members_from s (suc e) n))
+    of true y rest = (record { from = l; below = omega (arith, h 0 (omega arith)); has = y }, rest)
+    of false y rest = rest
+
+pub members-each : (s first count : ℕ) → EachOf (Member s first count) (members_from s first (count - first))
+members-each s first count = each-from s first count first (count - first) (omega arith) (λ k m. omega arith)

@@ -1,10 +1,10 @@
 -- No two answers meet the promise of a public operation: each promise is an equation, and `only` of the crate `text` says the rest. A set of events is its
 -- number (`events-unique`).
-use Rattle.std.specs.Prelude.{ℕ, ◌≡◌, Bool, []}
+use Rattle.std.specs.Prelude.{ℕ, ◌-◌, ◌≡◌, Bool, List, []}
 use Rattle.std.proofs.Common.{ap}
 use Rattle.text.specs.Unique.{only}
 use Rattle.events.specs.declared.Events.{Events}
-use Rattle.events.specs.Bits.{bits_of, events_of, has_event, event_set, with_event, with_if, with_first, event_count, is_below, next_event}
+use Rattle.events.specs.Bits.{bits_of, events_of, has_event, event_set, with_event, with_if, with_first, event_count, is_below, next_event, members_from}
 
 events-unique : {r q : Events} {n : ℕ} → r.0 ≡ n → q.0 ≡ n → r ≡ q
 events-unique d e = ap (λ (n : ℕ). record { 0 = n }) (only d e)
@@ -38,3 +38,7 @@ is-below-unique s count = only
 
 pub next-unique : (s : Events) (e : ℕ) {r q : ℕ} → r ≡ next_event s.0 e → q ≡ next_event s.0 e → r ≡ q
 next-unique s e = only
+
+pub members-unique : (s : Events) (first count : ℕ) {r q : List ℕ}
+    → r ≡ members_from (bits_of s) first (count - first) → q ≡ members_from (bits_of s) first (count - first) → r ≡ q
+members-unique s first count = only

@@ -1,6 +1,7 @@
 // Sets of events as bits: ones give the count, trailing zeros the next event.
 
-ghost use Rattle.std.specs.Prelude.{◌≡◌, [], ◌<◌};
+ghost use Rattle.std.specs.Prelude.{◌≡◌, [], ◌<◌, ◌≤◌, ◌-◌};
+ghost use Rattle.std.specs.Iterator.{YieldsFirst, item_count};
 ghost use Rattle.events.specs.Bits.{
   bits_of,
   events_of,
@@ -14,11 +15,13 @@ ghost use Rattle.events.specs.Bits.{
   event_count,
   is_below,
   next_event,
+  members_from,
 };
 
-use crate::{Events, MOST_BITS};
+use crate::{Events, MOST_BITS, Members};
 
 impl Events {
+    // Stays: (a) no Default and no From: the public names, which docs/PROMISES.md has.
     // The set of no events.
     pub fn empty() -> Events
         ensures { result.0 ≡ event_set [] }
@@ -37,7 +40,7 @@ impl Events {
     pub fn bits(self) -> u64
         ensures { result ≡ bits_of self }
     {
-        let all = self.0;
+        let Events(all) = self;
         all
     }
 
@@ -45,12 +48,7 @@ impl Events {
     pub fn has(self, e: usize) -> bool
         ensures { result ≡ has_event e self.0 }
     {
-        let s = self.0;
-        if e < MOST_BITS {
-            let rest = s >> e;
-            return rest & 1 == 1;
-        }
-        false
+        e < MOST_BITS && (self.0 >> e) & 1 == 1
     }
 
     // The set and event e.
@@ -58,9 +56,7 @@ impl Events {
         requires { e < most_bits }
         ensures { result.0 ≡ with_event e self.0 }
     {
-        let s = self.0;
-        let bit = 1u64 << e;
-        Events(s | bit)
+        Events(self.0 | 1 << e)
     }
 
     // The set, and event e where that is on.
@@ -68,10 +64,7 @@ impl Events {
         requires { e < most_bits }
         ensures { result.0 ≡ with_if on e self.0 }
     {
-        if on {
-            return self.with(e);
-        }
-        self
+        if on { self.with(e) } else { self }
     }
 
     // The set with each of its events one later, and event 0 where that is on: so a set is built from its last event down, which costs least.
@@ -79,41 +72,61 @@ impl Events {
         requires { HasRoom self.0 }
         ensures { result.0 ≡ with_first on self.0 }
     {
-        let s = self.0;
-        let later = 2 * s;
-        let first = on as u64;
-        let all = later + first;
-        Events(all)
+        Events(2 * self.0 + u64::from(on))
     }
 
     // How many events are in the set.
     pub fn count(self) -> u32
         ensures { result ≡ event_count self.0 }
     {
-        let s = self.0;
-        u64::count_ones(s)
+        self.0.count_ones()
     }
 
     // Whether every event of the set is below count.
     pub fn is_below(self, count: usize) -> bool
         ensures { result ≡ is_below count self.0 }
     {
-        let s = self.0;
-        if count < MOST_BITS {
-            let rest = s >> count;
-            return rest == 0;
-        }
-        true
+        count >= MOST_BITS || self.0 >> count == 0
     }
 
+    // Stays: (a) a place past the set and no Option: document 01's form, trailing zeros, says it so.
     // The first event of the set from event e on; e + MOST_BITS, where there is none.
     pub fn next(self, e: usize) -> usize
         requires { e < most_bits }
         ensures { result ≡ next_event self.0 e }
     {
-        let s = self.0;
-        let rest = s >> e;
-        let gap = u64::trailing_zeros(rest) as usize;
-        e + gap
+        e + (self.0 >> e).trailing_zeros() as usize
+    }
+
+    // The events of the set from the first one on, before count, in their order.
+    pub fn members(self, first: usize, count: usize) -> Members
+        requires { count ≤ most_bits }
+        ensures { result ≡ members_from (bits_of self) first (count - first) }
+    {
+        Members {
+            set: self,
+            from: first,
+            count,
+        }
+    }
+}
+
+impl Iterator for Members {
+    type Item = usize;
+
+    ghost next_gives = { YieldsFirst (λ m. m) };
+
+    ghost remaining = { item_count (λ m. m) };
+
+    fn next(&mut self) -> Option<usize> {
+        if self.from >= self.count {
+            return None;
+        }
+        let e = self.set.next(self.from);
+        if e >= self.count {
+            return None;
+        }
+        self.from = e + 1;
+        Some(e)
     }
 }

@@ -1,9 +1,10 @@
 -- Lines are counted by bytes: each line that is read takes a byte at least (`Counted`). So it is of a line (`line-counted`, `count-counted`), of an answer that
 -- reads nothing (`answer-counted`), and of one reading after another (`then-counted`).
-use Rattle.std.specs.Prelude.{ℕ, ◌+◌, ◌≤◌, ◌≡◌, List, length}
+use Rattle.std.specs.Prelude.{ℕ, ◌+◌, ◌≤◌, ◌≡◌, List, length, Result}
 use Rattle.std.proofs.Common.{ap, arith, length-drop, ltb-true}
 use Rattle.text.specs.Lines.{LF, len_to}
-use Rattle.lines.specs.Reading.{Lined, read, Reader, ◌>>=◌, answer, line, count_line}
+use Rattle.lines.specs.declared.Fault.{Fault}
+use Rattle.lines.specs.Reading.{read, Reader, ◌>>=◌, answer, line, count_line}
 use Rattle.lines.specs.ReadingLaws.{next-then, line_read}
 
 pub record Counted {A : Type 0} (m : Reader A) : Type 0 where
@@ -28,7 +29,7 @@ answer-counted a =
           omega (arith, ap length y);
     }
 
-pub line-counted : {A : Type 0} (f : List ℕ → Lined A) → Counted (line f)
+pub line-counted : {A : Type 0} (f : List ℕ → Result A Fault) → Counted (line f)
 line-counted f =
     record {
       counts = λ s n a t k e.

@@ -1,12 +1,11 @@
 -- How a text is read line by line (document 01, 'Numbers of refusal': 'then the first faulty line decides'; 'A reader of the refusal also
 -- gets back the faulty line as a part of the text, without its LF').
-use Rattle.std.specs.Prelude.{ℕ, suc, cond, List, [], ℤ, pos, nat_abs}
+use Rattle.std.specs.Prelude.{ℕ, suc, cond, List, [], ℤ, pos, nat_abs, Result, Ok, Err}
 use Rattle.text.specs.Lines.{LF, before, has, after}
 use Rattle.text.specs.Numbers.{number_after}
 use Rattle.lines.specs.declared.Fault.{Fault}
 use Rattle.lines.specs.declared.Fault.TheVariants as fault
-use Rattle.text.specs.declared.Number.{Number}
-use Rattle.text.specs.declared.Number.TheVariants as number
+use Rattle.text.specs.declared.NumberFault.{NumberFault}
 use Rattle.lines.specs.declared.Refusal.{Refusal}
 use Rattle.lines.specs.Refusals.{line_lacks, fault_at}
 use Rattle.lines.specs.Refusals as refusals
@@ -14,11 +13,6 @@ use Rattle.lines.specs.Refusals as refusals
 -- 'At most 65,536 bytes, a session's steps counted in.'
 abbrev pub longest_text : ℕ
 longest_text = 65536
-
--- One line taken for itself: its value, or what it lacks.
-pub data Lined (A : Type 0) : Type 0 where
-  holds : A → Lined A
-  lacks : Fault → Lined A
 
 -- A text read from some line on: the value, what is left of the text and the number of its first line; or the refusal and the text from the
 -- faulty line on.
@@ -41,19 +35,19 @@ abbrev pub ◌>>=◌ : {A B : Type 0} → Reader A → (A → Reader B) → Read
 abbrev pub answer : {A : Type 0} → A → Reader A
 answer a s n = read a s n
 
--- A line taken for itself becomes a reading: its value and the text after it, or its refusal.
-unfoldable pub lined : {A : Type 0} → Lined A → List ℕ → ℕ → Reading A
-lined (holds a) s n = read a (after LF s) (suc n)
-lined (lacks f) s n = refused (fault_at n f) s
+-- A line taken for itself, its value or what it lacks, becomes a reading: its value and the text after it, or its refusal.
+unfoldable pub lined : {A : Type 0} → Result A Fault → List ℕ → ℕ → Reading A
+lined (Ok a) s n = read a (after LF s) (suc n)
+lined (Err f) s n = refused (fault_at n f) s
 
 -- 'each ended by one LF': without it the line lacks its form, whatever stands in it. 'A line that is missing is faulty by 1 under the
 -- number it would have'
-unfoldable pub line : {A : Type 0} → (List ℕ → Lined A) → Reader A
-line f s n = lined (cond (has LF s) (f (before LF s)) (lacks fault.Form)) s n
+unfoldable pub line : {A : Type 0} → (List ℕ → Result A Fault) → Reader A
+line f s n = lined (cond (has LF s) (f (before LF s)) (Err fault.Form)) s n
 
-unfoldable pub lined_number : Number → Lined ℤ
-lined_number (number.Value z) = holds z
-lined_number (number.Bad f) = lacks (line_lacks f)
+unfoldable pub lined_number : Result ℤ NumberFault → Result ℤ Fault
+lined_number (Ok z) = Ok z
+lined_number (Err f) = Err (line_lacks f)
 
 -- a line that is a key and a number from lo to hi
 abbrev pub number_line : List ℕ → ℤ → ℤ → Reader ℤ

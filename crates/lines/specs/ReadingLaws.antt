@@ -1,7 +1,7 @@
 -- What follows from a reading that ended well: the reading before it ended well (`next-then`), a line had its LF and its value
 -- (`line_read`), a number is in its range (`number_line-then`), and so is a count (`count_line-then`). Each `-then` speaks of the first reading and leaves the
 -- rest (`Then`).
-use Rattle.std.specs.Prelude.{◌≡◌, refl, Bool, true, false, cond, List, ◌∷◌, ◌++◌, ℕ, suc, ◌≤◌, ℤ, pos, negsuc, nat_abs, ◌≤ℤ◌}
+use Rattle.std.specs.Prelude.{◌≡◌, refl, Bool, true, false, cond, List, ◌∷◌, ◌++◌, ℕ, suc, ◌≤◌, ℤ, pos, negsuc, nat_abs, ◌≤ℤ◌, Result, Ok, Err}
 use Rattle.std.proofs.Common.{sym, ◌∙◌, ap, append_assoc}
 use Rattle.whole.specs.Clash.{clash}
 use Rattle.whole.specs.Rules.{whole}
@@ -9,10 +9,10 @@ use Rattle.text.specs.LineLaws.{has_split}
 use Rattle.text.specs.NumberLaws.{number_after-value}
 use Rattle.text.specs.Lines.{LF, before, has, after}
 use Rattle.text.specs.Numbers.{decimal, number_after}
+use Rattle.lines.specs.declared.Fault.{Fault}
 use Rattle.lines.specs.declared.Fault.TheVariants as fault
-use Rattle.text.specs.declared.Number.{Number}
-use Rattle.text.specs.declared.Number.TheVariants as number
-use Rattle.lines.specs.Reading.{Lined, holds, lacks, Reading, read, refused, Reader, next, lined, line, lined_number, number_line, count_line}
+use Rattle.text.specs.declared.NumberFault.{NumberFault}
+use Rattle.lines.specs.Reading.{Reading, read, refused, Reader, next, lined, line, lined_number, number_line, count_line}
 use Rattle.lines.specs.Keyed.{keyed}
 
 -- ---- one reading after another
@@ -40,21 +40,21 @@ next_of f e d = rw e d
 
 -- ---- a line
 
-pub record LineRead {A : Type 0} (f : List ℕ → Lined A) (s : List ℕ) (n : ℕ) (a : A) (t : List ℕ) (k : ℕ) : Type 0 where
+pub record LineRead {A : Type 0} (f : List ℕ → Result A Fault) (s : List ℕ) (n : ℕ) (a : A) (t : List ℕ) (k : ℕ) : Type 0 where
   pub ended : has LF s ≡ true
-  pub held : f (before LF s) ≡ holds a
+  pub held : f (before LF s) ≡ Ok a
   pub rest : t ≡ after LF s
   pub number : k ≡ suc n
 
-pub line_read : {A : Type 0} (f : List ℕ → Lined A) (s : List ℕ) (n : ℕ) {a : A} {t : List ℕ} {k : ℕ} → line f s n ≡ read a t k → LineRead f s n a t k
+pub line_read : {A : Type 0} (f : List ℕ → Result A Fault) (s : List ℕ) (n : ℕ) {a : A} {t : List ℕ} {k : ℕ} → line f s n ≡ read a t k → LineRead f s n a t k
 unfolding line lined
 line_read {A} f s n {a} {t} {k} e = by_end (has LF s) refl e
   where
-    by_value : (v : Lined A) → f (before LF s) ≡ v → has LF s ≡ true → lined v s n ≡ read a t k → LineRead f s n a t k
-    by_value (holds b) h g d = record { ended = g; held = h ∙ ap holds (cc); rest = cc; number = cc }
-    by_value (lacks b) h g d = clash (cc)
+    by_value : (v : Result A Fault) → f (before LF s) ≡ v → has LF s ≡ true → lined v s n ≡ read a t k → LineRead f s n a t k
+    by_value (Ok b) h g d = record { ended = g; held = h ∙ ap Ok (cc); rest = cc; number = cc }
+    by_value (Err b) h g d = clash (cc)
 
-    by_end : (b : Bool) → has LF s ≡ b → lined (cond b (f (before LF s)) (lacks fault.Form)) s n ≡ read a t k → LineRead f s n a t k
+    by_end : (b : Bool) → has LF s ≡ b → lined (cond b (f (before LF s)) (Err fault.Form)) s n ≡ read a t k → LineRead f s n a t k
     by_end true g d = by_value (f (before LF s)) refl g d
     by_end false g d = clash (cc)
 
@@ -67,7 +67,7 @@ pub record NumberRead (key : List ℕ) (lo hi : ℤ) (s : List ℕ) (z : ℤ) (t
   pub written : s ≡ keyed key z t
 
 -- a line that was read is its content, its LF, and the rest
-pub line-written : {A : Type 0} {f : List ℕ → Lined A} {s : List ℕ} {n : ℕ} {a : A} {t : List ℕ} {k : ℕ} → LineRead f s n a t k → s ≡ before LF s ++ (LF ∷ t)
+pub line-written : {A : Type 0} {f : List ℕ → Result A Fault} {s : List ℕ} {n : ℕ} {a : A} {t : List ℕ} {k : ℕ} → LineRead f s n a t k → s ≡ before LF s ++ (LF ∷ t)
 line-written {s = s} {t = t} l = has_split LF s l.ended ∙ ap (λ (r : List ℕ). before LF s ++ (LF ∷ r)) (sym l.rest)
 
 pub number_line-read : (key : List ℕ) (lo hi : ℤ) (s : List ℕ) (n : ℕ) {z : ℤ} {t : List ℕ} {k : ℕ} → number_line key lo hi s n ≡ read z t k
@@ -78,15 +78,15 @@ number_line-read key lo hi s n {z} {t} {k} e = (by_number (number_after key lo h
     l : LineRead (λ l. lined_number (number_after key lo hi l)) s n z t k
     l = line_read (λ l. lined_number (number_after key lo hi l)) s n e
 
-    by_number : (m : Number) → number_after key lo hi (before LF s) ≡ m → lined_number m ≡ holds z → NumberRead key lo hi s z t
-    by_number (number.Value y) p d =
+    by_number : (m : Result ℤ NumberFault) → number_after key lo hi (before LF s) ≡ m → lined_number m ≡ Ok z → NumberRead key lo hi s z t
+    by_number (Ok y) p d =
         let q = number_after-value key lo hi z (before LF s) (cc) in
         record {
           least = q.0.least;
           most = q.0.greatest;
           written = line-written l ∙ ap (λ (r : List ℕ). r ++ (LF ∷ t)) q.1 ∙ append_assoc key (decimal z) (LF ∷ t);
         }
-    by_number (number.Bad f) p d = clash (cc)
+    by_number (Err f) p d = clash (cc)
 
 pub number_line-then : {B : Type 0} (key : List ℕ) (lo hi : ℤ) (s : List ℕ) (n : ℕ) (f : ℤ → Reader B) {b : B} {t : List ℕ} {k : ℕ}
     → next (number_line key lo hi s n) f ≡ read b t k → Then (λ z r i. NumberRead key lo hi s z r) f b t k

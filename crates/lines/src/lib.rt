@@ -1,20 +1,21 @@
-// What all texts share: their lines, keys with numbers, the refusals of the whole product and the line that reports one, and the result of writing into a
-// lent slice. This crate knows nothing of plans.
+// What all texts share: their lines, keys with numbers, the refusals of the whole product and the line that reports one, written into a lent slice.
+// This crate knows nothing of plans.
 #![tactic(auto)]
 
 // The most bytes that a text can have.
 pub const LONGEST_TEXT: usize = 65_536;
 
 // What a line can lack, in the order in which a line is judged: its form, the range of a number, a proper pair.
-#[derive(Clone, Copy)]
+#[derive(Clone, Copy, PartialEq, Eq)]
 pub enum Fault {
     Form,
     Range,
     Pair,
 }
 
+// Stays: (a) line 0 and no Option: document 01 prints D = 0 where there is no line.
 // Why something is refused. The definition `number` gives the paper's number of each case, `value` the D that is printed with it.
-#[derive(Clone, Copy)]
+#[derive(Clone, Copy, PartialEq, Eq)]
 pub enum Refusal {
     // 1: a line lacks the form required; line 0 where the text is too long.
     Form(usize),
@@ -42,33 +43,32 @@ pub enum Refusal {
     NoRoom,
 }
 
-// What the reader of a text answers, and the judge of a value as its text would be.
-#[derive(Clone, Copy)]
-pub enum TextAnswer {
-    Accepted,
-    Refused(Refusal),
-}
-
 // A refusal, and where its faulty line begins.
-#[derive(Clone, Copy)]
+#[derive(Clone, Copy, PartialEq, Eq)]
 pub struct FaultyLine {
     pub refusal: Refusal,
     pub at: usize,
 }
 
-// The result of writing into a lent slice: the length written; or the refusal, which is 12, or the value's own where a value is judged before it is written.
+// Stays: (a) an empty part and no Option: document 01, 'as a part it is empty'.
+// A refusal, and its faulty line as a part of the text, without its LF. The part is empty where no line is faulty.
 #[derive(Clone, Copy)]
-pub enum Written {
-    Length(usize),
-    Refused(Refusal),
+pub struct FaultyPart<'a> {
+    pub refusal: Refusal,
+    pub line: &'a [u8],
 }
 
+mod input;
 mod keyed;
+mod lent;
 mod parts;
+mod program;
 mod refusals;
 mod refused;
 
-pub use keyed::{put_count_line, put_line};
-pub use parts::tell_refusal;
-pub use refusals::{ends, fault_at, line_lacks, number, value};
+pub use input::read_full;
+pub use keyed::put_line;
+pub use lent::{Text, write};
+pub use parts::faulty_part;
+pub use program::{Program, answer_whole};
 pub use refused::{put_refused, write_refused};

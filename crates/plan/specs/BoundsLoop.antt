@@ -1,10 +1,10 @@
 -- The loop over the bounds' lines: `BoundsPassed` is what holds after i bounds, at the beginning (`BoundsPassed-start`), after one more (`-past`), at a fault
--- (`-stop`) and at the end (`-end`). The numbers of the pairs given decide as the pairs do (`judged_bound-numbered`, `bound_lined-numbered`).
-use Rattle.std.specs.Prelude.{◌≡◌, Bool, true, false, not, cond, ◌&&◌, ℕ, suc, ◌+◌, ◌-◌, ◌≤◌, ◌<◌, length, drop, set, replicate}
-use Rattle.std.proofs.Math.Path.{refl, sym, ap, subst}
+-- (`-stop`) and at the end (`-end`), where the array is filled (`-filled`). The numbers of the pairs given decide as the pairs do
+-- (`judged_bound-numbered`, `bound_lined-numbered`).
+use Rattle.std.specs.Prelude.{◌≡◌, Bool, true, false, not, cond, ◌&&◌, ℕ, suc, ◌+◌, ◌-◌, ◌≤◌, ◌<◌, length, drop, set, replicate, Option, Some, None, Ok, Err}
+use Rattle.std.proofs.Math.Path.{refl, sym, ap}
 use Rattle.std.proofs.Common.{◌∙◌, add-one, arith, take-suc-set}
 use mathlib.Core.List.{List, [], ◌∷◌, ◌++◌, map}
-use Rattle.std.proofs.Math.Option.{Option, none, some}
 use Rattle.std.proofs.Math.Nat.{sub-zero}
 use Rattle.std.proofs.Math.ListN.{take, length-set}
 use Rattle.text.specs.Bytes.{bytes}
@@ -12,11 +12,10 @@ use Rattle.text.specs.Lines.{LF, before, after_key}
 use Rattle.text.specs.Numbers.{within, number_value}
 use Rattle.lines.specs.declared.Fault.TheVariants as fault
 use Rattle.plan.specs.declared.Bound.{Bound}
-use Rattle.plan.specs.declared.BoundLine.TheVariants as bound_line
 use Rattle.lines.specs.declared.FaultyLine.{FaultyLine}
 use Rattle.plan.specs.Limits.{most_bounds, least_c, greatest_c, most_jobs}
 use Rattle.lines.specs.Reading.{read, next, line}
-use Rattle.plan.specs.PlanLines.{BoundParts, bound_parts, is_job, is_wrong_pair, judged_bound, bound_of, lined_bound, bound_of_line, bounds_after, no_bound, filled}
+use Rattle.plan.specs.PlanLines.{BoundParts, bound_parts, is_job, is_wrong_pair, judged_bound, bound_of, bound_of_line, bounds_after, no_bound, filled}
 use Rattle.plan.specs.Accepted.{BoundAccepted}
 use Rattle.plan.specs.Pairs.{pair_of, is_wrong_numbered}
 use Rattle.plan.specs.PairLaws.{Small, is_wrong_numbered-pair}
@@ -36,9 +35,9 @@ module _ (jobs : ℕ) (few : jobs ≤ most_jobs) (given : List Bound) (small : A
       in-range = within least_c greatest_c d.c
 
       by-jobs : (x y : Bool) → is_job jobs d.a.job ≡ x → is_job jobs d.b.job ≡ y
-          → cond (not (x && y && in-range)) (bound_line.Bad fault.Range)
-          (cond (is_wrong_numbered (map pair_of given) d.a d.b) (bound_line.Bad fault.Pair) (bound_line.Value d))
-          ≡ cond (not (x && y && in-range)) (bound_line.Bad fault.Range) (cond (is_wrong_pair d.a d.b given) (bound_line.Bad fault.Pair) (bound_line.Value d))
+          → cond (not (x && y && in-range)) (Err fault.Range)
+          (cond (is_wrong_numbered (map pair_of given) d.a d.b) (Err fault.Pair) (Ok d))
+          ≡ cond (not (x && y && in-range)) (Err fault.Range) (cond (is_wrong_pair d.a d.b given) (Err fault.Pair) (Ok d))
       by-jobs true true p r =
           rw (is_wrong_numbered-pair d.a d.b given (record {
             a_small = omega (arith, (is_job-range jobs d.a.job p).1);
@@ -50,11 +49,11 @@ module _ (jobs : ℕ) (few : jobs ≤ most_jobs) (given : List Bound) (small : A
 
   bound_of-numbered : (o : Option BoundParts) → bound_of jobs (is_wrong_numbered (map pair_of given)) o ≡ bound_of jobs (λ a b. is_wrong_pair a b given) o
   unfolding bound_of
-  bound_of-numbered none = refl
-  bound_of-numbered (some q) = judged_bound-numbered (record { a = q.a; b = q.b; c = number_value q.c })
+  bound_of-numbered None = refl
+  bound_of-numbered (Some q) = judged_bound-numbered (record { a = q.a; b = q.b; c = number_value q.c })
 
   bound_lined-numbered : (s : List ℕ) (n : ℕ) (codes : List ℕ) → codes ≡ map pair_of given
-      → line (bound_lined jobs (is_wrong_numbered codes)) s n ≡ line (λ l. lined_bound (bound_of_line jobs given l)) s n
+      → line (bound_lined jobs (is_wrong_numbered codes)) s n ≡ line (bound_of_line jobs given) s n
   unfolding line
   bound_lined-numbered s n codes e = rw (e, bound_of-numbered (bound_parts (after_key (bytes "bound=") (before LF s))))
 
@@ -93,7 +92,7 @@ module _ (s : List ℕ) (from number jobs bounds : ℕ) (bound : List Bound) (gi
   one_more : i < bounds → bounds - i ≡ suc (bounds - (i + 1))
   one_more h = omega arith
 
-  same_line : line (bound_lined jobs (is_wrong_numbered (take i given))) (drop at s) n ≡ line (λ l. lined_bound (bound_of_line jobs (take i bound) l)) (drop at s) n
+  same_line : line (bound_lined jobs (is_wrong_numbered (take i given))) (drop at s) n ≡ line (bound_of_line jobs (take i bound)) (drop at s) n
   same_line = bound_lined-numbered jobs few (take i bound) p.small (drop at s) n (take i given) p.coded
 
   pub BoundsPassed-stop : i < bounds → (f : FaultyLine) → line (bound_lined jobs (is_wrong_numbered (take i given))) (drop at s) n ≡ faulty_in s f
@@ -102,14 +101,11 @@ module _ (s : List ℕ) (from number jobs bounds : ℕ) (bound : List Bound) (gi
   BoundsPassed-stop h f e = p.told ∙ rw (one_more h, sym same_line ∙ e)
 
   pub BoundsPassed-past : i < bounds → bounds ≤ most_bounds → (d : Bound) (to code : ℕ) → to ≤ length s → code ≡ pair_of d
-      → line (bound_lined jobs (is_wrong_numbered (take i given))) (drop at s) n ≡ read d (drop to s) (n + 1) → {k : ℕ} → n + 1 ≡ k
-      → BoundsPassed s from number jobs bounds (set bound i d) (set given i code) to k (i + 1)
+      → line (bound_lined jobs (is_wrong_numbered (take i given))) (drop at s) n ≡ read d (drop to s) (n + 1)
+      → BoundsPassed s from number jobs bounds (set bound i d) (set given i code) to (n + 1) (i + 1)
   unfolding bounds_after next
-  BoundsPassed-past h m d to code g k e l =
-      subst
-      (λ (line : ℕ). BoundsPassed s from number jobs bounds (set bound i d) (set given i code) to line (i + 1))
-      l
-      (record {
+  BoundsPassed-past h m d to code g k e =
+      record {
         count = omega arith;
         place = g;
         numbered = omega (arith, p.numbered);
@@ -123,14 +119,14 @@ module _ (s : List ℕ) (from number jobs bounds : ℕ) (bound : List Bound) (gi
         small = rw taken (All-more (λ d. Small d.a d.b) (take i bound) d p.small
             (record { a_small = omega (arith, accepted.a-most); b-small = omega (arith, accepted.b-most) }));
         told = p.told ∙ step ∙ ap (λ (done : List Bound). bounds_after jobs done (bounds - (i + 1)) (drop to s) (n + 1)) (sym taken);
-      })
+      }
     where
       taken : take (i + 1) (set bound i d) ≡ take i bound ++ (d ∷ [])
       taken = rw (add-one i) (take-suc-set bound i d (omega (arith, p.array.places)))
 
       accepted : BoundAccepted jobs d
       accepted = (bound_of_line-read jobs (take i bound) (before LF (drop at s))
-          (line_read (λ l. lined_bound (bound_of_line jobs (take i bound) l)) (drop at s) n (sym same_line ∙ e)).held).accepted
+          (line_read (bound_of_line jobs (take i bound)) (drop at s) n (sym same_line ∙ e)).held).accepted
 
       codes-taken : take (i + 1) (set given i code) ≡ take i given ++ (code ∷ [])
       codes-taken = rw (add-one i) (take-suc-set given i code (omega (arith, p.codes)))

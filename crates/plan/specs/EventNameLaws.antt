@@ -1,8 +1,7 @@
 -- The laws of event names. Three bytes are a name by their letter, kind and digit (`event_name-three`), and nothing else is one (`event_name-other`). An event's
 -- number is small (`event_number-fits`) and no other event has it (`same_event-number`).
-use Rattle.std.specs.Prelude.{◌≡◌, refl, Bool, true, false, cond, ◌&&◌, List, [], ◌∷◌, ℕ, ◌+◌, ◌*◌, ◌-◌, ◌/◌, ◌≤◌, ◌<◌, eqb, length, get_or}
+use Rattle.std.specs.Prelude.{◌≡◌, refl, Bool, true, false, cond, ◌&&◌, List, [], ◌∷◌, ℕ, ◌+◌, ◌*◌, ◌-◌, ◌/◌, ◌≤◌, ◌<◌, eqb, length, get_or, Option, Some, None}
 use Rattle.std.proofs.Common.{sym, ◌∙◌, ap, subst, arith, eqb-true, eq-eqb, ne_eqb}
-use Rattle.std.proofs.Math.Option.{Option, none, some}
 use Rattle.std.proofs.lemmas.Bool.{eqb-false}
 use Rattle.whole.specs.Clash.{clash}
 use Rattle.text.specs.Numbers.{is_digit, zero_digit, digits}
@@ -31,10 +30,10 @@ use Rattle.plan.specs.EventNames.{
 
 -- ---- read
 
-name_of-none : (l : Option Letter) (k : Option Kind) → name_of l k none ≡ none
-name_of-none none k = refl
-name_of-none (some l) none = refl
-name_of-none (some l) (some k) = refl
+name_of-none : (l : Option Letter) (k : Option Kind) → name_of l k None ≡ None
+name_of-none None k = refl
+name_of-none (Some l) None = refl
+name_of-none (Some l) (Some k) = refl
 
 pub event_name-three : (s : List ℕ) → length s ≡ 3 → event_name s ≡ name_of (letter_of (get_or s 0 0)) (kind_of (get_or s 1 0)) (job_of (get_or s 2 0 ∷ []))
 unfolding event_name
@@ -44,7 +43,7 @@ event_name-three (a ∷ b ∷ []) h = absurd (omega arith)
 event_name-three (a ∷ b ∷ d ∷ []) h = refl
 event_name-three (a ∷ b ∷ d ∷ e ∷ s) h = absurd (omega arith)
 
-pub event_name-other : (s : List ℕ) → (length s ≡ 3 → ⊥) → event_name s ≡ none
+pub event_name-other : (s : List ℕ) → (length s ≡ 3 → ⊥) → event_name s ≡ None
 unfolding event_name
 event_name-other [] h = refl
 event_name-other (a ∷ []) h = refl
@@ -54,27 +53,27 @@ event_name-other (a ∷ b ∷ d ∷ e ∷ s) h = name_of-none (letter_of a) (kin
 
 -- ---- written and read
 
-letter_of-written : (a : ℕ) (l : Letter) → letter_of a ≡ some l → a ≡ letter_byte l
+letter_of-written : (a : ℕ) (l : Letter) → letter_of a ≡ Some l → a ≡ letter_byte l
 letter_of-written a l e = by_tests (eqb a 116) (eqb a 110) refl refl e
   where
-    by_tests : (p q : Bool) → eqb a 116 ≡ p → eqb a 110 ≡ q → cond p (some This) (cond q (some Next) none) ≡ some l → a ≡ letter_byte l
+    by_tests : (p q : Bool) → eqb a 116 ≡ p → eqb a 110 ≡ q → cond p (Some This) (cond q (Some Next) None) ≡ Some l → a ≡ letter_byte l
     by_tests true q h g d = eqb-true a 116 h ∙ ap letter_byte {x = This} {y = l} (cc)
     by_tests false true h g d = eqb-true a 110 g ∙ ap letter_byte {x = Next} {y = l} (cc)
     by_tests false false h g d = clash (cc)
 
-kind_of-written : (a : ℕ) (k : Kind) → kind_of a ≡ some k → a ≡ kind_byte k
+kind_of-written : (a : ℕ) (k : Kind) → kind_of a ≡ Some k → a ≡ kind_byte k
 kind_of-written a k e = by_tests (eqb a 115) (eqb a 102) refl refl e
   where
-    by_tests : (p q : Bool) → eqb a 115 ≡ p → eqb a 102 ≡ q → cond p (some Start) (cond q (some Finish) none) ≡ some k → a ≡ kind_byte k
+    by_tests : (p q : Bool) → eqb a 115 ≡ p → eqb a 102 ≡ q → cond p (Some Start) (cond q (Some Finish) None) ≡ Some k → a ≡ kind_byte k
     by_tests true q h g d = eqb-true a 115 h ∙ ap kind_byte {x = Start} {y = k} (cc)
     by_tests false true h g d = eqb-true a 102 g ∙ ap kind_byte {x = Finish} {y = k} (cc)
     by_tests false false h g d = clash (cc)
 
-job_of-written : (s : List ℕ) (i : ℕ) → job_of s ≡ some i → s ≡ digits i
+job_of-written : (s : List ℕ) (i : ℕ) → job_of s ≡ Some i → s ≡ digits i
 job_of-written [] i e = clash (cc)
 job_of-written (b ∷ []) i e = by-test (is_digit b) refl e
   where
-    by-test : (p : Bool) → is_digit b ≡ p → cond p (some (b - zero_digit)) none ≡ some i → b ∷ [] ≡ digits i
+    by-test : (p : Bool) → is_digit b ≡ p → cond p (Some (b - zero_digit)) None ≡ Some i → b ∷ [] ≡ digits i
     by-test true h d =
         let q : b - zero_digit ≡ i = cc in
         let r = is_digit-range b h in
@@ -83,39 +82,39 @@ job_of-written (b ∷ []) i e = by-test (is_digit b) refl e
     by-test false h d = clash (cc)
 job_of-written (b ∷ c ∷ s) i e = clash (cc)
 
-pub event_name-written : (s : List ℕ) (e : EventName) → event_name s ≡ some e → s ≡ name_bytes e
+pub event_name-written : (s : List ℕ) (e : EventName) → event_name s ≡ Some e → s ≡ name_bytes e
 unfolding event_name
 event_name-written [] e h = clash (cc)
 event_name-written (a ∷ []) e h = clash (cc)
 event_name-written (a ∷ b ∷ s) e h = by_parts (letter_of a) (kind_of b) (job_of s) refl refl refl h
   where
-    by_parts : (l : Option Letter) (k : Option Kind) (i : Option ℕ) → letter_of a ≡ l → kind_of b ≡ k → job_of s ≡ i → name_of l k i ≡ some e
+    by_parts : (l : Option Letter) (k : Option Kind) (i : Option ℕ) → letter_of a ≡ l → kind_of b ≡ k → job_of s ≡ i → name_of l k i ≡ Some e
         → a ∷ b ∷ s ≡ name_bytes e
-    by_parts none k i p q r d = clash (cc)
-    by_parts (some l) none i p q r d = clash (cc)
-    by_parts (some l) (some k) none p q r d = clash (cc)
-    by_parts (some l) (some k) (some i) p q r d =
+    by_parts None k i p q r d = clash (cc)
+    by_parts (Some l) None i p q r d = clash (cc)
+    by_parts (Some l) (Some k) None p q r d = clash (cc)
+    by_parts (Some l) (Some k) (Some i) p q r d =
         let v : ◌≡◌ {A = EventName} (record { letter = l; kind = k; job = i }) e = cc in
         subst (λ x. a ∷ b ∷ s ≡ name_bytes x) v (cc (letter_of-written a l p, kind_of-written b k q, job_of-written s i r))
 
-letter_of-back : (l : Letter) → letter_of (letter_byte l) ≡ some l
+letter_of-back : (l : Letter) → letter_of (letter_byte l) ≡ Some l
 letter_of-back This = refl
 letter_of-back Next = refl
 
-kind_of-back : (k : Kind) → kind_of (kind_byte k) ≡ some k
+kind_of-back : (k : Kind) → kind_of (kind_byte k) ≡ Some k
 kind_of-back Start = refl
 kind_of-back Finish = refl
 
 -- one job digit
-job_of-back : (i : ℕ) → i < 10 → job_of (digits i) ≡ some i
-job_of-back i h = rw (digits-one i h, is_digit-of i h) (ap some (omega arith))
+job_of-back : (i : ℕ) → i < 10 → job_of (digits i) ≡ Some i
+job_of-back i h = rw (digits-one i h, is_digit-of i h) (ap Some (omega arith))
 
-pub event_name-back : (e : EventName) → e.job < 10 → event_name (name_bytes e) ≡ some e
+pub event_name-back : (e : EventName) → e.job < 10 → event_name (name_bytes e) ≡ Some e
 unfolding event_name
 event_name-back e h = rw (letter_of-back e.letter, kind_of-back e.kind, job_of-back e.job h)
 
 -- and no more than one
-pub event_name-long : (e : EventName) → 10 ≤ e.job → event_name (name_bytes e) ≡ none
+pub event_name-long : (e : EventName) → 10 ≤ e.job → event_name (name_bytes e) ≡ None
 event_name-long e h = event_name-other (name_bytes e) (λ d. omega (arith, digits-length-more e.job h, digits-some (e.job / 10)))
 
 -- ---- numbered

@@ -1,15 +1,12 @@
 -- The names of events (document 01, 'Plan text': 'An event is a window letter (t this, n next), a kind (s start, f finish) and one job
 -- digit, as `nf2`').
-use Rattle.std.specs.Prelude.{ℕ, ◌+◌, ◌*◌, ◌-◌, Bool, true, false, cond, ◌&&◌, List, [], ◌∷◌, eqb}
-use Rattle.std.proofs.Math.Option.{Option, none, some}
+use Rattle.std.specs.Prelude.{ℕ, ◌+◌, ◌*◌, ◌-◌, Bool, true, false, cond, ◌&&◌, List, [], ◌∷◌, eqb, Option, Some, None}
 use Rattle.text.specs.Numbers.{is_digit, zero_digit, digits}
 use Rattle.plan.specs.declared.Letter.{Letter}
 use Rattle.plan.specs.declared.Letter.TheVariants.{This, Next}
 use Rattle.plan.specs.declared.Kind.{Kind}
 use Rattle.plan.specs.declared.Kind.TheVariants.{Start, Finish}
 use Rattle.plan.specs.declared.EventName.{EventName}
-use Rattle.plan.specs.declared.NameRead.{NameRead}
-use Rattle.plan.specs.declared.NameRead.TheVariants.{Value, Bad}
 
 -- ---- written
 
@@ -27,32 +24,27 @@ name_bytes e = letter_byte e.letter ∷ kind_byte e.kind ∷ digits e.job
 -- ---- read
 
 abbrev pub letter_of : ℕ → Option Letter
-letter_of b = cond (eqb b 116) (some This) (cond (eqb b 110) (some Next) none)
+letter_of b = cond (eqb b 116) (Some This) (cond (eqb b 110) (Some Next) None)
 
 abbrev pub kind_of : ℕ → Option Kind
-kind_of b = cond (eqb b 115) (some Start) (cond (eqb b 102) (some Finish) none)
+kind_of b = cond (eqb b 115) (Some Start) (cond (eqb b 102) (Some Finish) None)
 
 -- 'one job digit'
 abbrev pub job_of : List ℕ → Option ℕ
-job_of [] = none
-job_of (b ∷ []) = cond (is_digit b) (some (b - zero_digit)) none
-job_of (b ∷ c ∷ s) = none
+job_of [] = None
+job_of (b ∷ []) = cond (is_digit b) (Some (b - zero_digit)) None
+job_of (b ∷ c ∷ s) = None
 
 abbrev pub name_of : Option Letter → Option Kind → Option ℕ → Option EventName
-name_of none k i = none
-name_of (some l) none i = none
-name_of (some l) (some k) none = none
-name_of (some l) (some k) (some i) = some (record { letter = l; kind = k; job = i })
+name_of None k i = None
+name_of (Some l) None i = None
+name_of (Some l) (Some k) None = None
+name_of (Some l) (Some k) (Some i) = Some (record { letter = l; kind = k; job = i })
 
 unfoldable pub event_name : List ℕ → Option EventName
-event_name [] = none
-event_name (a ∷ []) = none
+event_name [] = None
+event_name (a ∷ []) = None
 event_name (a ∷ b ∷ s) = name_of (letter_of a) (kind_of b) (job_of s)
-
--- as the code answers it
-abbrev pub name_read : Option EventName → NameRead
-name_read none = Bad
-name_read (some e) = Value e
 
 -- ---- compared
 

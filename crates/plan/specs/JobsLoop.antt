@@ -1,5 +1,5 @@
 -- The loop over the jobs' lines: `JobsPassed` is what holds after i jobs, at the beginning (`JobsPassed-start`), after one more (`-past`), at a fault
--- (`-stop`) and at the end (`-end`).
+-- (`-stop`) and at the end (`-end`), where the array is filled (`-filled`).
 use Rattle.std.specs.Prelude.{◌≡◌, refl, ℕ, suc, ◌+◌, ◌*◌, ◌-◌, ◌≤◌, ◌<◌, length, drop, set, replicate}
 use Rattle.std.proofs.Math.Path.{sym, ap}
 use Rattle.std.proofs.Common.{◌∙◌, arith, add-one, take-suc-set}
@@ -39,7 +39,7 @@ module _ (s : List ℕ) (from jobs : ℕ) (job : List Job) (at line i : ℕ) (p 
   unfolding jobs_after next
   JobsPassed-stop h f e = p.told ∙ rw (one_more h, e)
 
-  pub JobsPassed-past : i < jobs → jobs ≤ most_jobs → (j : Job) (to : ℕ) → to ≤ length s → job_lines (drop at s) line ≡ read j (drop to s) (line + 1 + 1 + 1 + 1)
+  pub JobsPassed-past : i < jobs → jobs ≤ most_jobs → (j : Job) (to : ℕ) → to ≤ length s → job_lines (drop at s) line ≡ read j (drop to s) (line + 4)
       → JobsPassed s from jobs (set job i j) to (line + 4) (i + 1)
   unfolding jobs_after next
   JobsPassed-past h m j to g e =
@@ -54,11 +54,8 @@ module _ (s : List ℕ) (from jobs : ℕ) (job : List Job) (at line i : ℕ) (p 
       taken : take i job ++ (j ∷ []) ≡ take (i + 1) (set job i j)
       taken = sym (rw (add-one i) (take-suc-set job i j (omega (arith, p.array.places))))
 
-      four : line + 1 + 1 + 1 + 1 ≡ line + 4
-      four = omega arith
-
       step : jobs_after (take i job) (jobs - i) (drop at s) line ≡ jobs_after (take i job ++ (j ∷ [])) (jobs - (i + 1)) (drop to s) (line + 4)
-      step = rw (one_more h, e) (ap (jobs_after (take i job ++ (j ∷ [])) (jobs - (i + 1)) (drop to s)) four)
+      step = rw (one_more h, e)
 
   pub JobsPassed-end : jobs ≤ i → jobs_after [] jobs (drop from s) 5 ≡ read (take jobs job) (drop at s) (5 + 4 * jobs)
   unfolding jobs_after

@@ -20,6 +20,7 @@ pub mod PlanLaws
 pub mod PlanFormLaws
 pub mod PlanPartLaws
 pub mod PlanCountedLaws
+pub mod NarrowLaws
 pub mod ReadAtLaws
 pub mod JobsLoop
 pub mod BoundsLoop

@@ -1,6 +1,7 @@
 -- The laws of lists that the plan's arrays need: what holds of each element (`All`) holds at each place (`All-at`), and back (`All-of`), and of one more
 -- (`All-more`); an array that a list fills has its size, the list's elements at the first places (`filled_at`), and its beginnings (`filled-take`,
--- `filled-all`). `Filling` is such an array while it is being filled.
+-- `filled-all`). `Filling` is such an array while it is being filled, from the first place (`Filling-start`) to the last one
+-- (`Filling-more`, `Filling-end`).
 use Rattle.std.specs.Prelude.{◌≡◌, List, [], ◌∷◌, ◌++◌, ℕ, zero, suc, ◌+◌, ◌-◌, ◌≤◌, ◌<◌, length, take, drop, set, get_or, replicate}
 use Rattle.std.proofs.Common.{sym, ◌∙◌, ap, arith, length-append, length-set, length-take, take-append-drop, take_all, drop-set-lt, drop-drop}
 use Rattle.std.proofs.Math.Nat.{sub-zero}

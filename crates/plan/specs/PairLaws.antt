@@ -1,9 +1,10 @@
--- The laws of pairs as numbers: one turn of the search (`is_in-stop`, `is_in-past`, `is_in-end`; with what was found before, `or-stop`, `or-end`), and that the
--- numbers decide as the pairs do (`is_wrong_numbered-pair`) where every job's number is below 256; a pair is judged test by test (`is_wrong_numbered-next`,
--- `-same`, `-given`).
+-- The laws of pairs as numbers: one turn of the search (`is_in-stop`, `is_in-past`, `is_in-end`; with what was found before, `or-stop`, `or-end`), which a
+-- slice's `contains` does (`is_in-any`), and that the numbers decide as the pairs do (`is_wrong_numbered-pair`) where every job's number is below 256; a pair
+-- is judged test by test (`is_wrong_numbered-next`, `-same`, `-given`).
 use Rattle.std.specs.Prelude.{◌≡◌, refl, Bool, true, false, ◌&&◌, ◌||◌, List, [], ◌∷◌, map, ℕ, ◌+◌, ◌*◌, ◌≤◌, ◌<◌, eqb, length, get_or, take, drop}
 use Rattle.std.proofs.Common.{sym, arith, add-one, drop_of_length-le}
 use borrow.Author.Tests.{eqb-true, eqb-false, eq-eqb, ne_eqb}
+use Rattle.std.specs.List.{list_any}
 use Rattle.std.proofs.Math.ListN.{length-take}
 use Rattle.std.proofs.Math.Seq.{drop-cons, get_or-take}
 use Rattle.plan.specs.declared.EventName.{EventName}
@@ -36,6 +37,20 @@ or-stop false now rest e = e
 pub or-end : (found now : Bool) → now ≡ false → found || now ≡ found
 or-end true now e = refl
 or-end false now e = e
+
+-- ---- and as a slice's `contains` does it
+
+same-back : (x y : ℕ) → eqb y x ≡ eqb x y
+same-back x y = by_test (eqb x y) refl
+  where
+    by_test : (b : Bool) → eqb x y ≡ b → eqb y x ≡ b
+    by_test true e = eq-eqb y x (sym (eqb-true x y e))
+    by_test false e = ne_eqb y x (λ d. eqb-false x y e (sym d))
+
+pub is_in-any : (x : ℕ) (s : List ℕ) → list_any (λ y. eqb y x) s ≡ is_in x s
+unfolding is_in
+is_in-any x [] = refl
+is_in-any x (y ∷ s) = rw (is_in-any x s, same-back x y) refl
 
 -- ---- pairs and their numbers
 

@@ -2,9 +2,9 @@
 -- (`plan_head-written`, `plan_alone-written`), the places beyond the plan's jobs and bounds hold zeros (`-trimmed`), and the text is short enough (`-fits`). So a
 -- plan that was read and is written out is read again as the same plan (`plan_alone-again`), and no two texts are the same plan (`plan_alone-unique`).
 -- `job_lines-then`, `jobs_after-then`, `bound_parts-read`, `bound_of_line-read`, `bounds_after-then` and `plan_lines-read` say it of the lines and their groups.
-use Rattle.std.specs.Prelude.{◌≡◌, refl, Bool, true, false, not, cond, ◌&&◌, List, [], ◌∷◌, ◌++◌, ℕ, zero, suc, ◌≤◌, ◌<◌, leb, ℤ, pos, length, take, get_or}
+use Rattle.std.specs.Prelude.{◌≡◌, refl, Bool, true, false, not, cond, ◌&&◌, List, [], ◌∷◌, ◌++◌, ℕ, zero, suc, ◌≤◌, ◌<◌, leb, ℤ, pos, length, take, get_or, Option, Some, None, Ok, Err}
 use Rattle.std.proofs.Common.{sym, ◌∙◌, ap, subst, append_assoc, append-nil, arith, leb-true}
-use Rattle.std.proofs.Math.Option.{Option, none, some}
+use Rattle.std.proofs.Math.Option as math
 use Rattle.std.specs.Int.Signed.{le_z}
 use Rattle.whole.specs.Clash.{clash}
 use Rattle.whole.specs.Rules.{whole}
@@ -17,9 +17,8 @@ use Rattle.lines.specs.declared.Fault.TheVariants as fault
 use Rattle.plan.specs.declared.Job.{Job}
 use Rattle.plan.specs.declared.EventName.{EventName}
 use Rattle.plan.specs.declared.Bound.{Bound}
-use Rattle.plan.specs.declared.BoundLine.TheVariants as bound_line
 use Rattle.plan.specs.declared.Plan.{Plan}
-use Rattle.lines.specs.Reading.{longest_text, holds, Reading, read, refused, Reader, next}
+use Rattle.lines.specs.Reading.{longest_text, Reading, read, refused, Reader, next}
 use Rattle.plan.specs.Limits.{most_jobs, most_bounds, least_c, greatest_c}
 use Rattle.lines.specs.Refusals.{too_long}
 use Rattle.plan.specs.PlanLines.{
@@ -31,7 +30,6 @@ use Rattle.plan.specs.PlanLines.{
   is_job,
   is_wrong_pair,
   bound_of,
-  lined_bound,
   bound_of_line,
   bounds_after,
   no_job,
@@ -122,15 +120,15 @@ pub record PartsFromText (s : List ℕ) (q : BoundParts) : Type 0 where
   pub form : is_number q.c ≡ true
   pub written : s ≡ name_bytes q.a ++ (comma ∷ (name_bytes q.b ++ (comma ∷ q.c)))
 
-bound_parts-read : (s : List ℕ) {q : BoundParts} → bound_parts (some s) ≡ some q → PartsFromText s q
+bound_parts-read : (s : List ℕ) {q : BoundParts} → bound_parts (math.some s) ≡ Some q → PartsFromText s q
 unfolding bound_parts
 bound_parts-read s {q} e = by-commas (has comma s) (has comma (after comma s)) refl refl e
   where
     t : List ℕ
     t = after comma s
 
-    by_form : (a b : EventName) → has comma s ≡ true → has comma t ≡ true → event_name (before comma s) ≡ some a → event_name (before comma t) ≡ some b
-        → (n : Bool) → is_number (after comma t) ≡ n → cond n (some (record { a = a; b = b; c = after comma t })) none ≡ some q → PartsFromText s q
+    by_form : (a b : EventName) → has comma s ≡ true → has comma t ≡ true → event_name (before comma s) ≡ Some a → event_name (before comma t) ≡ Some b
+        → (n : Bool) → is_number (after comma t) ≡ n → cond n (Some (record { a = a; b = b; c = after comma t })) None ≡ Some q → PartsFromText s q
     by_form a b p1 p2 p3 p4 true h d =
         let v : ◌≡◌ {A = BoundParts} (record { a = a; b = b; c = after comma t }) q = cc in
         subst (PartsFromText s) v
@@ -145,13 +143,13 @@ bound_parts-read s {q} e = by-commas (has comma s) (has comma (after comma s)) r
     by_form a b p1 p2 p3 p4 false h d = clash (cc)
 
     by_names : has comma s ≡ true → has comma t ≡ true → (a b : Option EventName) → event_name (before comma s) ≡ a → event_name (before comma t) ≡ b
-        → parts_of a b (after comma t) ≡ some q → PartsFromText s q
-    by_names p1 p2 none b p3 p4 d = clash (cc)
-    by_names p1 p2 (some a) none p3 p4 d = clash (cc)
-    by_names p1 p2 (some a) (some b) p3 p4 d = by_form a b p1 p2 p3 p4 (is_number (after comma t)) refl d
+        → parts_of a b (after comma t) ≡ Some q → PartsFromText s q
+    by_names p1 p2 None b p3 p4 d = clash (cc)
+    by_names p1 p2 (Some a) None p3 p4 d = clash (cc)
+    by_names p1 p2 (Some a) (Some b) p3 p4 d = by_form a b p1 p2 p3 p4 (is_number (after comma t)) refl d
 
     by-commas : (x y : Bool) → has comma s ≡ x → has comma t ≡ y
-        → cond (x && y) (parts_of (event_name (before comma s)) (event_name (before comma t)) (after comma t)) none ≡ some q → PartsFromText s q
+        → cond (x && y) (parts_of (event_name (before comma s)) (event_name (before comma t)) (after comma t)) None ≡ Some q → PartsFromText s q
     by-commas true true p1 p2 d = by_names p1 p2 (event_name (before comma s)) (event_name (before comma t)) refl refl d
     by-commas true false p1 p2 d = clash (cc)
     by-commas false y p1 p2 d = clash (cc)
@@ -169,24 +167,24 @@ is_job-range jobs i e = by_tests (leb 1 i) (leb i jobs) refl refl e
     by_tests true false p q e = clash (cc)
     by_tests false b p q e = clash (cc)
 
-pub bound_of_line-read : (jobs : ℕ) (given : List Bound) (l : List ℕ) {d : Bound} → lined_bound (bound_of_line jobs given l) ≡ holds d → BoundFromText jobs given l d
-unfolding lined_bound bound_of bound_parts
+pub bound_of_line-read : (jobs : ℕ) (given : List Bound) (l : List ℕ) {d : Bound} → bound_of_line jobs given l ≡ Ok d → BoundFromText jobs given l d
+unfolding bound_of bound_parts
 bound_of_line-read jobs given l {d} e = by_parts (bound_parts (after_key (bytes "bound=") l)) refl e
   where
-    by_key : (o : Option (List ℕ)) → after_key (bytes "bound=") l ≡ o → (q : BoundParts) → bound_parts o ≡ some q
+    by_key : (o : math.Option (List ℕ)) → after_key (bytes "bound=") l ≡ o → (q : BoundParts) → bound_parts o ≡ Some q
         → l ≡ bound_bytes (record { a = q.a; b = q.b; c = number_value q.c }) []
-    by_key none p q h = clash (cc)
-    by_key (some t) p q h =
+    by_key math.none p q h = clash (cc)
+    by_key (math.some t) p q h =
         let r = bound_parts-read t h in
         after_key-split (bytes "bound=") l t p
         ∙ ap (λ (x : List ℕ). bytes "bound=" ++ x) r.written
         ∙ ap (λ (x : List ℕ). bytes "bound=" ++ (name_bytes q.a ++ (comma ∷ (name_bytes q.b ++ (comma ∷ x)))))
         (sym (number-back q.c r.form) ∙ sym (append-nil (decimal (number_value q.c))))
 
-    by-pair : (q : BoundParts) → bound_parts (after_key (bytes "bound=") l) ≡ some q → is_job jobs q.a.job ≡ true → is_job jobs q.b.job ≡ true
+    by-pair : (q : BoundParts) → bound_parts (after_key (bytes "bound=") l) ≡ Some q → is_job jobs q.a.job ≡ true → is_job jobs q.b.job ≡ true
         → le_z least_c (number_value q.c) ≡ true → le_z (number_value q.c) greatest_c ≡ true
         → (t : Bool) → is_wrong_pair q.a q.b given ≡ t
-        → lined_bound (cond t (bound_line.Bad fault.Pair) (bound_line.Value (record { a = q.a; b = q.b; c = number_value q.c }))) ≡ holds d
+        → cond t (Err fault.Pair) (Ok (record { a = q.a; b = q.b; c = number_value q.c })) ≡ Ok d
         → BoundFromText jobs given l d
     by-pair q p ja jb cl cm true w e = clash (cc)
     by-pair q p ja jb cl cm false w e =
@@ -200,21 +198,21 @@ bound_of_line-read jobs given l {d} e = by_parts (bound_parts (after_key (bytes 
           pair = w;
         })
 
-    by-range : (q : BoundParts) → bound_parts (after_key (bytes "bound=") l) ≡ some q → (ja jb cl cm : Bool) → is_job jobs q.a.job ≡ ja
+    by-range : (q : BoundParts) → bound_parts (after_key (bytes "bound=") l) ≡ Some q → (ja jb cl cm : Bool) → is_job jobs q.a.job ≡ ja
         → is_job jobs q.b.job ≡ jb → le_z least_c (number_value q.c) ≡ cl → le_z (number_value q.c) greatest_c ≡ cm
-        → lined_bound (cond (not (ja && jb && (cl && cm))) (bound_line.Bad fault.Range)
-        (cond (is_wrong_pair q.a q.b given) (bound_line.Bad fault.Pair) (bound_line.Value (record { a = q.a; b = q.b; c = number_value q.c }))))
-        ≡ holds d → BoundFromText jobs given l d
+        → cond (not (ja && jb && (cl && cm))) (Err fault.Range)
+        (cond (is_wrong_pair q.a q.b given) (Err fault.Pair) (Ok (record { a = q.a; b = q.b; c = number_value q.c })))
+        ≡ Ok d → BoundFromText jobs given l d
     by-range q p true true true true p1 p2 p3 p4 e = by-pair q p p1 p2 p3 p4 (is_wrong_pair q.a q.b given) refl e
     by-range q p true true true false p1 p2 p3 p4 e = clash (cc)
     by-range q p true true false cm p1 p2 p3 p4 e = clash (cc)
     by-range q p true false cl cm p1 p2 p3 p4 e = clash (cc)
     by-range q p false jb cl cm p1 p2 p3 p4 e = clash (cc)
 
-    by_parts : (o : Option BoundParts) → bound_parts (after_key (bytes "bound=") l) ≡ o → lined_bound (bound_of jobs (λ a b. is_wrong_pair a b given) o) ≡ holds d
+    by_parts : (o : Option BoundParts) → bound_parts (after_key (bytes "bound=") l) ≡ o → bound_of jobs (λ a b. is_wrong_pair a b given) o ≡ Ok d
         → BoundFromText jobs given l d
-    by_parts none p e = clash (cc)
-    by_parts (some q) p e = by-range q p (is_job jobs q.a.job) (is_job jobs q.b.job) (le_z least_c (number_value q.c))
+    by_parts None p e = clash (cc)
+    by_parts (Some q) p e = by-range q p (is_job jobs q.a.job) (is_job jobs q.b.job) (le_z least_c (number_value q.c))
         (le_z (number_value q.c) greatest_c) refl refl refl refl e
 
 -- each bound in its range, and its pair right after the bounds given before it
@@ -246,7 +244,7 @@ bounds_after-then jobs given zero s n f e =
 bounds_after-then jobs given (suc left) s n f e = do
   all ← next-then (bounds_after jobs given (suc left) s n) f e
   bound ← next-then _ _ all.told
-  q ← line_read (λ l. lined_bound (bound_of_line jobs given l)) s n bound.told
+  q ← line_read (bound_of_line jobs given) s n bound.told
   p ← bound_of_line-read jobs given (before LF s) q.held
   others ← bounds_after-then jobs (given ++ (bound.got ∷ [])) left bound.left bound.line f (next_of f bound.more all.more)
   record {

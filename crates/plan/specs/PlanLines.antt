@@ -1,20 +1,19 @@
 -- A plan's text, read (document 01, 'Plan text'). Each reader below is one line of the document's table, or a group of its lines.
-use Rattle.std.specs.Prelude.{ℕ, zero, suc, ◌-◌, Bool, false, not, cond, ◌&&◌, ◌||◌, List, [], ◌∷◌, ◌++◌, leb, ℤ, pos, length, replicate}
-use Rattle.std.proofs.Math.Option.{Option, none, some}
+use Rattle.std.specs.Prelude.{ℕ, zero, suc, ◌-◌, Bool, false, not, cond, ◌&&◌, ◌||◌, List, [], ◌∷◌, ◌++◌, leb, ℤ, pos, length, replicate, Option, Some, None, Result, Ok, Err}
+use Rattle.std.proofs.Math.Option as math
 use Rattle.text.specs.Bytes.{bytes}
 use Rattle.text.specs.Lines.{comma, before, has, after, after_key}
 use Rattle.text.specs.Numbers.{is_number, number_value, within, is_empty}
+use Rattle.lines.specs.declared.Fault.{Fault}
 use Rattle.lines.specs.declared.Fault.TheVariants as fault
 use Rattle.plan.specs.declared.Job.{Job}
 use Rattle.plan.specs.declared.Letter.TheVariants.{This}
 use Rattle.plan.specs.declared.Kind.TheVariants.{Start}
 use Rattle.plan.specs.declared.EventName.{EventName}
 use Rattle.plan.specs.declared.Bound.{Bound}
-use Rattle.plan.specs.declared.BoundLine.{BoundLine}
-use Rattle.plan.specs.declared.BoundLine.TheVariants as bound_line
 use Rattle.plan.specs.declared.Plan.{Plan}
 use Rattle.lines.specs.declared.Refusal.TheVariants.{Form}
-use Rattle.lines.specs.Reading.{longest_text, Lined, holds, lacks, Reading, read, refused, Reader, ◌>>=◌, answer, line, number_line, count_line}
+use Rattle.lines.specs.Reading.{longest_text, Reading, read, refused, Reader, ◌>>=◌, answer, line, number_line, count_line}
 use Rattle.plan.specs.Limits.{longest_window, most_rounds, most_windows, most_jobs, longest_running, latest_deadline, most_bounds, least_c, greatest_c}
 use Rattle.lines.specs.Refusals.{too_long}
 use Rattle.plan.specs.EventNames.{event_name, same_event, is_next}
@@ -47,16 +46,16 @@ pub record BoundParts : Type 0 where
   pub c : List ℕ
 
 abbrev pub parts_of : Option EventName → Option EventName → List ℕ → Option BoundParts
-parts_of none b c = none
-parts_of (some a) none c = none
-parts_of (some a) (some b) c = cond (is_number c) (some (record { a = a; b = b; c = c })) none
+parts_of None b c = None
+parts_of (Some a) None c = None
+parts_of (Some a) (Some b) c = cond (is_number c) (Some (record { a = a; b = b; c = c })) None
 
 -- 'that many `bound=A,B,c`': two names and a number, with a comma after each name
-unfoldable pub bound_parts : Option (List ℕ) → Option BoundParts
-bound_parts none = none
-bound_parts (some s) =
+unfoldable pub bound_parts : math.Option (List ℕ) → Option BoundParts
+bound_parts math.none = None
+bound_parts (math.some s) =
     let t = after comma s in
-    cond (has comma s && has comma t) (parts_of (event_name (before comma s)) (event_name (before comma t)) (after comma t)) none
+    cond (has comma s && has comma t) (parts_of (event_name (before comma s)) (event_name (before comma t)) (after comma t)) None
 
 -- 'a job digit of 0 or above `jobs`'
 abbrev pub is_job : ℕ → ℕ → Bool
@@ -72,28 +71,24 @@ unfoldable pub is_wrong_pair : EventName → EventName → List Bound → Bool
 is_wrong_pair a b given = (is_next a.letter && is_next b.letter) || (same_event a b || is_given a b given)
 
 -- 'in a line the order is 1, 2, 3': the numbers of a line that has its form, and then its pair
-abbrev pub judged_bound : ℕ → (EventName → EventName → Bool) → Bound → BoundLine
+abbrev pub judged_bound : ℕ → (EventName → EventName → Bool) → Bound → Result Bound Fault
 judged_bound jobs is_wrong d =
-    cond (not (is_job jobs d.a.job && is_job jobs d.b.job && within least_c greatest_c d.c)) (bound_line.Bad fault.Range)
-    (cond (is_wrong d.a d.b) (bound_line.Bad fault.Pair)
-    (bound_line.Value d))
+    cond (not (is_job jobs d.a.job && is_job jobs d.b.job && within least_c greatest_c d.c)) (Err fault.Range)
+    (cond (is_wrong d.a d.b) (Err fault.Pair)
+    (Ok d))
 
-unfoldable pub bound_of : ℕ → (EventName → EventName → Bool) → Option BoundParts → BoundLine
-bound_of jobs is_wrong none = bound_line.Bad fault.Form
-bound_of jobs is_wrong (some q) = judged_bound jobs is_wrong (record { a = q.a; b = q.b; c = number_value q.c })
+unfoldable pub bound_of : ℕ → (EventName → EventName → Bool) → Option BoundParts → Result Bound Fault
+bound_of jobs is_wrong None = Err fault.Form
+bound_of jobs is_wrong (Some q) = judged_bound jobs is_wrong (record { a = q.a; b = q.b; c = number_value q.c })
 
-unfoldable pub lined_bound : BoundLine → Lined Bound
-lined_bound (bound_line.Value b) = holds b
-lined_bound (bound_line.Bad f) = lacks f
-
-abbrev pub bound_of_line : ℕ → List Bound → List ℕ → BoundLine
+abbrev pub bound_of_line : ℕ → List Bound → List ℕ → Result Bound Fault
 bound_of_line jobs given l = bound_of jobs (λ a b. is_wrong_pair a b given) (bound_parts (after_key (bytes "bound=") l))
 
 -- so many bounds more, after those given before them: 'Bounds keep their order, which is part of the plan.'
 unfoldable pub bounds_after : ℕ → List Bound → ℕ → Reader (List Bound)
 bounds_after jobs given zero = answer given
 bounds_after jobs given (suc left) = do
-  b ← line (λ l. lined_bound (bound_of_line jobs given l))
+  b ← line (bound_of_line jobs given)
   bounds_after jobs (given ++ (b ∷ [])) left
 
 -- ---- the plan

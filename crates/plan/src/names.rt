@@ -1,95 +1,54 @@
-// The names of events, as `nf2`: read, numbered, compared.
-ghost use Rattle.std.specs.Prelude.{◌≡◌, ◌<◌, ◌&&◌, [], ◌∷◌};
-ghost use Rattle.std.proofs.Math.Option.{some};
+// The names of events, as `nf2`: read, numbered.
+ghost use Rattle.std.specs.Prelude.{◌≡◌, ◌<◌, [], ◌∷◌};
 ghost use Rattle.plan.specs.PlanLines.{is_job};
-ghost use Rattle.plan.specs.EventNames.{event_name, name_of, kind_of, job_of, name_read, letter_number, kind_number, event_number, is_next};
+ghost use Rattle.plan.specs.EventNames.{event_name, letter_of, kind_of, job_of, event_number};
 
-use crate::{EventName, Kind, Letter, NameRead};
+use crate::{EventName, Kind, Letter};
 
-// A name with its letter and its kind known: its last byte is the job digit.
-fn named(letter: Letter, kind: Kind, digit: u8) -> NameRead
-    ensures { result ≡ name_read (name_of (some letter) (some kind) (job_of (digit ∷ []))) }
+// The window letter of a name.
+fn letter_of(b: u8) -> Option<Letter>
+    ensures { result ≡ letter_of b }
 {
-    if digit < b'0' {
-        return NameRead::Bad;
+    match b {
+        b't' => Some(Letter::This),
+        b'n' => Some(Letter::Next),
+        _ => None,
     }
-    if b'9' < digit {
-        return NameRead::Bad;
-    }
-    NameRead::Value(EventName {
-        letter,
-        kind,
-        job: digit - b'0',
-    })
 }
 
-// A name with its letter known.
-fn named_in(letter: Letter, kind: u8, digit: u8) -> NameRead
-    ensures { result ≡ name_read (name_of (some letter) (kind_of kind) (job_of (digit ∷ []))) }
+// The kind of a name.
+fn kind_of(b: u8) -> Option<Kind>
+    ensures { result ≡ kind_of b }
 {
-    if kind == b's' {
-        return named(letter, Kind::Start, digit);
+    match b {
+        b's' => Some(Kind::Start),
+        b'f' => Some(Kind::Finish),
+        _ => None,
     }
-    if kind == b'f' {
-        return named(letter, Kind::Finish, digit);
+}
+
+// The job digit of a name.
+fn job_of(b: u8) -> Option<u8>
+    ensures { result ≡ job_of (b ∷ []) }
+{
+    match b {
+        b'0'..=b'9' => Some(b - b'0'),
+        _ => None,
     }
-    NameRead::Bad
 }
 
 // The event that s is the name of.
-pub fn event_name(s: &[u8]) -> NameRead
-    ensures { result ≡ name_read (event_name s.now) }
+pub fn event_name(s: &[u8]) -> Option<EventName>
+    ensures { result ≡ event_name s.now }
 {
-    if s.len() != 3 {
-        return NameRead::Bad;
-    }
-    if s[0] == b't' {
-        return named_in(Letter::This, s[1], s[2]);
-    }
-    if s[0] == b'n' {
-        return named_in(Letter::Next, s[1], s[2]);
-    }
-    NameRead::Bad
-}
-
-// Whether a letter is n.
-fn is_next(l: Letter) -> bool
-    ensures { result ≡ is_next l }
-{
-    match l {
-        Letter::This => false,
-        Letter::Next => true,
-    }
-}
-
-// Whether both letters are n.
-pub fn both_next(a: Letter, b: Letter) -> bool
-    ensures { result ≡ (is_next a && is_next b) }
-{
-    match a {
-        Letter::This => false,
-        Letter::Next => is_next(b),
-    }
-}
-
-// 0 for t, 1 for n.
-fn letter_number(l: Letter) -> u32
-    ensures { result ≡ letter_number l }
-{
-    match l {
-        Letter::This => 0,
-        Letter::Next => 1,
-    }
-}
-
-// 0 for a start, 1 for a finish.
-fn kind_number(k: Kind) -> u32
-    ensures { result ≡ kind_number k }
-{
-    match k {
-        Kind::Start => 0,
-        Kind::Finish => 1,
-    }
+    let [letter, kind, job] = s else {
+        return None;
+    };
+    Some(EventName {
+        letter: letter_of(*letter)?,
+        kind: kind_of(*kind)?,
+        job: job_of(*job)?,
+    })
 }
 
 // A number below 1,024 that no other event has.
@@ -97,19 +56,12 @@ pub fn event_number(e: EventName) -> u32
     ensures value { result ≡ event_number e }
     ensures upper_bound { result < 1024 }
 {
-    let job = e.job as u32;
-    let letter = e.letter;
-    let kind = e.kind;
-    job * 4 + letter_number(letter) * 2 + kind_number(kind)
+    u32::from(e.job) * 4 + e.letter as u32 * 2 + e.kind as u32
 }
 
 // Whether a job digit names one of the jobs.
 pub fn is_job(i: u8, jobs: usize) -> bool
     ensures { result ≡ is_job jobs i }
 {
-    let job = i as usize;
-    if job < 1 {
-        return false;
-    }
-    job <= jobs
+    (1..=jobs).contains(&usize::from(i))
 }

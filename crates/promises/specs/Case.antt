@@ -7,7 +7,7 @@ use Rattle.text.specs.Numbers.{all_digits, is_positive, is_number, digits_value,
 use Rattle.lines.specs.Refusals.{refused_line}
 use Rattle.lines.specs.Reading.{next, lined, line, lined_number}
 use Rattle.plan.specs.EventNames.{event_name, same_event}
-use Rattle.plan.specs.PlanLines.{job_lines, jobs_after, bound_parts, is_given, is_wrong_pair, bound_of, lined_bound, bounds_after, plan_lines, plan_head, nothing_after}
+use Rattle.plan.specs.PlanLines.{job_lines, jobs_after, bound_parts, is_given, is_wrong_pair, bound_of, bounds_after, plan_lines, plan_head, nothing_after}
 use Rattle.bounds.specs.Events.{job_at, shift, earliest, latest, node_of, event_of}
 use Rattle.bounds.specs.Judgements.{judged}
 use Rattle.bounds.specs.Tables.{lesser_cell, plus, join, at, listed, least_of, judgement, any_below, contradicts, kept_rows, judged_set}
@@ -21,7 +21,7 @@ use Rattle.runs.specs.Seen.{job_seen, front_from}
 use Rattle.runs.specs.Offers.{lower_terms, upper_terms, greatest, opening_at}
 use Rattle.runs.specs.Offers as offers
 use Rattle.runs.specs.Steps.{asked, started, finished, answer_at, closed, moved}
-use Rattle.session.specs.StepRead.{time_step, finish_in, finish_step, start_in, start_step, step_in, lined_step, step_line}
+use Rattle.session.specs.StepRead.{time_step, finish_in, finish_step, start_in, start_step, step_in, step_line}
 use Rattle.session.specs.AnswerText.{answer_line, ends_session}
 use Rattle.session.specs.Sessions.{answered_step, after_step, dispatched_within, judged_session, session_of, dispatch_output}
 
@@ -57,7 +57,7 @@ unfolding bytes len_to after_key all_digits is_positive is_number digits_value n
 reading = Unit {0}
 
 unfoldable pub reading_plans : Type 0
-unfolding lined_number event_name same_event job_lines jobs_after bound_parts is_given is_wrong_pair bound_of lined_bound bounds_after plan_lines plan_head nothing_after
+unfolding lined_number event_name same_event job_lines jobs_after bound_parts is_given is_wrong_pair bound_of bounds_after plan_lines plan_head nothing_after
 reading_plans = Unit {0}
 
 -- judgement and elimination
@@ -86,7 +86,7 @@ dispatching = Unit {0}
 
 -- a session's text: its steps, read, and their answers
 unfoldable pub reading_steps : Type 0
-unfolding time_step finish_in finish_step start_in start_step step_in lined_step step_line
+unfolding time_step finish_in finish_step start_in start_step step_in step_line
 reading_steps = Unit {0}
 
 unfoldable pub answering : Type 0

@@ -1,6 +1,6 @@
--- A time in range, as the machine has it: a 0 added to it changes nothing, and 0 less it is its negation.
+-- A time in range, as the machine has it: 0 less it is its negation.
 use mathlib.Core.Path.{◌≡◌, sym, ◌∙◌, ap, subst}
-use lib.IntN.{ℤ, pos, neg_ℤ, ◌+ℤ◌, ◌-ℤ◌}
+use lib.IntN.{ℤ, pos, neg_ℤ, ◌-ℤ◌}
 use mir.Syntax.{w32}
 use mir.Val.{SFits, to_z, of_z}
 use mir.Facts.{to_z-of_z}
@@ -9,13 +9,7 @@ use Rattle.whole.specs.Rules.{wholes}
 use Rattle.bounds.specs.Spans.{InRange}
 use Rattle.bounds.specs.SpansLaws.{in_range-fits}
 
-plain_fits : (t : ℤ) → InRange t → SFits w32 (t +ℤ pos 0)
-plain_fits t h = omega wholes
-
-pub plus-zero-fits : (t : ℤ) → InRange t → SFits w32 (to_z w32 (of_z w32 t) +ℤ pos 0)
-plus-zero-fits t h = subst (λ t. SFits w32 (t +ℤ pos 0)) (sym (to_z-of_z (in_range-fits h))) (plain_fits t h)
-
-pub zero-less-fits : (t : ℤ) → InRange t → SFits w32 (pos 0 -ℤ to_z w32 (of_z w32 t))
+zero-less-fits : (t : ℤ) → InRange t → SFits w32 (pos 0 -ℤ to_z w32 (of_z w32 t))
 zero-less-fits t h = subst (λ t. SFits w32 (pos 0 -ℤ t)) (sym (to_z-of_z (in_range-fits h))) (omega wholes)
 
 pub zero-less-back : (t : ℤ) → InRange t → to_z w32 (of_z w32 (pos 0 -ℤ to_z w32 (of_z w32 t))) ≡ neg_ℤ t
@@ -26,9 +20,3 @@ zero-less-back t h =
   where
     less-is : (t : ℤ) → pos 0 -ℤ t ≡ neg_ℤ t
     less-is t = omega (wholes, split-neg t)
-
-negated : (t : ℤ) → InRange t → SFits w32 (neg_ℤ t +ℤ pos 0)
-negated t h = omega (wholes, split-neg t)
-
-pub negated_fits : (t x : ℤ) → InRange t → x ≡ neg_ℤ t → SFits w32 (x +ℤ pos 0)
-negated_fits t x h e = subst (λ x. SFits w32 (x +ℤ pos 0)) (sym e) (negated t h)

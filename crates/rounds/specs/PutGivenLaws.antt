@@ -1,7 +1,7 @@
 -- How the given bounds are put: one by its nodes (`meant_is`), where it is due (`given-due`, `given-other`), and one place after the other (`given-first`,
 -- `given-end`), after the bounds that every plan has (`own_bounds-is`, `between_bounds-is`).
-use Rattle.std.specs.Prelude.{ℕ, ◌+◌, ◌-◌, ◌≤◌, ◌<◌, ◌≡◌, refl, Bool, cond, List, [], ◌∷◌, ◌++◌, ℤ, pos, drop, get_or}
-use Rattle.std.proofs.Common.{ap, ap₂, ◌∙◌, add-one, arith, length-take, drop_of_length-le, drop-cons, get_or-take}
+use Rattle.std.specs.Prelude.{ℕ, ◌+◌, ◌-◌, ◌≤◌, ◌<◌, ◌≡◌, refl, Bool, cond, List, [], ◌∷◌, ◌++◌, ℤ, pos, drop, get_or, length}
+use Rattle.std.proofs.Common.{ap, ap₂, ◌∙◌, add-one, drop_of_length-le, drop-cons}
 use Rattle.std.proofs.Math.Bool.{true, false}
 use Rattle.std.specs.Bool.{beq}
 use Rattle.whole.specs.Clash.{clash}
@@ -9,7 +9,6 @@ use Rattle.plan.specs.declared.Bound.{Bound}
 use Rattle.plan.specs.declared.Plan.{Plan}
 use Rattle.plan.specs.PlanLines.{no_bound}
 use Rattle.plan.specs.PlanWritten.{bounds_of}
-use Rattle.plan.specs.Accepted.{Accepted}
 use Rattle.bounds.specs.Events.{node_of}
 use Rattle.bounds.specs.Flat.{put_at, put_bounds}
 use Rattle.bounds.specs.BoundsLaws.{put_bounds-one}
@@ -66,17 +65,13 @@ given-more p false d ds = by (has_next d)
     by true = refl
     by false = refl
 
-module _ (p : Plan) (accepted : Accepted p) (between : Bool) (i : ℕ) where
-  pub given-first : i < p.bounds
-      → given_bounds p between (drop i (bounds_of p)) ≡ given_bounds p between (get_or p.bound i no_bound ∷ [])
-      ++ given_bounds p between (drop (i + 1) (bounds_of p))
-  given-first h =
-      let most = accepted.bounds-most in
-      rw (add-one, drop-cons (bounds_of p) i no_bound (simp length-take (omega (arith, accepted.bound-places))), get_or-take p.bounds p.bound i no_bound h)
-      (given-more p between (get_or p.bound i no_bound) _)
+module _ (p : Plan) (between : Bool) (ds : List Bound) (i : ℕ) where
+  pub given-first : i < length ds
+      → given_bounds p between (drop i ds) ≡ given_bounds p between (get_or ds i no_bound ∷ []) ++ given_bounds p between (drop (i + 1) ds)
+  given-first h = rw (add-one, drop-cons ds i no_bound h) (given-more p between (get_or ds i no_bound) _)
 
-  pub given-end : p.bounds ≤ i → given_bounds p between (drop i (bounds_of p)) ≡ []
-  given-end h = ap (given_bounds p between) (drop_of_length-le (bounds_of p) {i = i} (simp length-take (omega arith))) ∙ given-nil p between
+  pub given-end : length ds ≤ i → given_bounds p between (drop i ds) ≡ []
+  given-end h = ap (given_bounds p between) (drop_of_length-le ds {i = i} h) ∙ given-nil p between
 
 -- ---- after the bounds that every plan has
 

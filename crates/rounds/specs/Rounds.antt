@@ -1,15 +1,14 @@
 -- Rounds and the verdict (document 01, 'Elimination').
-use Rattle.std.specs.Prelude.{ℕ, zero, suc, ◌+◌, ◌*◌, ◌-◌, Bool, true, false, cond, ◌&&◌, ◌||◌, List, [], ◌∷◌, eqb, leb, ℤ, pos, ◌-ℤ◌}
+use Rattle.std.specs.Prelude.{ℕ, zero, suc, ◌+◌, ◌*◌, ◌-◌, Bool, true, false, cond, ◌&&◌, ◌||◌, List, [], ◌∷◌, eqb, leb, ℤ, pos, ◌-ℤ◌, Result, Ok, Err}
 use Rattle.whole.specs.Split.{eq_z}
 use Rattle.plan.specs.declared.Plan.{Plan}
+use Rattle.lines.specs.declared.Refusal.{Refusal}
 use Rattle.lines.specs.declared.Refusal.TheVariants as refusal
 use Rattle.bounds.specs.Events.{nodes}
 use Rattle.bounds.specs.Tables.{Cell, off, upto, lesser_cell, plus, Rows, at, least_of, Set, contradiction, bounds, judged_set}
 use Rattle.bounds.specs.Elimination.{then_set, eliminated}
 use Rattle.rounds.specs.declared.Verdict.{Verdict}
 use Rattle.rounds.specs.declared.Verdict.TheVariants.{Settled, NoStrategy, Unsettled}
-use Rattle.rounds.specs.declared.VerdictTold.{VerdictTold}
-use Rattle.rounds.specs.declared.VerdictTold.TheVariants as told
 use Rattle.rounds.specs.Given.{own_bounds, between_bounds}
 
 -- ---- one round
@@ -110,7 +109,7 @@ abbrev pub verdict : Plan → Verdict
 verdict p = verdict_of p (outcome p)
 
 -- '4 | no strategy | K', '5 | unsettled | rounds'; so every answer states a verdict
-abbrev pub verdict_told : Verdict → VerdictTold
-verdict_told (Settled m) = told.Settled m
-verdict_told (NoStrategy K) = told.Refused (refusal.NoStrategy K)
-verdict_told (Unsettled rounds) = told.Refused (refusal.Unsettled rounds)
+abbrev pub verdict_told : Verdict → Result ℕ Refusal
+verdict_told (Settled m) = Ok m
+verdict_told (NoStrategy K) = Err (refusal.NoStrategy K)
+verdict_told (Unsettled rounds) = Err (refusal.Unsettled rounds)

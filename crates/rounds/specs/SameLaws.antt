@@ -1,7 +1,10 @@
 -- Two tables that the test for 'C(m) = C(m-1)' finds the same are equal, and a table is the same as itself. So two tables of arrays are the same
 -- exactly if no weight differs.
-use Rattle.std.specs.Prelude.{ℕ, ◌<◌, ◌≡◌, refl, Bool, true, false, List, [], ◌∷◌, ℤ, get_or}
-use Rattle.std.proofs.Common.{sym, ap, ap₂, ◌∙◌}
+use Rattle.std.specs.Prelude.{ℕ, zero, suc, ◌≤◌, ◌<◌, ◌≡◌, refl, Bool, true, false, ◌&&◌, List, [], ◌∷◌, ℤ, pos, get_or, length, take}
+use Rattle.std.specs.Ordering.{int_eq}
+use Rattle.std.proofs.Common.{sym, ap, ap₂, ◌∙◌, arith}
+use Rattle.std.proofs.lemmas.Bool.Decides.{Decides-int_eq}
+use lib.Pointwise.{pointwise}
 use Rattle.whole.specs.Clash.{clash}
 use Rattle.whole.specs.Split.{eq_z}
 use Rattle.whole.specs.Order.{eq_z-true-iff}
@@ -65,6 +68,31 @@ cell_of-by w v false e false f h = let a : upto w ≡ upto v = sym (cell_of-on w
 
 pub cell_of-unique : (w v : ℤ) → cell_of w ≡ cell_of v → w ≡ v
 cell_of-unique w v h = cell_of-by w v (eq_z w no_bound_mark) refl (eq_z v no_bound_mark) refl h
+
+-- two weights are compared as their cells are
+same_cell-of : (w v : ℤ) → int_eq w v ≡ same_cell (cell_of w) (cell_of v)
+same_cell-of w v = by (int_eq w v) refl (same_cell (cell_of w) (cell_of v)) refl
+  where
+    by : (b : Bool) → int_eq w v ≡ b → (c : Bool) → same_cell (cell_of w) (cell_of v) ≡ c → b ≡ c
+    by true e true h = refl
+    by true e false h =
+        absurd
+        (let same = ap (λ v. same_cell (cell_of w) (cell_of v)) ((Decides-int_eq w v).0 e) in
+        let self = sym (same_cell-self (cell_of w)) ∙ same ∙ h in
+        clash (cc))
+    by false e true h =
+        absurd (let same = (Decides-int_eq w v).1 (cell_of-unique w v (same_cell-unique (cell_of w) (cell_of v) h)) in clash (cc))
+    by false e false h = refl
+
+-- two parts of arrays are compared as the rows of cells that they hold
+pub same_row-of : (k : ℕ) (ws vs : List ℤ) → k ≤ length ws → k ≤ length vs
+    → pointwise int_eq (take k ws) (take k vs)
+    ≡ same_row (listed k (λ z. cell_of (get_or ws z (pos 0)))) (listed k (λ z. cell_of (get_or vs z (pos 0))))
+unfolding listed same_row
+same_row-of zero ws vs h l = refl
+same_row-of (suc k) [] vs h l = absurd (omega arith)
+same_row-of (suc k) (w ∷ ws) [] h l = absurd (omega arith)
+same_row-of (suc k) (w ∷ ws) (v ∷ vs) h l = ap₂ ◌&&◌ (same_cell-of w v) (same_row-of k ws vs (omega arith) (omega arith))
 
 module _ (k : ℕ) (f g : ℕ → Cell) where
   pub same_row-all : ((z : ℕ) → z < k → f z ≡ g z) → same_row (listed k f) (listed k g) ≡ true

@@ -1,16 +1,15 @@
 -- A plan's text judged to its end (document 01, 'Numbers of refusal': 'The verdict follows; in a session it comes before any step is read').
-use Rattle.std.specs.Prelude.{ℕ, List, []}
+use Rattle.std.specs.Prelude.{ℕ, List, [], Result, Ok, Err}
 use Rattle.plan.specs.declared.Plan.{Plan}
+use Rattle.lines.specs.declared.Refusal.{Refusal}
 use Rattle.lines.specs.Reading.{Reading, read, refused}
 use Rattle.plan.specs.PlanLines.{plan_alone, plan_head}
-use Rattle.rounds.specs.declared.VerdictTold.{VerdictTold}
-use Rattle.rounds.specs.declared.VerdictTold.TheVariants.{Settled, Refused}
 use Rattle.rounds.specs.Rounds.{verdict, verdict_told}
 
 -- 'for 4 and 5 that part is empty'
-unfoldable pub or_refused : VerdictTold → Reading Plan → Reading Plan
-or_refused (Settled m) r = r
-or_refused (Refused x) r = refused x []
+unfoldable pub or_refused : Result ℕ Refusal → Reading Plan → Reading Plan
+or_refused (Ok m) r = r
+or_refused (Err x) r = refused x []
 
 unfoldable pub verdict_after : Reading Plan → Reading Plan
 verdict_after (read p s n) = or_refused (verdict_told (verdict p)) (read p s n)

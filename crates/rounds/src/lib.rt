@@ -1,8 +1,6 @@
 // Rounds and the verdict on a plan.
 #![tactic(auto)]
 
-use lines::Refusal;
-
 mod given;
 mod joined;
 mod own;
@@ -19,11 +17,4 @@ pub enum Verdict {
     Settled(u64),
     NoStrategy(u64),
     Unsettled(u64),
-}
-
-// A verdict as answers state it: settled in a round, or a refusal.
-#[derive(Clone, Copy)]
-pub enum VerdictTold {
-    Settled(u64),
-    Refused(Refusal),
 }

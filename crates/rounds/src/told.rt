@@ -2,16 +2,16 @@
 ghost use Rattle.std.specs.Prelude.{◌≡◌};
 ghost use Rattle.rounds.specs.Rounds.{verdict_told};
 
-use super::{Verdict, VerdictTold};
+use super::Verdict;
 use lines::Refusal;
 
-// A verdict as answers state it: no strategy is refused by 4, and unsettled by 5.
-pub fn tell_verdict(v: Verdict) -> VerdictTold
+// A verdict as answers state it: settled in a round, or a refusal, which is 4 where there is no strategy, and 5 where it is unsettled.
+pub fn tell_verdict(v: Verdict) -> Result<u64, Refusal>
     ensures { result ≡ verdict_told v }
 {
     match v {
-        Verdict::Settled(m) => VerdictTold::Settled(m),
-        Verdict::NoStrategy(windows) => VerdictTold::Refused(Refusal::NoStrategy(windows)),
-        Verdict::Unsettled(rounds) => VerdictTold::Refused(Refusal::Unsettled(rounds)),
+        Verdict::Settled(m) => Ok(m),
+        Verdict::NoStrategy(windows) => Err(Refusal::NoStrategy(windows)),
+        Verdict::Unsettled(rounds) => Err(Refusal::Unsettled(rounds)),
     }
 }

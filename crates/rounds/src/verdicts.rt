@@ -12,36 +12,24 @@ use super::Verdict;
 use super::joined::put_next;
 use super::own::{put_between, put_own};
 use super::same::same_rows;
-use bounds::{Table, drop_places};
+use bounds::{Spans, Table};
 use plan::Plan;
 
 // 'one window alone, with C(m-1), gives a contradiction when it is eliminated'
-fn fails_alone<'a>(
-    p: Plan,
-    early: &'a [i32; Table::SIDE],
-    late: &'a [i32; Table::SIDE],
-    carried: &'a [i32; Table::SIZE],
-) -> bool
-    requires { TableHeldFor p early.now late.now (nodes p.jobs) carried.now }
-    ensures { result ≡ fails_alone p (rows_of (nodes p.jobs) carried.now) }
+fn fails_alone(p: Plan, times: &Spans, carried: &Table) -> bool
+    requires { TableHeldFor p times.now.early times.now.late (nodes p.jobs) carried.now.weights }
+    ensures { result ≡ fails_alone p (rows_of (nodes p.jobs) carried.now.weights) }
 {
-    let jobs = p.jobs;
-    let mut weights = *carried;
-    drop_places(&mut weights, early, late, 0, jobs)
+    let mut alone = *carried;
+    alone.drop_places(times, 0, p.jobs).is_err()
 }
 
 // 'First contradiction in round m: if one window alone, with C(m-1), gives a contradiction when it is eliminated, K = m, else K = m + 1.'
-fn contradicted<'a>(
-    p: Plan,
-    early: &'a [i32; Table::SIDE],
-    late: &'a [i32; Table::SIDE],
-    carried: &'a [i32; Table::SIZE],
-    m: u64,
-) -> Verdict
-    requires { (TableHeldFor p early.now late.now (nodes p.jobs) carried.now) × (m ≤ most_rounds) }
-    ensures { result ≡ NoStrategy (cond (fails_alone p (rows_of (nodes p.jobs) carried.now)) m (m + 1)) }
+fn contradicted(p: Plan, times: &Spans, carried: &Table, m: u64) -> Verdict
+    requires { (TableHeldFor p times.now.early times.now.late (nodes p.jobs) carried.now.weights) × (m ≤ most_rounds) }
+    ensures { result ≡ NoStrategy (cond (fails_alone p (rows_of (nodes p.jobs) carried.now.weights)) m (m + 1)) }
 {
-    if fails_alone(p, early, late, carried) {
+    if fails_alone(p, times, carried) {
         return Verdict::NoStrategy(m);
     }
     let next = m + 1;
@@ -50,60 +38,48 @@ fn contradicted<'a>(
 
 // The rounds from the first on: `carried` is C(0), and `joined` has the bounds between windows put into it. What is carried goes from round to round; the
 // round that settles puts it on `joined`.
-fn settle_rounds<'a>(
-    p: Plan,
-    early: &'a [i32; Table::SIDE],
-    late: &'a [i32; Table::SIDE],
-    carried: &mut [i32; Table::SIZE],
-    joined: &mut [i32; Table::SIZE],
-) -> Verdict
-    requires { (TimesHeld p early.now late.now) × (Based p early.now late.now carried.old joined.old) × (length joined.old ≡ cells) }
+fn settle_rounds(p: Plan, times: &Spans, carried: &mut Table, joined: &mut Table) -> Verdict
+    requires { (TimesHeld p times.now.early times.now.late) × (Based p times.now.early times.now.late carried.old.weights joined.old.weights)
+        × (length joined.old.weights ≡ cells) }
     ensures value { result ≡ verdict p }
-    ensures settled_on { SettledOn p (rows_of (nodes (p.jobs + p.jobs)) joined.new) }
-    ensures joined_len { length joined.new ≡ cells }
+    ensures settled_on { SettledOn p (rows_of (nodes (p.jobs + p.jobs)) joined.new.weights) }
+    ensures joined_len { length joined.new.weights ≡ cells }
 {
     let jobs = p.jobs;
     let window = p.window;
     let rounds = p.rounds;
     let count = 1 + 2 * jobs;
-    let mut m: u64 = 1;
-    while m <= rounds {
-        let mut weights = *joined;
-        if put_next(&mut weights, early, late, jobs, window, carried) {
-            return contradicted(p, early, late, carried, m);
+    for m in 1..=rounds {
+        let mut table = *joined;
+        if put_next(&mut table, times, jobs, window, carried).is_err() {
+            return contradicted(p, times, carried, m);
         }
-        if drop_places(&mut weights, early, late, jobs, jobs) {
-            return contradicted(p, early, late, carried, m);
+        if table.drop_places(times, jobs, jobs).is_err() {
+            return contradicted(p, times, carried, m);
         }
-        if same_rows(carried, &weights, count) {
-            put_next(joined, early, late, jobs, window, carried);
+        if same_rows(carried, &table, count) {
+            put_next(joined, times, jobs, window, carried).unwrap();
             return Verdict::Settled(m);
         }
-        *carried = weights;
-        m += 1;
+        *carried = table;
     }
     Verdict::Unsettled(rounds)
 }
 
 // The verdict on a plan, worked out in a table without a bound; where it is settled, `joined` holds the joined table of the round that settled it, before its
 // elimination, of which the calendar is made.
-pub fn settle<'a>(
-    p: Plan,
-    early: &'a [i32; Table::SIDE],
-    late: &'a [i32; Table::SIDE],
-    joined: &mut [i32; Table::SIZE],
-) -> Verdict
-    requires { (TimesHeld p early.now late.now) × (joined.old ≡ no_bounds) }
+pub fn settle(p: Plan, times: &Spans, joined: &mut Table) -> Verdict
+    requires { (TimesHeld p times.now.early times.now.late) × (joined.old.weights ≡ no_bounds) }
     ensures value { result ≡ verdict p }
-    ensures settled_on { SettledOn p (rows_of (nodes (p.jobs + p.jobs)) joined.new) }
-    ensures joined_len { length joined.new ≡ cells }
+    ensures settled_on { SettledOn p (rows_of (nodes (p.jobs + p.jobs)) joined.new.weights) }
+    ensures joined_len { length joined.new.weights ≡ cells }
 {
-    if put_own(joined, early, late, p) {
+    if put_own(joined, times, p).is_err() {
         return Verdict::NoStrategy(1);
     }
     let mut carried = *joined;
-    if put_between(joined, early, late, p) {
-        return contradicted(p, early, late, &carried, 1);
+    if put_between(joined, times, p).is_err() {
+        return contradicted(p, times, &carried, 1);
     }
-    settle_rounds(p, early, late, &mut carried, joined)
+    settle_rounds(p, times, &mut carried, joined)
 }

@@ -3,7 +3,7 @@
 -- refusals only the opening gives 11 (`answer-empty`). And the other way: while an opening is open, an ask is answered by its offer and a start is taken
 -- exactly if it is on offer (`ask-offered`, `start-taken`, `start-refused`, `start-auto`); a finish is final exactly inside its times (`finish-inside`,
 -- `finish-outside`).
-use Rattle.std.specs.Prelude.{ℕ, ◌≤◌, ◌≡◌, Bool, ◌&&◌, List, ltb, ℤ, ◌+ℤ◌, ◌≤ℤ◌}
+use Rattle.std.specs.Prelude.{ℕ, ◌≤◌, ◌≡◌, Bool, ◌&&◌, List, ltb, ℤ, ◌+ℤ◌, ◌≤ℤ◌, Result, Ok, Err}
 use Rattle.std.proofs.Math.Path.{refl, ap}
 use Rattle.std.proofs.Common.{sym, subst, ◌∙◌, arith, ltb-false}
 use Rattle.std.proofs.Math.Bool.{true, false, cond}
@@ -16,20 +16,18 @@ use Rattle.plan.specs.declared.Job.{Job}
 use Rattle.lines.specs.declared.Refusal.{Refusal}
 use Rattle.lines.specs.declared.Refusal.TheVariants as refusal
 use Rattle.lines.specs.Refusals.{outside_limits}
-use Rattle.runs.specs.declared.Turn.{Turn}
 use Rattle.runs.specs.declared.Phase.{Phase}
 use Rattle.runs.specs.declared.Phase.TheVariants.{Waiting, Running}
 use Rattle.runs.specs.declared.Run.{Run}
 use Rattle.runs.specs.declared.Offer.{Offer}
 use Rattle.runs.specs.declared.Opening.{Opening}
-use Rattle.runs.specs.declared.Opening.TheVariants.{Open, Shut}
 use Rattle.runs.specs.declared.Choice.{Choice}
 use Rattle.runs.specs.declared.Choice.TheVariants.{At, Auto}
 use Rattle.runs.specs.declared.Step.{Step}
 use Rattle.runs.specs.declared.Step.TheVariants.{Ask, Start, Finish}
 use Rattle.runs.specs.declared.Answer.TheVariants.{Offered, Started, Final, Refused}
 use Rattle.runs.specs.ValueLimits.{is_time}
-use Rattle.runs.specs.Offers.{offer_at, opened, opening_at}
+use Rattle.runs.specs.Offers.{Turn, offer_at, opening_of, opened, opening_at}
 use Rattle.runs.specs.Steps.{asked, started, finished, answer_at, is_step}
 
 -- ---- between two ends
@@ -69,25 +67,26 @@ module _ (d : Turn) (cs ds : List ℤ) (r : Run) where
     pub some : o.from.0 ≤ℤ o.to.0
 
   opened-opens : (j i : ℕ) (o : Offer) (k l : ℕ) (u : Offer) → k ≤ d.last → offer_at d cs ds r k l ≡ u → (b : Bool) → lt_z u.to.0 u.from.0 ≡ b
-      → cond b (Shut refusal.EmptyOffer) (Open k l u) ≡ Open j i o → OpenFor j i o (Waiting k l)
+      → cond b (Err refusal.EmptyOffer) (Ok (opening_of k l u)) ≡ Ok (opening_of j i o) → OpenFor j i o (Waiting k l)
   opened-opens j i o k l u h is true e x = clash (cc)
   opened-opens j i o k l u h is false e x =
-      let w : k ≡ j = cc in
-      let v : l ≡ i = cc in
-      let same : u ≡ o = cc in
+      let q : opening_of k l u ≡ opening_of j i o = cc in
+      let w = ap (λ at. at.window) q in
+      let v = ap (λ at. at.job) q in
+      let same = ap (λ at. at.offer) q in
       record {
-        waits = cc;
+        waits = ap (λ k. Waiting k l) w ∙ ap (Waiting j) v;
         lasts = omega arith;
         offer = sym (ap (λ (k : ℕ). offer_at d cs ds r k i) w) ∙ sym (ap (offer_at d cs ds r k) v) ∙ is ∙ same;
         some = subst (λ (o : Offer). o.from.0 ≤ℤ o.to.0) same (omega wholes);
       }
 
   window-opens : (j i : ℕ) (o : Offer) (k l : ℕ) (b : Bool) → ltb d.last k ≡ b
-      → cond b (Shut refusal.Over) (opened k l (offer_at d cs ds r k l)) ≡ Open j i o → OpenFor j i o (Waiting k l)
+      → cond b (Err refusal.Over) (opened k l (offer_at d cs ds r k l)) ≡ Ok (opening_of j i o) → OpenFor j i o (Waiting k l)
   window-opens j i o k l true e x = clash (cc)
   window-opens j i o k l false e x = opened-opens j i o k l (offer_at d cs ds r k l) (ltb-false d.last k e) refl _ refl x
 
-  opening-opens : (j i : ℕ) (o : Offer) (f : Phase) → opening_at d cs ds r f ≡ Open j i o → OpenFor j i o f
+  opening-opens : (j i : ℕ) (o : Offer) (f : Phase) → opening_at d cs ds r f ≡ Ok (opening_of j i o) → OpenFor j i o f
   unfolding opening_at
   opening-opens j i o (Waiting k l) x = window-opens j i o k l (ltb d.last k) refl x
   opening-opens j i o (Running k l t) x = clash (cc)
@@ -133,17 +132,17 @@ module _ (d : Turn) (cs ds : List ℤ) (r : Run) where
       }
   auto-taken t a b j i o q false e y = clash (cc)
 
-  start-answered : (choice : Choice) (at : Opening) → opening_at d cs ds r r.phase ≡ at → (j i : ℕ) (t : RunTime) → started choice at ≡ Started j i t
+  start-answered : (choice : Choice) (at : Result Opening Refusal) → opening_at d cs ds r r.phase ≡ at → (j i : ℕ) (t : RunTime) → started choice at ≡ Started j i t
       → StartTaken (Start choice) j i t
   unfolding started
-  start-answered (At u) (Open a b o) x j i t e = at-taken u t a b j i o (opening-opens a b o r.phase x) _ refl e
-  start-answered Auto (Open a b o) x j i t e = auto-taken t a b j i o (opening-opens a b o r.phase x) _ refl e
-  start-answered choice (Shut y) x j i t e = clash (cc)
+  start-answered (At u) (Ok at) x j i t e = at-taken u t at.window at.job j i at.offer (opening-opens at.window at.job at.offer r.phase x) _ refl e
+  start-answered Auto (Ok at) x j i t e = auto-taken t at.window at.job j i at.offer (opening-opens at.window at.job at.offer r.phase x) _ refl e
+  start-answered choice (Err y) x j i t e = clash (cc)
 
-  asked-other : (at : Opening) (j i : ℕ) (t : RunTime) → asked at ≡ Started j i t → ⊥
+  asked-other : (at : Result Opening Refusal) (j i : ℕ) (t : RunTime) → asked at ≡ Started j i t → ⊥
   unfolding asked
-  asked-other (Open a b o) j i t e = clash (cc)
-  asked-other (Shut x) j i t e = clash (cc)
+  asked-other (Ok at) j i t e = clash (cc)
+  asked-other (Err x) j i t e = clash (cc)
 
   finished-other : (job : Job) (u : RunTime) (f : Phase) (j i : ℕ) (t : RunTime) → finished job u f ≡ Started j i t → ⊥
   unfolding finished
@@ -188,24 +187,24 @@ module _ (d : Turn) (cs ds : List ℤ) (r : Run) where
   finish-answered u (Waiting a b) h j i t e = clash (cc)
   finish-answered u (Running a b s) h j i t e = since-ended u t s a b j i h _ refl e
 
-  asked-not : (at : Opening) (j i : ℕ) (t : RunTime) → asked at ≡ Final j i t → ⊥
+  asked-not : (at : Result Opening Refusal) (j i : ℕ) (t : RunTime) → asked at ≡ Final j i t → ⊥
   unfolding asked
-  asked-not (Open a b o) j i t e = clash (cc)
-  asked-not (Shut x) j i t e = clash (cc)
+  asked-not (Ok at) j i t e = clash (cc)
+  asked-not (Err x) j i t e = clash (cc)
 
-  started-not : (choice : Choice) (at : Opening) (j i : ℕ) (t : RunTime) → started choice at ≡ Final j i t → ⊥
+  started-not : (choice : Choice) (at : Result Opening Refusal) (j i : ℕ) (t : RunTime) → started choice at ≡ Final j i t → ⊥
   unfolding started
-  started-not (At u) (Open a b o) j i t e = go (within o.from.0 o.to.0 u.0) e
+  started-not (At u) (Ok at) j i t e = go (within at.offer.from.0 at.offer.to.0 u.0) e
     where
-      go : (x : Bool) → cond x (Started a b u) (Refused refusal.OutsideOffer) ≡ Final j i t → ⊥
+      go : (x : Bool) → cond x (Started at.window at.job u) (Refused refusal.OutsideOffer) ≡ Final j i t → ⊥
       go true e = clash (cc)
       go false e = clash (cc)
-  started-not Auto (Open a b o) j i t e = go (is_time o.from) e
+  started-not Auto (Ok at) j i t e = go (is_time at.offer.from) e
     where
-      go : (x : Bool) → cond x (Started a b o.from) (Refused outside_limits) ≡ Final j i t → ⊥
+      go : (x : Bool) → cond x (Started at.window at.job at.offer.from) (Refused outside_limits) ≡ Final j i t → ⊥
       go true e = clash (cc)
       go false e = clash (cc)
-  started-not choice (Shut x) j i t e = clash (cc)
+  started-not choice (Err x) j i t e = clash (cc)
 
   pub answer-final : (st : Step) (j i : ℕ) (t : RunTime) → answer_at d cs ds r st ≡ Final j i t → FinishTaken st j i t
   unfolding answer_at
@@ -215,21 +214,21 @@ module _ (d : Turn) (cs ds : List ℤ) (r : Run) where
 
   -- ---- where 11 comes from
 
-  asked-empty : (at : Opening) → asked at ≡ Refused refusal.EmptyOffer → at ≡ Shut refusal.EmptyOffer
+  asked-empty : (at : Result Opening Refusal) → asked at ≡ Refused refusal.EmptyOffer → at ≡ Err refusal.EmptyOffer
   unfolding asked
-  asked-empty (Open j i o) e = clash (cc)
-  asked-empty (Shut x) e = cc
+  asked-empty (Ok at) e = clash (cc)
+  asked-empty (Err x) e = cc
 
   -- neither a start nor another refusal
   not-empty : (a b : ℕ) (t : RunTime) (x : Bool) (q : Refusal) → cond x (Started a b t) (Refused q) ≡ Refused refusal.EmptyOffer → q ≡ refusal.EmptyOffer
   not-empty a b t true q e = clash (cc)
   not-empty a b t false q e = cc
 
-  started-empty : (choice : Choice) (at : Opening) → started choice at ≡ Refused refusal.EmptyOffer → at ≡ Shut refusal.EmptyOffer
+  started-empty : (choice : Choice) (at : Result Opening Refusal) → started choice at ≡ Refused refusal.EmptyOffer → at ≡ Err refusal.EmptyOffer
   unfolding started
-  started-empty (At t) (Open j i o) e = let q = not-empty j i t (within o.from.0 o.to.0 t.0) refusal.OutsideOffer e in clash (cc)
-  started-empty Auto (Open j i o) e = let q = not-empty j i o.from (is_time o.from) outside_limits e in clash (cc)
-  started-empty choice (Shut x) e = cc
+  started-empty (At t) (Ok at) e = let q = not-empty at.window at.job t (within at.offer.from.0 at.offer.to.0 t.0) refusal.OutsideOffer e in clash (cc)
+  started-empty Auto (Ok at) e = let q = not-empty at.window at.job at.offer.from (is_time at.offer.from) outside_limits e in clash (cc)
+  started-empty choice (Err x) e = cc
 
   finished-empty : (job : Job) (t : RunTime) (f : Phase) → finished job t f ≡ Refused refusal.EmptyOffer → ⊥
   unfolding finished
@@ -240,7 +239,7 @@ module _ (d : Turn) (cs ds : List ℤ) (r : Run) where
       go true e = clash (cc)
       go false e = clash (cc)
 
-  pub answer-empty : (st : Step) → answer_at d cs ds r st ≡ Refused refusal.EmptyOffer → opening_at d cs ds r r.phase ≡ Shut refusal.EmptyOffer
+  pub answer-empty : (st : Step) → answer_at d cs ds r st ≡ Refused refusal.EmptyOffer → opening_at d cs ds r r.phase ≡ Err refusal.EmptyOffer
   unfolding answer_at
   answer-empty Ask e = asked-empty _ e
   answer-empty (Start choice) e = started-empty choice _ e
@@ -248,7 +247,7 @@ module _ (d : Turn) (cs ds : List ℤ) (r : Run) where
 
   -- ---- while an opening is open
 
-  module _ (j i : ℕ) (o : Offer) (opens : opening_at d cs ds r r.phase ≡ Open j i o) where
+  module _ (j i : ℕ) (o : Offer) (opens : opening_at d cs ds r r.phase ≡ Ok (opening_of j i o)) where
     pub ask-offered : answer_at d cs ds r Ask ≡ Offered o
     unfolding answer_at asked
     ask-offered = ap asked opens

@@ -1,6 +1,6 @@
 -- The ranges in which nothing that a step adds up wraps and every place that it looks at is one: of a plan, a calendar and a run inside their limits
 -- (`Inside`), and of what is read off them.
-use Rattle.std.specs.Prelude.{ℕ, ◌*◌, ◌-◌, ◌≤◌, ◌<◌, ◌≡◌, true, ◌&&◌, List, ℤ, pos, ◌≤ℤ◌}
+use Rattle.std.specs.Prelude.{ℕ, ◌+◌, ◌*◌, ◌-◌, ◌≤◌, ◌<◌, ◌≡◌, true, ◌&&◌, List, ℤ, pos, ◌≤ℤ◌}
 use Rattle.std.proofs.Math.Option.{none}
 use Rattle.std.specs.Int.{w64}
 use Rattle.std.proofs.Common.{SFits}
@@ -14,18 +14,15 @@ use Rattle.plan.specs.Accepted.{Accepted}
 use Rattle.calendars.specs.declared.Calendar.{Calendar}
 use Rattle.events.specs.Bits.{bits_of, has_event, most_events}
 use Rattle.calendars.specs.Calendars.{events_ahead}
-use Rattle.runs.specs.declared.Before.{Before}
-use Rattle.runs.specs.declared.Turn.{Turn}
 use Rattle.runs.specs.declared.Phase.{Phase}
 use Rattle.runs.specs.declared.Phase.TheVariants.{Waiting, Running}
 use Rattle.runs.specs.declared.Run.{Run}
-use Rattle.runs.specs.declared.Moved.{Moved}
 use Rattle.runs.specs.declared.Step.{Step}
 use Rattle.runs.specs.declared.Answer.TheVariants.{Refused}
 use Rattle.runs.specs.declared.Answered.{Answered}
 use Rattle.runs.specs.Seen.{first_seen}
 use Rattle.runs.specs.ValueLimits.{last_time, is_run, is_calendar}
-use Rattle.runs.specs.Offers.{term_at}
+use Rattle.runs.specs.Offers.{Turn, term_at}
 use Rattle.runs.specs.Steps.{answer_of, answered_by, is_step, values_refused, unless_refused}
 
 pub record Inside (p : Plan) (c : Calendar) (r : Run) : Type 0 where
@@ -44,13 +41,11 @@ refused_with r x = record { answer = Refused x; run = r }
 
 -- ---- what the code works with
 
--- the parts of a run
-abbrev pub run_of : Phase → Before → List ℤ → Run
-run_of f b ts = record { phase = f; before = b; seen = ts }
-
--- a run without the times that it has seen
-abbrev pub moved_of : Run → Moved
-moved_of r = record { phase = r.phase; before = r.before }
+-- the term of event e is at a place, and fits an i64
+pub record TermInside (seen cs : List ℤ) (row e : ℕ) : Type 0 where
+  pub event : e < most_events
+  pub room : row + e < most_jobs * most_events
+  pub fit : SFits w64 (term_at seen cs row e)
 
 -- every term of a set, of the events from one on and before another, fits an i64
 pub record TermsFit (seen : List ℤ) (set : ℕ) (cs : List ℤ) (row first count : ℕ) : Type 0 where

@@ -16,14 +16,13 @@ use Rattle.calendars.specs.declared.Terms.{Terms}
 use Rattle.calendars.specs.declared.Calendar.{Calendar}
 use Rattle.events.specs.Bits.{bits_of, has_event, is_below, most_events}
 use Rattle.calendars.specs.Calendars.{events_before}
-use Rattle.runs.specs.declared.Turn.{Turn}
 use Rattle.runs.specs.declared.Phase.{Phase}
 use Rattle.runs.specs.declared.Phase.TheVariants.{Waiting, Running}
 use Rattle.runs.specs.declared.Run.{Run}
 use Rattle.runs.specs.Seen.{time_at, first_seen}
 use Rattle.runs.specs.ValueLimits.{last_time, is_time, are_times, is_turn, is_phase, job_of_phase, is_run, is_c, is_out, is_side, are_terms_of, are_terms, is_calendar}
 use Rattle.runs.specs.TestLaws.{here-or-later, and_left, and_right, and-not, or_left}
-use Rattle.runs.specs.Offers.{turn_of}
+use Rattle.runs.specs.Offers.{Turn, turn_of}
 use Rattle.runs.specs.Inside.{Inside, TermsFit, OfferInside, FinishInside, StepInside, MoveInside}
 
 -- ---- what has its times, and a c in range
@@ -171,8 +170,8 @@ phase-job p (Waiting j i) e = go (is_turn p.last p.jobs j i) refl
 phase-job p (Running j i t) e = inl (turn-of p j i (and_left (is_turn p.last p.jobs j i) _ e)).job-most
 
 -- no more jobs have finished in the present window than it has
-pub phase-done : (p : Plan) (f : Phase) → is_phase p.last p.jobs f ≡ true → job_of_phase f - 1 ≤ p.jobs
-phase-done p f e = ⊎_elim (λ (h : job_of_phase f ≤ p.jobs). omega arith) (λ (h : job_of_phase f ≡ 1). omega arith) (phase-job p f e)
+pub phase_done : (p : Plan) (f : Phase) → is_phase p.last p.jobs f ≡ true → job_of_phase f - 1 ≤ p.jobs
+phase_done p f e = ⊎_elim (λ (h : job_of_phase f ≤ p.jobs). omega arith) (λ (h : job_of_phase f ≡ 1). omega arith) (phase-job p f e)
 
 -- ---- a step
 

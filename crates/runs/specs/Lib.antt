@@ -1,5 +1,5 @@
 -- Runs, as document 01 has them: what a run has seen, the limits of what is passed in as a value, the offer, and the steps with the order of their
--- refusals. Then what the code works with: one pick for both ends, and the ranges in which nothing wraps. These files are definitions alone; the laws stand
+-- refusals. Then what the code works with: an end by picking, and the ranges in which nothing wraps. These files are definitions alone; the laws stand
 -- after them.
 -- ---- document 01
 pub mod Seen

@@ -11,11 +11,10 @@ use Rattle.whole.specs.Rules.{whole}
 use Rattle.clock.specs.Clock.{on_run}
 use Rattle.events.specs.Bits.{bits_of, has_event, members_from, most_events}
 use Rattle.calendars.specs.Calendars.{events_ahead}
-use Rattle.runs.specs.declared.Turn.{Turn}
 use Rattle.runs.specs.declared.Run.{Run}
 use Rattle.runs.specs.TestLaws.{true-not-false, here-or-later}
 use Rattle.runs.specs.Seen.{first_seen}
-use Rattle.runs.specs.Offers.{term_at, lower_terms, upper_terms, greater, lesser, greatest, least, offer_at}
+use Rattle.runs.specs.Offers.{Turn, term_at, lower_terms, upper_terms, greater, lesser, greatest, least, offer_at}
 use Rattle.runs.specs.Ends.{end_over}
 
 -- ---- the terms of one end

@@ -1,25 +1,34 @@
 -- The offer (document 01, 'Offers and runs': 'The offer is from the greatest lower bound to the least upper bound, both ends included').
-use Rattle.std.specs.Prelude.{ℕ, ◌+◌, ◌*◌, ◌-◌, cond, ltb, ℤ, pos, ◌+ℤ◌, get_or}
+use Rattle.std.specs.Prelude.{ℕ, ◌+◌, ◌*◌, ◌-◌, cond, ltb, ℤ, pos, ◌+ℤ◌, get_or, Result, Ok, Err}
 use mathlib.Core.List.{List, [], ◌∷◌, map, foldl}
 use Rattle.std.specs.Int.Signed.{lt_z}
 use Rattle.clock.specs.Clock.{on_run}
+use Rattle.plan.specs.declared.Job.{Job}
 use Rattle.plan.specs.declared.Plan.{Plan}
+use Rattle.lines.specs.declared.Refusal.{Refusal}
 use Rattle.lines.specs.declared.Refusal.TheVariants as refusal
 use Rattle.plan.specs.PlanLines.{no_job}
 use Rattle.calendars.specs.declared.Calendar.{Calendar}
+use Rattle.calendars.specs.declared.Terms.{Terms}
 use Rattle.events.specs.Bits.{bits_of, members_from, most_events}
 use Rattle.calendars.specs.Calendars.{events_ahead, no_terms}
-use Rattle.runs.specs.declared.Turn.{Turn}
 use Rattle.runs.specs.declared.Phase.{Phase}
 use Rattle.runs.specs.declared.Phase.TheVariants.{Waiting, Running}
 use Rattle.runs.specs.declared.Run.{Run}
 use Rattle.runs.specs.declared.Offer.{Offer}
 use Rattle.runs.specs.declared.Opening.{Opening}
-use Rattle.runs.specs.declared.Opening.TheVariants.{Open, Shut}
 use Rattle.runs.specs.Seen.{time_at, first_seen}
 use Rattle.runs.specs.ValueLimits.{job_of_phase}
 
 -- ---- whose turn it is
+
+-- what a plan says of windows and jobs, and of the job whose turn it is its limits and the terms of its calendar
+pub record Turn : Type 0 where
+  pub window : ℤ
+  pub last : ℕ
+  pub jobs : ℕ
+  pub job : Job
+  pub terms : Terms
 
 -- what a plan and its calendar say of job i (from 1)
 abbrev pub turn_of : Plan → Calendar → ℕ → Turn
@@ -82,14 +91,18 @@ offer_of p c r j i = offer_at (turn_of p c i) c.at_least c.at_most r j i
 
 -- ---- 'For ask and start: 10, 6, 11'
 
+-- an offer for job i of window j
+abbrev pub opening_of : ℕ → ℕ → Offer → Opening
+opening_of j i o = record { window = j; job = i; offer = o }
+
 -- '11 | the offer's lower end is above its upper end'
-abbrev pub opened : ℕ → ℕ → Offer → Opening
-opened j i o = cond (lt_z o.to.0 o.from.0) (Shut refusal.EmptyOffer) (Open j i o)
+abbrev pub opened : ℕ → ℕ → Offer → Result Opening Refusal
+opened j i o = cond (lt_z o.to.0 o.from.0) (Err refusal.EmptyOffer) (Ok (opening_of j i o))
 
 -- '10 | ask or start once the last job of window `last` has finished (while it runs the answer is 6)'
-unfoldable pub opening_at : Turn → List ℤ → List ℤ → Run → Phase → Opening
-opening_at d cs ds r (Waiting j i) = let o = opened j i (offer_at d cs ds r j i) in cond (ltb d.last j) (Shut refusal.Over) o
-opening_at d cs ds r (Running j i t) = Shut refusal.Running
+unfoldable pub opening_at : Turn → List ℤ → List ℤ → Run → Phase → Result Opening Refusal
+opening_at d cs ds r (Waiting j i) = let o = opened j i (offer_at d cs ds r j i) in cond (ltb d.last j) (Err refusal.Over) o
+opening_at d cs ds r (Running j i t) = Err refusal.Running
 
-abbrev pub opening : Plan → Calendar → Run → Opening
+abbrev pub opening : Plan → Calendar → Run → Result Opening Refusal
 opening p c r = opening_at (turn_of p c (job_of_phase r.phase)) c.at_least c.at_most r r.phase

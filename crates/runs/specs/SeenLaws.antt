@@ -1,12 +1,14 @@
 -- What a run has seen, place by place. A job that was seen is there at its two places (`job_seen-start`, `job_seen-finish`), and no other place has moved
 -- (`job_seen-other`). At a window's end each place of the previous window holds what that of the present window held (`to_front-at`), which a loop does one
--- place after the other (`front-more`, `front-none`). No place is lost (`job_seen-length`, `to_front-length`).
+-- place after the other, as a loop does it (`front-more`, `front-none`), and as a copy of them
+-- all at once does (`to_front-copied`). No place is lost (`job_seen-length`, `to_front-length`).
 use Prim.Native.Nat.{ℕ, zero, suc, ◌+◌, ◌*◌, ◌-◌, ◌≤◌, ◌<◌}
-use Rattle.std.specs.Prelude.{◌≡◌, List, ℤ, pos, length}
+use Rattle.std.specs.Prelude.{◌≡◌, Bool, true, false, List, leb, ℤ, pos, length, get_or}
+use Rattle.std.specs.List.{CopiedTo, SameFrom}
+use Rattle.std.proofs.lemmas.List.{ext_get_or}
 use Rattle.std.proofs.Math.Path.{refl, ap}
-use Rattle.std.proofs.Common.{sym, ◌∙◌, get_or-set_same, get_or-set_other}
+use Rattle.std.proofs.Common.{add-one, leb-true, leb-false, sym, ◌∙◌, get_or-set_same, get_or-set_other}
 use Rattle.std.proofs.Math.Logic.{⊎_elim}
-use Rattle.std.proofs.Math.Numerals.{add-one}
 use native.Mathlib.Omega.{arith}
 use Rattle.std.proofs.Math.ListN.{length-set}
 use Rattle.clock.specs.declared.RunTime.{RunTime}
@@ -69,11 +71,34 @@ module _ (n : ℕ) where
       ∙ time_put-other seen e (n + k) _ (λ y. omega arith))
       (here-or-later e k from)
 
+  front-beyond : (seen : List ℤ) (e left k : ℕ) → e + left ≤ k → time_at (front_from n e left seen) k ≡ time_at seen k
+  unfolding front_from
+  front-beyond seen e zero k h = refl
+  front-beyond seen e (suc left) k h =
+      front-beyond (time_put seen e (time_at seen (n + e))) (suc e) left k (omega arith) ∙ time_put-other seen e k _ (λ x. omega arith)
+
   pub to_front-at : (seen : List ℤ) → n ≤ length seen → (e : ℕ) → e < n → time_at (to_front n seen) e ≡ time_at seen (n + e)
   to_front-at seen long e h = front_at seen 0 n e (omega arith) (omega arith) (omega arith) long
 
   pub to_front-length : (seen : List ℤ) → length (to_front n seen) ≡ length seen
   to_front-length seen = front_length seen 0 n
+
+  -- what a copy of m places to the front makes, where they are n
+  pub to_front-copied : (seen after : List ℤ) (m : ℕ) → m ≡ n → n + n ≤ length seen → length after ≡ length seen → CopiedTo seen after n 0 m
+      → SameFrom seen after (0 + m) → after ≡ to_front n seen
+  to_front-copied seen after m size room long copied same =
+      ext_get_or (pos 0) after (to_front n seen) (long ∙ sym (to_front-length seen)) (λ k h. by k (leb (suc k) n) refl)
+    where
+      by : (k : ℕ) (b : Bool) → leb (suc k) n ≡ b → get_or after k (pos 0) ≡ get_or (to_front n seen) k (pos 0)
+      by k true e =
+          let below : k < n = leb-true (suc k) n e in
+          let left : k - 0 ≡ k = omega arith in
+          copied k (pos 0) (omega arith) (omega arith)
+          ∙ ap (λ (j : ℕ). get_or seen (n + j) (pos 0)) left
+          ∙ sym (ap (λ t. t.0) (to_front-at seen (omega arith) k below))
+      by k false e =
+          let beyond : n ≤ k = omega (arith, leb-false (suc k) n e) in
+          same k (pos 0) (omega arith) ∙ sym (ap (λ t. t.0) (front-beyond seen 0 n k (omega arith)))
 
 -- ---- a job that was seen
 

@@ -3,7 +3,7 @@
 -- waits for the window's next job (`final-next`) or for the first job of the next window (`final-over`). Where the offer is not empty the opening is open
 -- (`opening-open`), and refusal 11 is not given (`waiting-not-empty`, `running-not-empty`). One step more is taken in the run after the others
 -- (`after_steps-more`).
-use Rattle.std.specs.Prelude.{ℕ, ◌+◌, ◌-◌, ◌≤◌, ◌<◌, ◌≡◌, refl, Bool, true, false, List, [], ◌∷◌, ◌++◌, ltb, ◌≤ℤ◌, get_or}
+use Rattle.std.specs.Prelude.{ℕ, ◌+◌, ◌-◌, ◌≤◌, ◌<◌, ◌≡◌, refl, Bool, true, false, List, [], ◌∷◌, ◌++◌, ltb, ◌≤ℤ◌, get_or, Result, Ok, Err}
 use Rattle.std.proofs.Common.{sym, subst, ◌∙◌, lt-ltb, le-ltb}
 use Rattle.std.proofs.Math.Path.{ap}
 use Rattle.std.proofs.Math.Bool.{cond}
@@ -13,6 +13,7 @@ use Rattle.whole.specs.Rules.{wholes}
 use Rattle.clock.specs.declared.RunTime.{RunTime}
 use Rattle.plan.specs.declared.Job.{Job}
 use Rattle.plan.specs.declared.Plan.{Plan}
+use Rattle.lines.specs.declared.Refusal.{Refusal}
 use Rattle.lines.specs.declared.Refusal.TheVariants as refusal
 use Rattle.plan.specs.PlanLines.{no_job}
 use Rattle.calendars.specs.declared.Calendar.{Calendar}
@@ -21,47 +22,46 @@ use Rattle.runs.specs.declared.Phase.TheVariants.{Waiting, Running}
 use Rattle.runs.specs.declared.Run.{Run}
 use Rattle.runs.specs.declared.Offer.{Offer}
 use Rattle.runs.specs.declared.Opening.{Opening}
-use Rattle.runs.specs.declared.Opening.TheVariants.{Open, Shut}
 use Rattle.runs.specs.declared.Step.{Step}
 use Rattle.runs.specs.declared.Step.TheVariants.{Start, Finish}
 use Rattle.runs.specs.declared.Choice.{Choice}
 use Rattle.runs.specs.declared.Answer.TheVariants.{Started, Final, Refused}
 use Rattle.runs.specs.ValueLimits.{job_of_phase}
-use Rattle.runs.specs.Offers.{turn_of, offer_at, offer_of, opened, opening_at, opening}
+use Rattle.runs.specs.Offers.{turn_of, offer_at, offer_of, opening_of, opened, opening_at, opening}
 use Rattle.runs.specs.Steps.{closed_since, closed, moved, answer_of, stepped, OnOffer, InTimes, after_steps}
 use Rattle.runs.specs.StepLaws.{opening-running}
 use Rattle.runs.specs.AnswerLaws.{answer-started, answer-final, finish-inside, finish-outside}
 
 -- ---- openings
 
-opened-as : (j i : ℕ) (o : Offer) → o.from.0 ≤ℤ o.to.0 → opened j i o ≡ Open j i o
+opened-as : (j i : ℕ) (o : Offer) → o.from.0 ≤ℤ o.to.0 → opened j i o ≡ Ok (opening_of j i o)
 opened-as j i o h = go (lt_z o.to.0 o.from.0) refl
   where
-    go : (b : Bool) → lt_z o.to.0 o.from.0 ≡ b → cond b (Shut refusal.EmptyOffer) (Open j i o) ≡ Open j i o
+    go : (b : Bool) → lt_z o.to.0 o.from.0 ≡ b → cond b (Err refusal.EmptyOffer) (Ok (opening_of j i o)) ≡ Ok (opening_of j i o)
     go true e = absurd (omega wholes)
     go false e = refl
 
 module _ (p : Plan) (c : Calendar) (r : Run) (j i : ℕ) where
-  abbrev opening_in : Phase → Opening
+  abbrev opening_in : Phase → Result Opening Refusal
   opening_in f = opening_at (turn_of p c (job_of_phase f)) c.at_least c.at_most r f
 
   module _ (waits : r.phase ≡ Waiting j i) (some : (offer_of p c r j i).from.0 ≤ℤ (offer_of p c r j i).to.0) where
-    opening-by : opening p c r ≡ cond (ltb p.last j) (Shut refusal.Over) (Open j i (offer_of p c r j i))
+    opening-by : opening p c r ≡ cond (ltb p.last j) (Err refusal.Over) (Ok (opening_of j i (offer_of p c r j i)))
     unfolding opening_at
     opening-by =
-        ap opening_in waits ∙ ap (λ (x : Opening). cond (ltb p.last j) (Shut refusal.Over) x) (opened-as j i (offer_of p c r j i) some)
+        ap opening_in waits ∙ ap (λ (x : Result Opening Refusal). cond (ltb p.last j) (Err refusal.Over) x) (opened-as j i (offer_of p c r j i) some)
 
-    pub opening-open : j ≤ p.last → opening p c r ≡ Open j i (offer_of p c r j i)
-    opening-open lasts = opening-by ∙ ap (λ (b : Bool). cond b (Shut refusal.Over) (Open j i (offer_of p c r j i))) (le-ltb p.last j lasts)
+    pub opening-open : j ≤ p.last → opening p c r ≡ Ok (opening_of j i (offer_of p c r j i))
+    opening-open lasts = opening-by ∙ ap (λ (b : Bool). cond b (Err refusal.Over) (Ok (opening_of j i (offer_of p c r j i)))) (le-ltb p.last j lasts)
 
-    pub waiting-not-empty : opening p c r ≡ Shut refusal.EmptyOffer → ⊥
+    pub waiting-not-empty : opening p c r ≡ Err refusal.EmptyOffer → ⊥
     waiting-not-empty e = go (ltb p.last j) (sym opening-by ∙ e)
       where
-        go : (b : Bool) → cond b (Shut refusal.Over) (Open j i (offer_of p c r j i)) ≡ Shut refusal.EmptyOffer → ⊥
+        go : (b : Bool) → cond b (Err refusal.Over) (Ok (opening_of j i (offer_of p c r j i))) ≡ Err refusal.EmptyOffer → ⊥
         go true h = clash (cc)
         go false h = clash (cc)
 
-  pub running-not-empty : (s : RunTime) → r.phase ≡ Running j i s → opening p c r ≡ Shut refusal.EmptyOffer → ⊥
+  pub running-not-empty : (s : RunTime) → r.phase ≡ Running j i s → opening p c r ≡ Err refusal.EmptyOffer → ⊥
   running-not-empty s runs e =
       let o = opening-running (turn_of p c (job_of_phase r.phase)) c.at_least c.at_most r r.phase j i s runs in
       clash (cc)

@@ -1,9 +1,9 @@
--- Steps, one case after the other, as the code takes them: whose turn it is (`turn_of-made`); a run from its parts (`moved_made`); a finish
--- (`finished_on`, `finished-off`); an opening by its phase (`opening-over`, `opening-waiting`, `opening-running`); the answer by the kind of step
+-- Steps, one case after the other, as the code takes them: whose turn it is (`turn_of-made`); a run from its parts (`moved_made`); a finish (`finish-fits`, `finished_on`,
+-- `finished-off`); an opening by its phase (`opening-over`, `opening-waiting`, `opening-running`); the answer by the kind of step
 -- (`answer-ask`, `answer-start`, `answer-idle`, `answer-finish`). A refusal leaves the run as it was (`stepped-stays`, `step_stays`), and so does an
 -- ask (`ask-stays`). Steps on values are
 -- in `ValueStepLaws`.
-use Rattle.std.specs.Prelude.{ℕ, ◌-◌, ◌≤◌, ◌<◌, ◌≡◌, refl, true, false, List, ℤ, ◌+ℤ◌, get_or}
+use Rattle.std.specs.Prelude.{ℕ, ◌-◌, ◌≤◌, ◌<◌, ◌≡◌, refl, true, false, List, ℤ, ◌+ℤ◌, get_or, Result, Ok, Err}
 use Rattle.std.proofs.Common.{sym, ◌∙◌, SFits}
 use Rattle.std.specs.Int.{w64}
 use borrow.Author.Tests.{lt-ltb, le-ltb}
@@ -20,19 +20,17 @@ use Rattle.calendars.specs.declared.Calendar.{Calendar}
 use Rattle.calendars.specs.Calendars.{no_terms}
 use Rattle.runs.specs.declared.Answer.{Answer}
 use Rattle.runs.specs.declared.Answer.TheVariants.{Final, Refused}
-use Rattle.runs.specs.declared.Turn.{Turn}
+use Rattle.runs.specs.declared.Before.{Before}
 use Rattle.runs.specs.declared.Phase.{Phase}
 use Rattle.runs.specs.declared.Phase.TheVariants.{Waiting, Running}
 use Rattle.runs.specs.declared.Run.{Run}
-use Rattle.runs.specs.declared.Moved.{Moved}
 use Rattle.runs.specs.declared.Choice.{Choice}
 use Rattle.runs.specs.declared.Step.{Step}
 use Rattle.runs.specs.declared.Step.TheVariants.{Ask, Start, Finish}
 use Rattle.runs.specs.declared.Opening.{Opening}
-use Rattle.runs.specs.declared.Opening.TheVariants.{Open, Shut}
-use Rattle.runs.specs.Offers.{turn_of, offer_at, opened, opening_at}
+use Rattle.runs.specs.Offers.{Turn, turn_of, offer_at, opened, opening_at}
 use Rattle.runs.specs.Steps.{asked, started, finished_since, finished, answer_at, moved, stepped, step}
-use Rattle.runs.specs.Inside.{run_of, moved_of, FinishInside}
+use Rattle.runs.specs.Inside.{FinishInside}
 
 -- ---- whose turn it is, read off a plan and a calendar
 
@@ -44,8 +42,9 @@ turn_of-made p c i k window e f = rw (e, f)
 
 -- ---- a run from its parts, after a move
 
-pub moved_made : (m : Moved) (seen : List ℤ) (r : Run) → m ≡ moved_of r → seen ≡ r.seen → run_of m.phase m.before seen ≡ r
-moved_made m seen r e f = rw (e, f)
+pub moved_made : (f : Phase) (b : Before) (seen : List ℤ) (r : Run) → f ≡ r.phase → b ≡ r.before → seen ≡ r.seen
+    → ◌≡◌ {A = Run} (record { phase = f; before = b; seen = seen }) r
+moved_made f b seen r p q e = rw (p, q, e)
 
 -- ---- a finish, where from and to are start + min and start + max
 
@@ -65,7 +64,7 @@ module _ (job : Job) (j i : ℕ) (s t from to : RunTime) (e : from ≡ moved_by 
 -- ---- an opening, by its phase
 
 module _ (d : Turn) (cs ds : List ℤ) (r : Run) (f : Phase) (j i : ℕ) where
-  pub opening-over : f ≡ Waiting j i → d.last < j → opening_at d cs ds r f ≡ Shut refusal.Over
+  pub opening-over : f ≡ Waiting j i → d.last < j → opening_at d cs ds r f ≡ Err refusal.Over
   unfolding opening_at
   opening-over e h = rw (e, lt-ltb d.last j h)
 
@@ -73,7 +72,7 @@ module _ (d : Turn) (cs ds : List ℤ) (r : Run) (f : Phase) (j i : ℕ) where
   unfolding opening_at
   opening-waiting e h = rw (e, le-ltb d.last j h)
 
-  pub opening-running : (t : RunTime) → f ≡ Running j i t → opening_at d cs ds r f ≡ Shut refusal.Running
+  pub opening-running : (t : RunTime) → f ≡ Running j i t → opening_at d cs ds r f ≡ Err refusal.Running
   unfolding opening_at
   opening-running t e = rw e
 
@@ -109,10 +108,10 @@ stepped-stays p c r st x e = refused-stays p.jobs r _ x e
 pub step_stays : (p : Plan) (c : Calendar) (r : Run) (st : Step) (x : Refusal) → (step p c r st).answer ≡ Refused x → (step p c r st).run ≡ r
 step_stays p c r st x e = refused-stays p.jobs r _ x e
 
-asked-stays : (jobs : ℕ) (r : Run) (o : Opening) → moved jobs r (asked o) ≡ r
+asked-stays : (jobs : ℕ) (r : Run) (at : Result Opening Refusal) → moved jobs r (asked at) ≡ r
 unfolding moved asked
-asked-stays jobs r (Open j i o) = refl
-asked-stays jobs r (Shut x) = refl
+asked-stays jobs r (Ok at) = refl
+asked-stays jobs r (Err x) = refl
 
 pub ask-stays : (p : Plan) (c : Calendar) (r : Run) → (stepped p c r Ask).run ≡ r
 unfolding answer_at

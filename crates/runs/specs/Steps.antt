@@ -1,6 +1,6 @@
 -- Steps: ask, start and finish (document 01, 'Numbers of refusal' and 'Offers and runs'). The answer to a step says nothing of what becomes of the run; what an
 -- answer makes of a run is a definition of its own; and a step is the one and then the other.
-use Rattle.std.specs.Prelude.{ℕ, ◌+◌, ◌*◌, ◌-◌, Bool, true, false, cond, ◌&&◌, List, [], ◌∷◌, ltb, ℤ, pos, ◌+ℤ◌, ◌≤ℤ◌, replicate}
+use Rattle.std.specs.Prelude.{ℕ, ◌+◌, ◌*◌, ◌-◌, Bool, true, false, cond, ◌&&◌, List, [], ◌∷◌, ltb, ℤ, pos, ◌+ℤ◌, ◌≤ℤ◌, replicate, Result, Ok, Err}
 use Rattle.std.proofs.Math.Option.{Option, none, some}
 use Rattle.text.specs.Numbers.{within}
 use Rattle.clock.specs.declared.RunTime.{RunTime}
@@ -13,13 +13,11 @@ use Rattle.plan.specs.PlanWritten.{judged_plan}
 use Rattle.calendars.specs.declared.Calendar.{Calendar}
 use Rattle.events.specs.Bits.{most_events}
 use Rattle.runs.specs.declared.Before.TheVariants.{Nothing, Window}
-use Rattle.runs.specs.declared.Turn.{Turn}
 use Rattle.runs.specs.declared.Phase.{Phase}
 use Rattle.runs.specs.declared.Phase.TheVariants.{Waiting, Running}
 use Rattle.runs.specs.declared.Run.{Run}
 use Rattle.runs.specs.declared.Offer.{Offer}
 use Rattle.runs.specs.declared.Opening.{Opening}
-use Rattle.runs.specs.declared.Opening.TheVariants.{Open, Shut}
 use Rattle.runs.specs.declared.Choice.{Choice}
 use Rattle.runs.specs.declared.Choice.TheVariants.{At, Auto}
 use Rattle.runs.specs.declared.Step.{Step}
@@ -29,13 +27,13 @@ use Rattle.runs.specs.declared.Answer.TheVariants.{Offered, Started, Final, Refu
 use Rattle.runs.specs.declared.Answered.{Answered}
 use Rattle.runs.specs.Seen.{job_seen, to_front}
 use Rattle.runs.specs.ValueLimits.{is_time, job_of_phase, is_run, is_calendar}
-use Rattle.runs.specs.Offers.{turn_of, opening_at}
+use Rattle.runs.specs.Offers.{Turn, turn_of, opening_at}
 
 -- ---- the answer to a step, with a plan, a calendar and times inside their limits
 
-unfoldable pub asked : Opening → Answer
-asked (Open j i o) = Offered o
-asked (Shut x) = Refused x
+unfoldable pub asked : Result Opening Refusal → Answer
+asked (Ok at) = Offered at.offer
+asked (Err x) = Refused x
 
 -- '8 | start outside the offer'
 abbrev pub started_by : ℕ → ℕ → Offer → Choice → Answer
@@ -43,9 +41,9 @@ started_by j i o (At t) = cond (within o.from.0 o.to.0 t.0) (Started j i t) (Ref
 -- '`start=auto` (the offer's lower end)'; '2,0 instead for an auto start outside the range of T'
 started_by j i o Auto = cond (is_time o.from) (Started j i o.from) (Refused outside_limits)
 
-unfoldable pub started : Choice → Opening → Answer
-started choice (Open j i o) = started_by j i o choice
-started choice (Shut x) = Refused x
+unfoldable pub started : Choice → Result Opening Refusal → Answer
+started choice (Ok at) = started_by at.window at.job at.offer choice
+started choice (Err x) = Refused x
 
 -- '9 | finish earlier than start + min or later than start + max'
 abbrev pub finished_since : Job → ℕ → ℕ → RunTime → RunTime → Answer

@@ -11,11 +11,9 @@ use Rattle.runs.specs.declared.Step.{Step}
 use Rattle.runs.specs.declared.Step.TheVariants.{Ask, Start, Finish}
 use Rattle.runs.specs.declared.Answer.{Answer}
 use Rattle.runs.specs.declared.Answered.{Answered}
-use Rattle.runs.specs.declared.Turn.{Turn}
-use Rattle.runs.specs.declared.Moved.{Moved}
 use Rattle.runs.specs.ValueLimits.{job_of_phase}
-use Rattle.runs.specs.Steps.{new_run, answer_at, moved, step}
-use Rattle.runs.specs.Inside.{moved_of}
+use Rattle.runs.specs.Offers.{Turn}
+use Rattle.runs.specs.Steps.{new_run, answer_at, answer_of, moved, step}
 
 pub new-run-unique : {r q : Run} → r ≡ new_run → q ≡ new_run → r ≡ q
 new-run-unique = only
@@ -43,11 +41,16 @@ module _ (p : Plan) (c : Calendar) (run : Run) where
 pub jobs-done-unique : (f : Phase) {r q : ℕ} → r ≡ job_of_phase f - 1 → q ≡ job_of_phase f - 1 → r ≡ q
 jobs-done-unique f = only
 
-pub answer-step-unique : (d : Turn) (least most : List ℤ) (run : Run) (st : Step) {r q : Answer}
-    → r ≡ answer_at d least most run st → q ≡ answer_at d least most run st → r ≡ q
-answer-step-unique d least most run st = only
+pub answer-step-unique : (p : Plan) (c : Calendar) (run : Run) (st : Step) {r q : Answer}
+    → r ≡ answer_of p c run st → q ≡ answer_of p c run st → r ≡ q
+answer-step-unique p c run st = only
 
-pub move-run-unique : (jobs : ℕ) (run : Run) (a : Answer) {r q : Moved} → r ≡ moved_of (moved jobs run a) → q ≡ moved_of (moved jobs run a) → r ≡ q
+-- whosever turn it is
+pub answer-at-unique : (d : Turn) (least most : List ℤ) (run : Run) (st : Step) {r q : Answer}
+    → r ≡ answer_at d least most run st → q ≡ answer_at d least most run st → r ≡ q
+answer-at-unique d least most run st = only
+
+pub move-run-unique : (jobs : ℕ) (run : Run) (a : Answer) {r q : Run} → r ≡ moved jobs run a → q ≡ moved jobs run a → r ≡ q
 move-run-unique jobs run a = only
 
 pub move-run-seen-unique : (jobs : ℕ) (run : Run) (a : Answer) {s t : List ℤ} → s ≡ (moved jobs run a).seen → t ≡ (moved jobs run a).seen → s ≡ t

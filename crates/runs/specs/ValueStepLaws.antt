@@ -1,10 +1,8 @@
 -- A step with a plan that is accepted, by what is outside its limits (`accepted_step-..`); and a step on values, whose plan is judged first (`step-refused`,
 -- `step-accepted`). A step on values inside their limits is that step of the run (`step-inside`), one whose time is outside is refused (`step-outside`).
-use Rattle.std.specs.Prelude.{◌≡◌, refl, Bool, true, false, ◌&&◌}
+use Rattle.std.specs.Prelude.{◌≡◌, refl, Bool, true, false, ◌&&◌, Result, Ok, Err}
 use Rattle.std.proofs.Common.{sym, ap, ap₂, ◌∙◌}
 use Rattle.plan.specs.declared.Plan.{Plan}
-use Rattle.lines.specs.declared.TextAnswer.{TextAnswer}
-use Rattle.lines.specs.declared.TextAnswer.TheVariants as plan_answer
 use Rattle.lines.specs.declared.Refusal.{Refusal}
 use Rattle.lines.specs.Refusals.{outside_limits}
 use Rattle.plan.specs.PlanWritten.{judged_plan}
@@ -41,12 +39,12 @@ module _ (p : Plan) (c : Calendar) (r : Run) (st : Step) where
 -- ---- a step on values: the plan is judged first
 
 -- with the answer a to its plan
-module _ (p : Plan) (c : Calendar) (r : Run) (st : Step) (a : TextAnswer) (judged : a ≡ judged_answer (judged_plan p)) where
-  pub step-refused : (x : Refusal) → a ≡ plan_answer.Refused x → refused_with r x ≡ step p c r st
+module _ (p : Plan) (c : Calendar) (r : Run) (st : Step) (a : Result Unit Refusal) (judged : a ≡ judged_answer (judged_plan p)) where
+  pub step-refused : (x : Refusal) → a ≡ Err x → refused_with r x ≡ step p c r st
   unfolding values_answer values_refused unless_refused moved
   step-refused x e = rw (judged_answer-some (judged_plan p) x (sym judged ∙ e))
 
-  pub step-accepted : a ≡ plan_answer.Accepted → accepted_step p c r st ≡ step p c r st
+  pub step-accepted : a ≡ Ok tt → accepted_step p c r st ≡ step p c r st
   unfolding values_answer
   step-accepted e = rw (judged_answer-none (judged_plan p) (sym judged ∙ e))
 

@@ -9,7 +9,6 @@ mod on_values;
 mod seen;
 mod steps;
 
-use calendars::Terms;
 use clock::RunTime;
 use events::MOST_EVENTS;
 pub use limits::jobs_done;
@@ -43,6 +42,7 @@ pub enum Before {
     Window,
 }
 
+// Stays: (a) an array with what is before it beside: a run is fixed memory, and its times are bare numbers (decision 31).
 // A run: its phase, what is before its present window, and the times that it has seen, on the run's clock. The time of event e of a calendar is at place
 // e: the previous window's events first, then the present window's. Places of a previous window where there is none, and those of jobs that the present
 // window has not finished, are no part of the run.
@@ -60,18 +60,16 @@ pub struct Offer {
     pub to: RunTime,
 }
 
-// What there is for an ask or a start: the window, the job and its offer, or why there is none.
+// What there is for an ask or a start: the window, the job and its offer.
 #[derive(Clone, Copy)]
-pub enum Opening {
-    Open {
-        window: u64,
-        job: usize,
-        offer: Offer,
-    },
-    Shut(Refusal),
+pub struct Opening {
+    pub window: u64,
+    pub job: usize,
+    pub offer: Offer,
 }
 
 // How a start chooses its time: at a given one, or at the offer's lower end.
+// Stays: (d) as an Option<RunTime> the choice of `start=auto` would be a None, which reads as a start without a time.
 #[derive(Clone, Copy)]
 pub enum Choice {
     At(RunTime),
@@ -87,6 +85,7 @@ pub enum Step {
 }
 
 // The answer to a step.
+// Stays: (a) document 01 has these four answer lines, and a refusal is one of them, which a session prints as it goes on.
 #[derive(Clone, Copy)]
 pub enum Answer {
     Offered(Offer),
@@ -103,27 +102,9 @@ pub enum Answer {
     Refused(Refusal),
 }
 
-// What an answer makes of a run, beside the times that it has seen.
-#[derive(Clone, Copy)]
-pub struct Moved {
-    pub phase: Phase,
-    pub before: Before,
-}
-
 // The answer to a step and the run after it; where the step is refused, the run as it came in.
 #[derive(Clone, Copy)]
 pub struct Answered {
     pub answer: Answer,
     pub run: Run,
-}
-
-// The job whose turn it is: what its plan says of windows and jobs, and for this job its limits and the terms of its calendar. A step reads nothing else of
-// them but the c of the terms, so that neither is copied from step to step.
-#[derive(Clone, Copy)]
-pub struct Turn {
-    pub window: i32,
-    pub last: u64,
-    pub jobs: usize,
-    pub job: plan::Job,
-    pub terms: Terms,
 }

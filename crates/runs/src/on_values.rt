@@ -9,17 +9,16 @@ use crate::steps::{refused_with, step_accepted};
 use crate::{Answered, Choice, Run, Step};
 use calendars::Calendar;
 use clock::RunTime;
-use lines::TextAnswer;
 use plan::Plan;
 
 // A step's answer. The plan is judged first, as its text would be; then 2,0 for a run, a calendar or a time outside its limits.
+#[tactic(auto, unfolding(crate::specs::Steps::values_answer, crate::specs::Steps::values_refused, crate::specs::Steps::unless_refused, crate::specs::Steps::moved))]
 pub fn take_step(p: Plan, c: Calendar, run: Run, st: Step) -> Answered
     ensures { result ≡ steps.step p c run st }
 {
-    let judged = values::judge_plan(p);
-    match judged {
-        TextAnswer::Accepted => step_accepted(p, c, run, st),
-        TextAnswer::Refused(x) => refused_with(run, x),
+    match values::judge_plan(p) {
+        Ok(()) => step_accepted(&p, &c, run, st),
+        Err(x) => refused_with(run, x),
     }
 }
 

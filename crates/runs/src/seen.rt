@@ -14,8 +14,7 @@ pub fn time_at(times: &[i64; MOST_EVENTS], e: usize) -> RunTime
     requires { e < most_events }
     ensures { result ≡ seen.time_at times.now e }
 {
-    let t = times[e];
-    RunTime(t)
+    RunTime(times[e])
 }
 
 // The time of event e, put.
@@ -23,8 +22,7 @@ fn put_time(times: &mut [i64; MOST_EVENTS], e: usize, t: RunTime)
     requires { e < most_events }
     ensures { times.new ≡ seen.time_put times.old e t }
 {
-    let time = t.0;
-    times[e] = time;
+    times[e] = t.0;
 }
 
 // The first event that a run has seen, with so many jobs in a window.
@@ -32,14 +30,14 @@ pub fn first_seen(jobs: usize, before: Before) -> usize
     requires { jobs ≤ most_jobs }
     ensures { result ≡ seen.first_seen jobs before }
 {
-    let own = 2 * jobs;
     match before {
-        Before::Nothing => own,
+        Before::Nothing => 2 * jobs,
         Before::Window => 0,
     }
 }
 
 // The start and the finish of the job at place i of the present window, put.
+#[tactic(auto, unfolding(crate::specs::Seen::job_seen))]
 pub fn put_job(
     times: &mut [i64; MOST_EVENTS],
     jobs: usize,
@@ -51,11 +49,9 @@ pub fn put_job(
     requires i_lt_jobs { i < jobs }
     ensures { times.new ≡ seen.job_seen jobs i start finish times.old }
 {
-    let places = jobs + i;
-    let first = 2 * places;
-    let second = first + 1;
+    let first = 2 * (jobs + i);
     put_time(times, first, start);
-    put_time(times, second, finish);
+    put_time(times, first + 1, finish);
 }
 
 // A window of n events has ended: what was the present window is the previous one.
@@ -63,11 +59,5 @@ pub fn put_to_front(times: &mut [i64; MOST_EVENTS], n: usize)
     requires { n + n ≤ most_events }
     ensures { times.new ≡ seen.to_front n times.old }
 {
-    let mut e: usize = 0;
-    while e < n {
-        let place = n + e;
-        let t = times[place];
-        times[e] = t;
-        e += 1;
-    }
+    times.copy_within(n..2 * n, 0);
 }

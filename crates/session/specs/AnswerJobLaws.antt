@@ -1,8 +1,9 @@
 -- The job that a step's answer names is the one whose turn it is (`answer-job`): an offer is for the job that the run waits for, and a finish for the one
--- that runs.
+-- that runs. So it has one digit (`answer-job-few`).
 use Rattle.std.specs.Prelude.{◌≤◌, ◌≡◌, refl}
 use Rattle.std.proofs.Common.{ap, arith}
 use Rattle.plan.specs.declared.Plan.{Plan}
+use Rattle.plan.specs.Limits.{most_jobs}
 use Rattle.calendars.specs.declared.Calendar.{Calendar}
 use Rattle.runs.specs.declared.Answer.{Answer}
 use Rattle.runs.specs.declared.Answer.TheVariants.{Offered, Started, Final, Refused}
@@ -10,6 +11,8 @@ use Rattle.runs.specs.declared.Run.{Run}
 use Rattle.runs.specs.declared.Step.{Step}
 use Rattle.runs.specs.ValueLimits.{job_of_phase}
 use Rattle.runs.specs.Steps.{answer_of}
+use Rattle.runs.specs.Inside.{Inside}
+use Rattle.runs.specs.InsideLaws.{inside-job}
 use Rattle.runs.specs.AnswerLaws.{answer-started, answer-final}
 use Rattle.session.specs.AnswerText.{answer_job}
 
@@ -22,3 +25,6 @@ module _ (p : Plan) (c : Calendar) (r : Run) (st : Step) where
 
   pub answer-job : answer_job (answer_of p c r st) ≤ job_of_phase r.phase
   answer-job = job-by (answer_of p c r st) refl
+
+  pub answer-job-few : Inside p c r → answer_job (answer_of p c r st) ≤ most_jobs
+  answer-job-few i = omega (arith, answer-job, inside-job p c r i)

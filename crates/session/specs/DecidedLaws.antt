@@ -2,7 +2,7 @@
 -- (`judged-refused`). A settled plan, its calendar and a run at its beginning are inside their limits (`judged-inside`). What is decided of an accepted plan
 -- makes it a judged one (`judged-decided`).
 
-use Rattle.std.specs.Prelude.{ℕ, ◌≡◌, refl, List}
+use Rattle.std.specs.Prelude.{ℕ, ◌≡◌, refl, List, Result, Ok, Err}
 use Rattle.std.proofs.Common.{sym, ◌∙◌}
 use Rattle.std.proofs.Math.Path.{ap}
 use Rattle.whole.specs.Clash.{clash}
@@ -12,8 +12,6 @@ use Rattle.lines.specs.Refusals.{refused_line}
 use Rattle.plan.specs.Accepted.{Accepted}
 use Rattle.rounds.specs.declared.Verdict.{Verdict}
 use Rattle.rounds.specs.declared.Verdict.TheVariants.{Settled}
-use Rattle.rounds.specs.declared.VerdictTold.{VerdictTold}
-use Rattle.rounds.specs.declared.VerdictTold.TheVariants as told
 use Rattle.calendars.specs.declared.Calendar.{Calendar}
 use Rattle.rounds.specs.Rounds.{Outcome, settled, no_strategy, unsettled, outcome, verdict_of, verdict, verdict_told}
 use Rattle.calendars.specs.Calendars.{made_calendar}
@@ -35,7 +33,7 @@ judged-decided p a v c e d =
 -- ---- what a judged session prints
 
 module _ (p : Plan) (v : Verdict) (c : Calendar) (j : PlanDecided p v c) where
-  pub judged-inside : (w : VerdictTold) → w ≡ verdict_told v → (m : ℕ) → w ≡ told.Settled m → Inside p c new_run
+  pub judged-inside : (w : Result ℕ Refusal) → w ≡ verdict_told v → (m : ℕ) → w ≡ Ok m → Inside p c new_run
   judged-inside w d m e = of (outcome p) refl (sym (told-settled v m (sym d ∙ e)) ∙ j.verdict)
     where
       of : (o : Outcome) → outcome p ≡ o → Settled m ≡ verdict_of p o → Inside p c new_run
@@ -44,15 +42,15 @@ module _ (p : Plan) (v : Verdict) (c : Calendar) (j : PlanDecided p v c) where
       of unsettled d f = clash (cc)
 
   -- by its verdict: settled, or refused
-  module _ (s : List ℕ) (n : ℕ) (w : VerdictTold) (d : w ≡ verdict_told v) where
+  module _ (s : List ℕ) (n : ℕ) (w : Result ℕ Refusal) (d : w ≡ verdict_told v) where
     judged-told : verdict_session p w c s n ≡ judged_session p (outcome p) s n
     unfolding judged_session
     judged-told =
-        ap (λ (w : VerdictTold). verdict_session p w c s n) (d ∙ ap verdict_told j.verdict)
+        ap (λ (w : Result ℕ Refusal). verdict_session p w c s n) (d ∙ ap verdict_told j.verdict)
         ∙ ap (λ (c : Calendar). verdict_session p (verdict_told (verdict p)) c s n) j.calendar
 
-    pub judged-settled : (m : ℕ) → w ≡ told.Settled m → answers p c new_run s n ≡ judged_session p (outcome p) s n
-    judged-settled m e = sym (ap (λ (w : VerdictTold). verdict_session p w c s n) e) ∙ judged-told
+    pub judged-settled : (m : ℕ) → w ≡ Ok m → answers p c new_run s n ≡ judged_session p (outcome p) s n
+    judged-settled m e = sym (ap (λ (w : Result ℕ Refusal). verdict_session p w c s n) e) ∙ judged-told
 
-    pub judged-refused : (x : Refusal) → w ≡ told.Refused x → refused_line x ≡ judged_session p (outcome p) s n
-    judged-refused x e = sym (ap (λ (w : VerdictTold). verdict_session p w c s n) e) ∙ judged-told
+    pub judged-refused : (x : Refusal) → w ≡ Err x → refused_line x ≡ judged_session p (outcome p) s n
+    judged-refused x e = sym (ap (λ (w : Result ℕ Refusal). verdict_session p w c s n) e) ∙ judged-told

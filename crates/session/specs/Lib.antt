@@ -8,6 +8,7 @@ pub mod SessionRead
 pub mod Taken
 -- ---- what the code works with
 pub mod StepAt
+pub mod Settled
 pub mod Decided
 -- ---- laws
 pub mod StepReadLaws
@@ -19,6 +20,6 @@ pub mod TakenLaws
 pub mod SessionReadLaws
 pub mod AnswersLaws
 pub mod PrintedLaws
+pub mod SettledLaws
 pub mod DecidedLaws
-pub mod HeadLaws
 pub mod Unique

@@ -1,6 +1,6 @@
 -- What follows from `refused=4,K` where the dispatch program prints it: no step is answered by 4 (`stepped-not-four`), and no other line begins like a
 -- refusal, so its text began with a plan whose verdict is 'no strategy', K (`dispatch-told`).
-use Rattle.std.specs.Prelude.{ℕ, Bool, cond, ltb, ℤ, ◌+ℤ◌, get_or}
+use Rattle.std.specs.Prelude.{ℕ, Bool, cond, ltb, ℤ, ◌+ℤ◌, get_or, Result, Ok, Err}
 use Rattle.std.proofs.Math.Path.{◌≡◌, refl, sym}
 use Rattle.std.proofs.Common.{ap, ◌∙◌}
 use Rattle.std.proofs.Math.Bool.{true, false}
@@ -29,18 +29,16 @@ use Rattle.runs.specs.declared.Phase.{Phase}
 use Rattle.runs.specs.declared.Phase.TheVariants.{Waiting, Running}
 use Rattle.runs.specs.declared.Run.{Run}
 use Rattle.runs.specs.declared.Opening.{Opening}
-use Rattle.runs.specs.declared.Opening.TheVariants.{Open, Shut}
 use Rattle.runs.specs.declared.Choice.{Choice}
 use Rattle.runs.specs.declared.Choice.TheVariants.{At, Auto}
 use Rattle.runs.specs.declared.Step.{Step}
 use Rattle.runs.specs.declared.Step.TheVariants.{Ask, Start, Finish}
 use Rattle.runs.specs.declared.Answer.{Answer}
 use Rattle.runs.specs.declared.Answer.TheVariants.{Offered, Started, Final, Refused}
-use Rattle.runs.specs.declared.Turn.{Turn}
 use Rattle.runs.specs.ValueLimits.{is_time, job_of_phase}
-use Rattle.runs.specs.Offers.{turn_of, offer_at, opening_at}
+use Rattle.runs.specs.Offers.{Turn, turn_of, offer_at, opening_of, opening_at}
 use Rattle.runs.specs.Steps.{new_run, asked, started, finished, answer_at, stepped}
-use Rattle.session.specs.StepRead.{step_in, lined_step, step_line}
+use Rattle.session.specs.StepRead.{step_in, step_line}
 use Rattle.session.specs.AnswerText.{answer_line}
 use Rattle.session.specs.Sessions.{answers, dispatched_within, judged_session, session_of, dispatch_output}
 use Rattle.session.specs.SessionLaws.{answers-refused, answers-first}
@@ -53,35 +51,36 @@ NotFour (Started j i t) = Unit {0}
 NotFour (Final j i t) = Unit {0}
 NotFour (Refused x) = number x ≡ 4 → ⊥
 
-abbrev ShutNotFour : Opening → Type 0
-ShutNotFour (Open j i o) = Unit {0}
-ShutNotFour (Shut x) = number x ≡ 4 → ⊥
+abbrev ShutNotFour : Result Opening Refusal → Type 0
+ShutNotFour (Ok at) = Unit {0}
+ShutNotFour (Err x) = number x ≡ 4 → ⊥
 
 module _ (d : Turn) (cs ds : List ℤ) (r : Run) where
   opening-or : (f : Phase) → ShutNotFour (opening_at d cs ds r f)
   unfolding opening_at
   opening-or (Waiting j i) = by (ltb d.last j) (lt_z (offer_at d cs ds r j i).to.0 (offer_at d cs ds r j i).from.0)
     where
-      by : (b e : Bool) → ShutNotFour (cond b (Shut refusal.Over) (cond e (Shut refusal.EmptyOffer) (Open j i (offer_at d cs ds r j i))))
+      by : (b e : Bool) → ShutNotFour (cond b (Err refusal.Over) (cond e (Err refusal.EmptyOffer) (Ok (opening_of j i (offer_at d cs ds r j i)))))
       by true e = λ e. omega arith
       by false true = λ e. omega arith
       by false false = tt
   opening-or (Running j i t) = λ e. omega arith
 
-asked-or : (x : Opening) → ShutNotFour x → NotFour (asked x)
+asked-or : (x : Result Opening Refusal) → ShutNotFour x → NotFour (asked x)
 unfolding asked
-asked-or (Open j i o) h = tt
-asked-or (Shut x) h = h
+asked-or (Ok at) h = tt
+asked-or (Err x) h = h
 
 unless-refused : (b : Bool) (a : Answer) (x : Refusal) → NotFour a → (number x ≡ 4 → ⊥) → NotFour (cond b a (Refused x))
 unless-refused true a x h g = h
 unless-refused false a x h g = g
 
-started-or : (choice : Choice) (x : Opening) → ShutNotFour x → NotFour (started choice x)
+started-or : (choice : Choice) (x : Result Opening Refusal) → ShutNotFour x → NotFour (started choice x)
 unfolding started
-started-or (At t) (Open j i o) h = unless-refused (within o.from.0 o.to.0 t.0) (Started j i t) refusal.OutsideOffer tt (λ e. omega arith)
-started-or Auto (Open j i o) h = unless-refused (is_time o.from) (Started j i o.from) outside_limits tt (λ e. omega arith)
-started-or choice (Shut x) h = h
+started-or (At t) (Ok at) h =
+    unless-refused (within at.offer.from.0 at.offer.to.0 t.0) (Started at.window at.job t) refusal.OutsideOffer tt (λ e. omega arith)
+started-or Auto (Ok at) h = unless-refused (is_time at.offer.from) (Started at.window at.job at.offer.from) outside_limits tt (λ e. omega arith)
+started-or choice (Err x) h = h
 
 finished-or : (job : Job) (t : RunTime) (f : Phase) → NotFour (finished job t f)
 unfolding finished
@@ -115,7 +114,7 @@ module _ (p : Plan) (c : Calendar) (K : ℕ) where
   answers-not-four : (r : Run) (s : List ℕ) (n : ℕ) → answers p c r s n ≡ refused_line (refusal.NoStrategy K) → ⊥
   unfolding dispatched_within step_line
   answers-not-four r [] n e = let d : ◌≡◌ {A = ℕ} 0 114 = first-is [] (refusal.NoStrategy K) e in omega arith
-  answers-not-four r (b ∷ s) n e = by (step_line (b ∷ s) n) refl (line-form (λ l. lined_step (step_in l)) (b ∷ s) n)
+  answers-not-four r (b ∷ s) n e = by (step_line (b ∷ s) n) refl (line-form step_in (b ∷ s) n)
     where
       by : (m : Reading Step) → step_line (b ∷ s) n ≡ m → ByForm m → ⊥
       by (read st t k) d h =

@@ -19,7 +19,7 @@ use Rattle.runs.specs.declared.Step.{Step}
 use Rattle.runs.specs.declared.Run.{Run}
 use Rattle.runs.specs.declared.Answered.{Answered}
 use Rattle.runs.specs.Steps.{stepped}
-use Rattle.session.specs.StepRead.{step_in, lined_step, step_line}
+use Rattle.session.specs.StepRead.{step_in, step_line}
 use Rattle.session.specs.AnswerText.{answer_line, ends_session}
 use Rattle.session.specs.Sessions.{Dispatched, answered_step, after_step, dispatched_within, dispatched, answers}
 
@@ -27,7 +27,7 @@ use Rattle.session.specs.Sessions.{Dispatched, answered_step, after_step, dispat
 pub step_line-shorter : (s : List ℕ) (n : ℕ) {st : Step} {t : List ℕ} {m : ℕ} → 0 < length s → step_line s n ≡ read st t m → length t < length s
 unfolding step_line
 step_line-shorter s n h e =
-    omega (arith, ap length (line_read (λ l. lined_step (step_in l)) s n e).rest, length-drop (len_to LF s + 1) s)
+    omega (arith, ap length (line_read step_in s n e).rest, length-drop (len_to LF s + 1) s)
 
 module _ (p : Plan) (c : Calendar) where
   -- ---- the text's length is enough of steps

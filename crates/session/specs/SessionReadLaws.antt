@@ -1,30 +1,18 @@
--- The laws of a session's text, read to its end. Its step lines are read one at a time: where nothing is left they are read (`step_lines-end`), a line that is
--- no step is the last (`step_lines-refused`), and else the lines after it follow (`step_lines-more`). A plan that is refused is followed by no steps
--- (`steps_behind-keeps`), so that its refusal is that of `told-lines` and `told-verdict` of the crate `calendars`; and else the text is read as its step lines
--- are (`session_read-settled`). `LinesSoFar` is the loop over the step lines.
-use Rattle.std.specs.Prelude.{ℕ, zero, suc, ◌+◌, ◌≤◌, ◌<◌, ◌≡◌, refl, List, [], ◌∷◌, length, drop}
+-- The laws of a session's step lines, read to their end. They are read one at a time: where nothing is left they are read (`step_lines-end`), a line that is
+-- no step is the last (`step_lines-refused`), and else the lines after it follow (`step_lines-more`). `LinesSoFar` is the loop over the step lines, with a law
+-- for each way on (`lines_so_far-..`).
+use Rattle.std.specs.Prelude.{ℕ, zero, suc, ◌≤◌, ◌<◌, ◌≡◌, refl, List, [], ◌∷◌, length, drop, Ok, Err}
 use Rattle.std.proofs.Common.{sym, subst, ◌∙◌, arith, length-drop, drop_of_length-le}
 use Rattle.std.proofs.Math.Path.{ap}
-use Rattle.plan.specs.declared.Plan.{Plan}
-use Rattle.plan.specs.declared.PlanRead.{PlanRead}
-use Rattle.lines.specs.declared.TextAnswer.{TextAnswer}
-use Rattle.lines.specs.declared.TextAnswer.TheVariants as plan_answer
 use Rattle.lines.specs.declared.Refusal.{Refusal}
 use Rattle.lines.specs.Reading.{Reading, read, refused, Reader, next}
-use Rattle.plan.specs.PlanLines.{plan_head}
-use Rattle.plan.specs.PlanAnswers.{plan_read}
-use Rattle.lines.specs.Answers.{answer_number, answer_value, part_at, RefusalReport}
-use Rattle.plan.specs.PlanPartLaws.{plan_head-tail}
-use Rattle.lines.specs.PartLaws.{told-refused, told_none}
-use Rattle.rounds.specs.declared.VerdictTold.TheVariants as told
-use Rattle.rounds.specs.Rounds.{verdict, verdict_told}
-use Rattle.rounds.specs.TextVerdictLaws.{verdict_after-settled}
 use Rattle.runs.specs.declared.Step.{Step}
-use Rattle.session.specs.declared.StepAt.{StepAt}
-use Rattle.session.specs.declared.StepAt.TheVariants as step_at
 use Rattle.session.specs.StepRead.{step_line}
-use Rattle.session.specs.StepAt.{step_reading, StepLinesReport, StepWithin}
-use Rattle.session.specs.SessionRead.{steps_within, step_lines, session_read}
+use Rattle.lines.specs.declared.FaultyLine.{FaultyLine}
+use Rattle.lines.specs.ReadAt.{faulty_in}
+use Rattle.session.specs.declared.StepLines.{StepLines}
+use Rattle.session.specs.StepAt.{lines_read, StepRead, StepRefused, IsRead, Ends}
+use Rattle.session.specs.SessionRead.{steps_within, step_lines}
 use Rattle.session.specs.SessionLaws.{step_line-shorter}
 
 -- ---- the text's length is enough of steps
@@ -72,57 +60,32 @@ module _ (s : List ℕ) (n : ℕ) (h : 0 < length s) where
   unfolding next
   step_lines-more st t k e = step_lines-read s n h ∙ ap (λ (m : Reading Step). next m (λ st. step_lines)) e
 
--- ---- the loop over the step lines: where it stands, what is left to read is all there was to read
+-- ---- the loop over the step lines l: where it stands, what is left to read, m, is all there was to read
 
-pub record LinesSoFar (text : List ℕ) (from line place number : ℕ) : Type 0 where
-  pub left : step_lines (drop from text) line ≡ step_lines (drop place text) number
-  pub placed : place ≤ length text
-  pub numbered : number + from ≤ line + place
+pub record LinesSoFar (l m : StepLines) : Type 0 where
+  pub left : lines_read l ≡ lines_read m
+  pub same_text : m.text.now ≡ l.text.now
 
-module _ (text : List ℕ) (from line : ℕ) where
-  pub lines_so_far-start : from ≤ length text → LinesSoFar text from line from line
-  lines_so_far-start h = record { left = refl; placed = h; numbered = omega arith }
+pub lines_so_far-start : (l : StepLines) → LinesSoFar l l
+lines_so_far-start l = record { left = refl; same_text = refl }
 
-  module _ (place number : ℕ) (w : LinesSoFar text from line place number) where
-    pub lines_so_far-end : length text ≤ place → {a : TextAnswer} (at : ℕ) → a ≡ plan_answer.Accepted
-        → StepLinesReport text from line at a
-    lines_so_far-end h {a} at e =
-        subst (λ (m : Reading Unit). RefusalReport m (part_at text at a) (answer_number a) (answer_value a)) (sym (w.left ∙ step_lines-end text place number h))
-        (told_none text a at tt [] number e)
+module _ (l m : StepLines) (w : LinesSoFar l m) where
+  pub lines_so_far-end : length m.text.now ≤ m.at → Ends l.text.now (lines_read l) (Ok tt)
+  lines_so_far-end h = subst IsRead (sym (w.left ∙ step_lines-end m.text.now m.at m.line h)) tt
 
-    module _ (h : place < length text) where
-      some : 0 < length (drop place text)
-      some = omega (arith, length-drop place text)
+  some : m.at < length m.text.now → 0 < length (drop m.at m.text.now)
+  some h = omega (arith, length-drop m.at m.text.now)
 
-      pub lines_so_far-refused : (x : Refusal) {r : StepAt} → step_line (drop place text) number ≡ step_reading text place (number + 1) r → r ≡ step_at.Bad x
-          → {a : TextAnswer} → a ≡ plan_answer.Refused x
-          → StepLinesReport text from line place a
-      lines_so_far-refused x {r} d e {a} f =
-          subst (λ (m : Reading Unit). RefusalReport m (part_at text place a) (answer_number a) (answer_value a))
-          (sym (w.left ∙ step_lines-refused (drop place text) number some x (drop place text) (d ∙ ap (step_reading text place (number + 1)) e)))
-          (told-refused text a place x f refl)
+  pub lines_so_far-refused : (f : FaultyLine) → StepRefused m f → Ends l.text.now (lines_read l) (Err f)
+  lines_so_far-refused f r =
+      w.left ∙ step_lines-refused (drop m.at m.text.now) m.line (some r.some_left) f.refusal (drop f.at m.text.now) r.reads
+      ∙ ap (λ (s : List ℕ). faulty_in s f) w.same_text
 
-      pub lines_so_far-more : (st : Step) (next : ℕ) {r : StepAt} → step_line (drop place text) number ≡ step_reading text place (number + 1) r
-          → r ≡ step_at.Value st next
-          → StepWithin place (length text) r → LinesSoFar text from line next (number + 1)
-      lines_so_far-more st next {r} d e q =
-          record {
-            left = w.left ∙ step_lines-more (drop place text) number some st (drop next text) (number + 1) (d ∙ ap (step_reading text place (number + 1)) e);
-            placed = q.most st next e;
-            numbered = omega (arith, w.numbered, q.least st next e);
-          }
-
--- ---- the whole text, by what the reader of its plan answered
-
--- the step lines after a plan
-abbrev pub steps_behind : Reading Plan → Reading Unit
-steps_behind m = next m (λ p. step_lines)
-
-pub steps_behind-keeps : (x : Refusal) (t : List ℕ) → steps_behind (refused x t) ≡ refused x t
-unfolding next
-steps_behind-keeps x t = refl
-
-pub session_read-settled : (s : List ℕ) (r : PlanRead) → r ≡ plan_read s (plan_head s) → r.answer ≡ plan_answer.Accepted
-    → (k : ℕ) → verdict_told (verdict r.plan) ≡ told.Settled k → session_read s ≡ step_lines (drop r.at s) r.line
-unfolding next
-session_read-settled s r d q k v = ap steps_behind (verdict_after-settled s (plan_head s) (plan_head-tail s) r d q k v)
+  pub lines_so_far-more : (st : Step) (k : StepLines) → StepRead m st k → LinesSoFar l k
+  lines_so_far-more st k r =
+      record {
+        left =
+            w.left ∙ step_lines-more (drop m.at m.text.now) m.line (some r.some_left) st (drop k.at m.text.now) k.line r.reads
+            ∙ ap (λ (s : List ℕ). step_lines (drop k.at s) k.line) (sym r.same_text);
+        same_text = r.same_text ∙ w.same_text;
+      }

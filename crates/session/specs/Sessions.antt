@@ -1,14 +1,12 @@
 -- The dispatch program's output (document 01, 'Offers and runs': 'Dispatch program: standard input is a plan followed by steps').
-use Rattle.std.specs.Prelude.{ℕ, zero, suc, ◌+◌, ◌*◌, cond, List, [], ◌∷◌, ◌++◌, length}
+use Rattle.std.specs.Prelude.{ℕ, zero, suc, ◌+◌, ◌*◌, cond, List, [], ◌∷◌, ◌++◌, length, Result, Ok, Err}
 use Rattle.plan.specs.declared.Plan.{Plan}
 use Rattle.lines.specs.Reading.{longest_text, Reading, read, refused}
 use Rattle.lines.specs.Refusals.{refused_line}
 use Rattle.plan.specs.PlanLines.{plan_head}
-use Rattle.lines.specs.declared.Written.{Written}
+use Rattle.lines.specs.declared.Refusal.{Refusal}
 use Rattle.lines.specs.Written.{written_as}
 use Rattle.calendars.specs.declared.Calendar.{Calendar}
-use Rattle.rounds.specs.declared.VerdictTold.{VerdictTold}
-use Rattle.rounds.specs.declared.VerdictTold.TheVariants.{Settled, Refused}
 use Rattle.rounds.specs.Rounds.{Outcome, outcome, verdict_of, verdict_told}
 use Rattle.calendars.specs.Calendars.{made_calendar}
 use Rattle.runs.specs.declared.Step.{Step}
@@ -51,9 +49,9 @@ answers p c r s n = (dispatched p c r s n).lines
 -- ---- the program: from the bytes of the input to those of the output
 
 -- 'The verdict follows; in a session it comes before any step is read.'
-abbrev pub verdict_session : Plan → VerdictTold → Calendar → List ℕ → ℕ → List ℕ
-verdict_session p (Settled m) c s n = answers p c new_run s n
-verdict_session p (Refused x) c s n = refused_line x
+abbrev pub verdict_session : Plan → Result ℕ Refusal → Calendar → List ℕ → ℕ → List ℕ
+verdict_session p (Ok m) c s n = answers p c new_run s n
+verdict_session p (Err x) c s n = refused_line x
 
 unfoldable pub judged_session : Plan → Outcome → List ℕ → ℕ → List ℕ
 judged_session p o s n = verdict_session p (verdict_told (verdict_of p o)) (made_calendar p o) s n
@@ -72,5 +70,5 @@ abbrev pub most_session_bytes : ℕ
 most_session_bytes = 7 * longest_text + longest_answer
 
 -- the answer to a session text and a lent slice
-abbrev pub session_answer : List ℕ → List ℕ → Written
+abbrev pub session_answer : List ℕ → List ℕ → Result ℕ Refusal
 session_answer s out = written_as (dispatch_output s) out

@@ -1,96 +1,45 @@
 // The steps of a session, answered one after the other.
-ghost use Rattle.std.specs.Prelude.{◌≡◌, ◌+◌, ◌*◌, ◌-◌, ◌≤◌, length, drop};
+ghost use Rattle.std.specs.Prelude.{◌≡◌, ◌+◌, ◌*◌, ◌≤◌, length};
 ghost use Rattle.text.specs.Lent.{Stored};
 ghost use Rattle.lines.specs.Reading.{longest_text};
 ghost use Rattle.runs.specs.Inside.{Inside};
 ghost use Rattle.session.specs.AnswerText.{longest_answer};
-ghost use Rattle.session.specs.Sessions.{dispatched, answers};
+ghost use Rattle.session.specs.Settled.{lines_dispatched};
 
+use crate::StepLines;
 use crate::print::{ends_session, put_answer};
-use crate::read::{read_step_at, step_refusal};
-use crate::{SessionPut, StepAt};
 use calendars::Calendar;
-use lines::put_refused;
 use plan::Plan;
-use runs::{Run, Turn};
+use runs::Run;
 
-// The answers to the steps of a text from a place on, whose line has number line, from a run on, written from a place of out on; and the run after them. The
-// run is held in its parts, so that no step copies it.
+// Stays: (d) a slice and a place in it one by one, as in `crates/text/src/write.rt`.
+// The answers to the steps of some lines, from a run on, written from a place of out on; run becomes the run after them.
 pub fn put_answers(
-    text: &[u8],
-    from: usize,
-    line: usize,
-    p: Plan,
-    c: Calendar,
-    run: Run,
+    lines: StepLines,
+    p: &Plan,
+    c: &Calendar,
+    run: &mut Run,
     out: &mut [u8],
     at: usize,
-) -> SessionPut
-    requires from_in_bounds { from ≤ length text.now }
-    requires text_len_bound { length text.now ≤ longest_text }
-    requires line_bound { line ≤ longest_text + 1 }
+) -> usize
     requires at_le_longest_text { at ≤ longest_text }
-    requires inside { Inside p c run }
-    ensures stored { Stored out.old at (answers p c run (drop from text.now) line) out.new result.end }
-    ensures run_value { result.run ≡ (dispatched p c run (drop from text.now) line).run }
-    ensures from_bound { result.end + 7 * from ≤ at + 7 * length text.now + longest_answer }
+    requires inside { Inside p.now c.now run.old }
+    ensures stored { Stored out.old at (lines_dispatched p.now c.now run.old lines.entry).lines out.new result }
+    ensures run_value { run.new ≡ (lines_dispatched p.now c.now run.old lines.entry).run }
+    ensures from_bound { result + 7 * lines.entry.at ≤ at + 7 * length lines.entry.text.now + longest_answer }
 {
-    let mut phase = run.phase;
-    let mut before = run.before;
-    let mut seen = run.seen;
-    let mut place = from;
-    let mut number = line;
     let mut end = at;
-    while place < text.len() {
-        let read = read_step_at(text, place, number);
-        let StepAt::Value(st, next) = read else {
-            let refused = put_refused(out, end, step_refusal(read));
-            let kept = Run {
-                phase: phase,
-                before: before,
-                seen: seen,
-            };
-            return SessionPut {
-                end: refused,
-                run: kept,
-            };
+    for step in lines {
+        let st = match step {
+            Ok(st) => st,
+            Err(fault) => return lines::put_refused(out, end, fault.refusal),
         };
-        let due = runs::jobs_done(phase);
-        let job = p.job[due];
-        let terms = c.terms[due];
-        let turn = Turn {
-            window: p.window,
-            last: p.last,
-            jobs: p.jobs,
-            job: job,
-            terms: terms,
-        };
-        let answer = runs::answer_step(turn, &c.at_least, &c.at_most, phase, before, &seen, st);
+        let answer = runs::answer_step(p, c, run, st);
         end = put_answer(out, end, answer);
-        let after = runs::move_run(p.jobs, phase, before, &mut seen, answer);
-        phase = after.phase;
-        before = after.before;
+        runs::move_run(run, p.jobs, answer);
         if ends_session(answer) {
-            let ended = Run {
-                phase: phase,
-                before: before,
-                seen: seen,
-            };
-            return SessionPut {
-                end: end,
-                run: ended,
-            };
+            return end;
         }
-        place = next;
-        number += 1;
     }
-    let left = Run {
-        phase: phase,
-        before: before,
-        seen: seen,
-    };
-    SessionPut {
-        end: end,
-        run: left,
-    }
+    end
 }

@@ -41,9 +41,8 @@ use Rattle.calendars.specs.Calendars.{
 }
 use Rattle.runs.specs.declared.Run.{Run}
 use Rattle.runs.specs.declared.Offer.{Offer}
-use Rattle.runs.specs.declared.Turn.{Turn}
 use Rattle.runs.specs.Seen.{time_at, first_seen}
-use Rattle.runs.specs.Offers.{turn_of, term_at, offer_of}
+use Rattle.runs.specs.Offers.{Turn, turn_of, term_at, offer_of}
 use Rattle.runs.specs.Steps.{OnOffer}
 use Rattle.runs.specs.OfferLaws.{PastTerms, AtOrAbove, AtOrBelow, AboveLower, BelowUpper, offer_at-from-iff, offer_at-to-iff}
 use Rattle.strategy.proofs.Keeping.{Holds}

@@ -1,6 +1,6 @@
 -- Reached runs. Such a run shows its history, and from it the game can still be won (`state`); so its offer is never empty, and t is on offer exactly if
 -- after a start at t strategies exist to the end of this window and of every later one.
-use Rattle.std.specs.Prelude.{ℕ, zero, suc, ◌+◌, ◌*◌, ◌-◌, ◌≤◌, ◌≡◌, refl, ◌↔◌, ◌⊎◌, true, [], ◌∷◌, ◌++◌, ℤ, ◌+ℤ◌, ◌-ℤ◌, ◌≤ℤ◌, length, get_or}
+use Rattle.std.specs.Prelude.{ℕ, zero, suc, ◌+◌, ◌*◌, ◌-◌, ◌≤◌, ◌≡◌, refl, ◌↔◌, ◌⊎◌, true, [], ◌∷◌, ◌++◌, ℤ, ◌+ℤ◌, ◌-ℤ◌, ◌≤ℤ◌, length, get_or, Ok, Err}
 use Rattle.std.proofs.Common.{sym, ap, ap₂, ◌∙◌, inl, inr, arith}
 use Rattle.std.proofs.Math.Path.{subst}
 use Rattle.whole.specs.Clash.{clash}
@@ -15,13 +15,12 @@ use Rattle.calendars.specs.Calendars.{calendar}
 use Rattle.runs.specs.declared.Phase.TheVariants.{Waiting, Running}
 use Rattle.runs.specs.declared.Run.{Run}
 use Rattle.runs.specs.declared.Offer.{Offer}
-use Rattle.runs.specs.declared.Opening.TheVariants.{Open, Shut}
 use Rattle.runs.specs.declared.Choice.TheVariants.{At, Auto}
 use Rattle.runs.specs.declared.Step.{Step}
 use Rattle.runs.specs.declared.Step.TheVariants.{Ask, Start, Finish}
 use Rattle.runs.specs.declared.Answer.TheVariants.{Offered, Started, Final, Refused}
 use Rattle.runs.specs.ValueLimits.{is_time}
-use Rattle.runs.specs.Offers.{offer_of, opening}
+use Rattle.runs.specs.Offers.{offer_of, opening, opening_of}
 use Rattle.runs.specs.Steps.{new_run, running_since, closed_since, stepped, OnOffer, InTimes}
 use Rattle.runs.specs.StepEffectLaws.{opening-open, waiting-not-empty, running-not-empty, started-running, finish-final, finish-refused, final-inside}
 use Rattle.runs.specs.AnswerLaws.{answer-empty, ask-offered, start-taken, start-refused, start-auto}
@@ -257,7 +256,7 @@ module _ (p : Plan) (good : Accepted p) (m : ℕ) (c : Rows) (accepted : outcome
           )
 
     -- 11 is never given
-    never-empty : Waits p good m c s f r h ⊎ Runs p good m c s f r h → opening p (calendar p c) r ≡ Shut refusal.EmptyOffer → ⊥
+    never-empty : Waits p good m c s f r h ⊎ Runs p good m c s f r h → opening p (calendar p c) r ≡ Err refusal.EmptyOffer → ⊥
     never-empty (inl w) e =
         waiting-not-empty p (calendar p c) r (suc w.j) (suc w.i) w.phase (reached-some (suc w.j) (suc w.i) w.phase) e
     never-empty (inr w) e = running-not-empty p (calendar p c) r (suc w.j) (suc w.i) w.since w.phase e
@@ -267,7 +266,7 @@ module _ (p : Plan) (good : Accepted p) (m : ℕ) (c : Rows) (accepted : outcome
 
     -- while the run lasts it is open: an ask is answered by it, and a start is taken exactly if it is on offer
     module _ (J I : ℕ) (phase : r.phase ≡ Waiting J I) (lasts : J ≤ p.last) where
-      reached-open : opening p (calendar p c) r ≡ Open J I (offer_of p (calendar p c) r J I)
+      reached-open : opening p (calendar p c) r ≡ Ok (opening_of J I (offer_of p (calendar p c) r J I))
       reached-open = opening-open p (calendar p c) r J I phase (reached-some J I phase) lasts
 
       -- what is on offer is in the range of T

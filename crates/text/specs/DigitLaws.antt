@@ -7,7 +7,7 @@
 -- Read and written: a digit more makes a number no smaller (`digits_value-grows`), so digits without a leading zero are a number above 0 (`positive-value`);
 -- the digits' number is the number (`digits-back`), and the digits of a number that was read are what was read (`positive_back`).
 
-use Rattle.std.specs.Prelude.{ℕ, zero, suc, ◌+◌, ◌*◌, ◌-◌, ◌/◌, ◌%◌, ◌^◌, ◌≤◌, ◌<◌, ◌≡◌, refl, Bool, true, false, not, cond, ◌&&◌, List, [], ◌∷◌, ◌++◌, eqb, leb, ltb, length}
+use Rattle.std.specs.Prelude.{ℕ, zero, suc, Option, Some, None, IfSome, IfNone, unwrap_or, ◌+◌, ◌*◌, ◌-◌, ◌/◌, ◌%◌, ◌^◌, ◌≤◌, ◌<◌, ◌≡◌, refl, Bool, true, false, not, cond, ◌&&◌, List, [], ◌∷◌, ◌++◌, eqb, leb, ltb, length}
 use Rattle.std.proofs.Common.{sym, ap, ◌∙◌, true≢false, append_assoc, append-nil, pow-suc, arith, length-append, lt-ltb, le-ltb, ltb-true, ltb-false, le-leb, leb-true, ne_eqb}
 use Rattle.std.proofs.lemmas.Bool.{false≢true, eqb-false}
 use Rattle.whole.specs.Clash.{clash}
@@ -77,7 +77,7 @@ module _ (P : ℕ → List ℕ → Type 0) (one : (n : ℕ) → n < 10 → P n (
       of true e before = rw (digits-one n (ltb-true n 10 e)) (one n (ltb-true n 10 e))
       of false e before = rw (digits_more n (ltb-false n 10 e)) (more n (digits (n / 10)) (ltb-false n 10 e) (before (ltb-false n 10 e)))
 
-  digits-each : (n : ℕ) → P n (digits n)
+  pub digits-each : (n : ℕ) → P n (digits n)
   digits-each n = each_below n n (omega arith)
 
 -- ---- what they are
@@ -166,6 +166,31 @@ digits-fits n = digits-each (λ n s. (k : ℕ) → n < 10 ^ suc k → length s �
     more n s h before (suc k) g =
         let tenth : n / 10 < 10 ^ suc k = omega (arith, pow-suc 10 (suc k)) in
         omega (arith, before k tenth, length-append s ((zero_digit + n % 10) ∷ []))
+
+-- from 10^k on there are at least k + 1 digits
+digits-long : (n k : ℕ) → 10 ^ k ≤ n → k < length (digits n)
+digits-long n = digits-each (λ n s. (k : ℕ) → 10 ^ k ≤ n → k < length s) one more n
+  where
+    some : (k : ℕ) → 0 < 10 ^ k
+    some zero = omega arith
+    some (suc k) = omega (arith, pow-suc 10 k, some k)
+
+    one : (n : ℕ) → n < 10 → (k : ℕ) → 10 ^ k ≤ n → k < 1
+    one n h zero g = omega arith
+    one n h (suc k) g = absurd (omega (arith, pow-suc 10 k, some k))
+
+    more : (n : ℕ) (s : List ℕ) → 10 ≤ n → ((k : ℕ) → 10 ^ k ≤ n / 10 → k < length s) → (k : ℕ) → 10 ^ k ≤ n
+        → k < length (s ++ ((zero_digit + n % 10) ∷ []))
+    more n s h before zero g = omega (arith, length-append s ((zero_digit + n % 10) ∷ []))
+    more n s h before (suc k) g =
+        let tenth : 10 ^ k ≤ n / 10 = omega (arith, pow-suc 10 k) in
+        omega (arith, before k tenth, length-append s ((zero_digit + n % 10) ∷ []))
+
+-- the count of digits by the greatest k with 10^k ≤ n, which 0 does not have
+pub digits-count : (n : ℕ) (o : Option ℕ) → IfNone o (n ≡ 0) → IfSome o (λ k. 10 ^ k ≤ n) → IfSome o (λ k. n < 10 * 10 ^ k)
+    → unwrap_or o 0 + 1 ≡ length (digits n)
+digits-count n None z h g = let e : n < 10 = omega arith in omega (arith, digits-length-one n e)
+digits-count n (Some k) z h g = omega (arith, digits-long n k h, digits-fits n k (omega (arith, pow-suc 10 k)))
 
 pub digits-short : (n : ℕ) → n < 2 ^ 64 → length (digits n) ≤ 20
 digits-short n h = digits-fits n 19 (omega arith)

@@ -3,19 +3,20 @@
 -- nothing changes (`put-out`); a text written from 0 on, where it has room, is the text and the bytes past it (`put_whole`), which is `written`
 -- (`put_written`).
 -- For callers: what `put_number` ensures of an argument (`stored-number`), and that it moves the place by at most twenty (`stored-near`).
+-- A number and the byte after it move it by at most twenty-one (`count-near`, `number-near`).
 -- For writers: one turn of the copy (`put-past`, `put-end`), and digits from the last one on (`put_last`, `put-digits-more`,
--- `put-digits-one`).
+-- `put-digits-one`), counted (`put-all_digits`, `put-last_digits`, `put-no_digits`).
 
-use Rattle.std.specs.Prelude.{ℕ, suc, ◌+◌, ◌/◌, ◌%◌, ◌≤◌, ◌<◌, ◌^◌, ◌≡◌, refl, List, [], ◌∷◌, ◌++◌, length, get_or, drop, set, ℤ}
+use Rattle.std.specs.Prelude.{ℕ, zero, suc, ◌+◌, ◌-◌, ◌/◌, ◌%◌, ◌≤◌, ◌<◌, ◌^◌, ◌≡◌, refl, List, [], ◌∷◌, ◌++◌, length, get_or, drop, set, ℤ}
 use Rattle.std.proofs.Common.{sym, ap, ◌∙◌, add-zero, add-suc, suc-add, zero-add, add-one, arith, length-append, length-set, drop_of_length-le, drop-cons, le-leb, SFits, to_z, of_z, to_z-of_z}
 use Rattle.std.proofs.Math.Seq.{set_out}
 use Rattle.std.proofs.lemmas.List.{set_comm}
 use Rattle.std.proofs.lemmas.List.Edits.{sets, sets-eq}
 use Rattle.std.specs.Int.{w64}
 use Rattle.text.specs.Numbers.{zero_digit, digits, decimal}
-use Rattle.text.specs.DigitLaws.{digits-short, digits-one, digits_more, digits-length-one, digits-length-more}
+use Rattle.text.specs.DigitLaws.{digits-each, digits-short, digits-one, digits_more, digits-length-one, digits-length-more}
 use Rattle.text.specs.NumberLaws.{decimal-short}
-use Rattle.text.specs.Lent.{written, put, Stored}
+use Rattle.text.specs.Lent.{written, put, last_digits, Stored}
 
 -- ---- in a row
 
@@ -96,6 +97,46 @@ unfolding put
 put-digits-one out at n last h e =
     let place : at ≡ last = omega (arith, digits-length-one n h) in
     ap (put out at) (digits-one n h) ∙ ap (λ (k : ℕ). set out k (zero_digit + n)) place
+
+-- counted digits, from the last one on: all of them, one turn, and the end
+last_digits-length : (k n : ℕ) → length (last_digits k n) ≡ k
+unfolding last_digits
+last_digits-length zero n = refl
+last_digits-length (suc k) n =
+    omega (arith, length-append (last_digits k (n / 10)) ((zero_digit + n % 10) ∷ []), last_digits-length k (n / 10))
+
+last_digits-all : (n : ℕ) → last_digits (length (digits n)) n ≡ digits n
+unfolding last_digits
+last_digits-all n = digits-each (λ n s. last_digits (length s) n ≡ s) one more n
+  where
+    one : (n : ℕ) → n < 10 → last_digits 1 n ≡ (zero_digit + n) ∷ []
+    one n h = let e : n % 10 ≡ n = omega arith in rw e
+
+    more : (n : ℕ) (s : List ℕ) → 10 ≤ n → last_digits (length s) (n / 10) ≡ s
+        → last_digits (length (s ++ ((zero_digit + n % 10) ∷ []))) n ≡ s ++ ((zero_digit + n % 10) ∷ [])
+    more n s h e =
+        let l : length (s ++ ((zero_digit + n % 10) ∷ [])) ≡ suc (length s) = omega (arith, length-append s ((zero_digit + n % 10) ∷ [])) in
+        rw l (ap (λ (t : List ℕ). t ++ ((zero_digit + n % 10) ∷ [])) e)
+
+pub put-last_digits : (out : List ℕ) (at to n : ℕ) → at < to
+    → put out at (last_digits (to - at) n) ≡ put (set out (to - 1) (zero_digit + n % 10)) at (last_digits (to - 1 - at) (n / 10))
+unfolding last_digits
+put-last_digits out at to n h =
+    let k = to - 1 - at in
+    let more : to - at ≡ suc k = omega arith in
+    let place : at + length (last_digits k (n / 10)) ≡ to - 1 = omega (arith, last_digits-length k (n / 10)) in
+    ap (λ (j : ℕ). put out at (last_digits j n)) more
+    ∙ put_last out at (last_digits k (n / 10)) (zero_digit + n % 10)
+    ∙ ap (λ (j : ℕ). put (set out j (zero_digit + n % 10)) at (last_digits k (n / 10))) place
+
+pub put-no_digits : (out : List ℕ) (at to n : ℕ) → to ≤ at → put out at (last_digits (to - at) n) ≡ out
+unfolding last_digits put
+put-no_digits out at to n h = let none : to - at ≡ 0 = omega arith in rw none
+
+pub put-all_digits : (out : List ℕ) (at to n : ℕ) → to ≡ at + length (digits n) → put out at (digits n) ≡ put out at (last_digits (to - at) n)
+put-all_digits out at to n e =
+    let all : to - at ≡ length (digits n) = omega arith in
+    ap (put out at) (sym (last_digits-all n) ∙ ap (λ (k : ℕ). last_digits k n) (sym all))
 
 -- ---- for callers
 

@@ -1,17 +1,21 @@
 -- The laws of lines and keys.
--- The length to a byte: it is at most the whole length (`len_to-fits`); one turn of the search (`len_to-stop`, `len_to-past`, `len_to-end`); a part without b
--- is passed (`len_to-over`, `free-append`), so the parts of a line that was written are given back (`before_back`, `has-back`, `after-back`); a text that has
--- a b is what stands before it, the b, and what follows (`has_split`); a text without b is all before it (`has-false`, `has-free`, `before-free`).
+-- The length to a byte: it is at most the whole length (`len_to-fits`), and the place of the first b (`len_to-position`); one turn of the search
+-- (`len_to-stop`, `len_to-past`, `len_to-end`); a part without b is passed (`len_to-over`, `free-append`), so the parts of a line that was written are given
+-- back (`before_back`, `has-back`, `after-back`); a text that has a b is what stands before it, the b, and what follows (`has_split`); a text without b is all before it (`has-false`, `has-free`, `before-free`).
 -- Keys: a key that was written is given back (`after_key-back`), and only a text that begins with the key has something after it (`after_key-split`); one turn
--- of the comparison (`after_key-same`, `after_key-other`, `after_key-short`, `after_key-end`); and what the test `has_key` tells (`has_key-true`, `has_key-false`).
+-- of the comparison (`after_key-same`, `after_key-other`, `after_key-short`, `after_key-end`); the key is there exactly where as many bytes of the text are the key (`after_key-true`, `after_key-false`), which the test
+-- `has_key` tells (`has_key-starts_with`, `has_key-true`, `has_key-false`).
 -- The place after a line: it is in the text, or past its end (`behind_line-in`, `behind_line-past`); from a place of the text on it is the line's length and one
 -- (`next_line-at`).
 -- A part of a slice that goes to its end is what is left after its start (`drop-rest`).
 -- That b does not stand in s is said as `len_to b s ≡ length s`.
 
-use Rattle.std.specs.Prelude.{ℕ, suc, ◌+◌, ◌-◌, ◌≤◌, ◌<◌, ◌≡◌, refl, Bool, true, false, cond, List, [], ◌∷◌, ◌++◌, eqb, length, get_or, take, drop}
+use Rattle.std.specs.Prelude.{ℕ, suc, ◌+◌, ◌-◌, ◌≤◌, ◌<◌, ◌≡◌, refl, Bool, true, false, cond, ◌&&◌, List, [], ◌∷◌, ◌++◌, eqb, nat_lt, unwrap_or, Some, None, length, get_or, take, drop}
 use Rattle.std.proofs.Common.{sym, ap, ◌∙◌, true≢false, zero-add, add-one, arith, length-append, length-drop, take_all, take_at, drop_at, drop-drop}
-use Rattle.std.proofs.lemmas.Bool.{false≢true}
+use Rattle.std.proofs.lemmas.Bool.{false≢true, eqb-false}
+use Rattle.std.proofs.lemmas.List.Recursion.{is_position_or_len}
+use Rattle.std.specs.List.{position, position_or_len}
+use lib.Pointwise.{pointwise}
 use Rattle.std.proofs.Math.Option.{Option, none, some}
 use Rattle.std.proofs.Math.ListN.{drop_of_length-le}
 use Rattle.std.proofs.Math.Seq.{drop-cons, take-length, split_at, drop-append_seam}
@@ -47,6 +51,21 @@ len_to-fits b (a ∷ s) = at_head (eqb a b) (len_to b s) (length s) (len_to-fits
     at_head : (t : Bool) (n m : ℕ) → n ≤ m → cond t 0 (suc n) ≤ suc m
     at_head true n m h = omega arith
     at_head false n m h = omega arith
+
+-- as the code has it, which finds the place of the first b
+pub len_to-position : (b : ℕ) (s : List ℕ) → unwrap_or (position (λ a. eqb a b) s) (length s) ≡ len_to b s
+unfolding len_to
+len_to-position b s = of (nat_lt n (length s)) refl ∙ sym is
+  where
+    n : ℕ
+    n = position_or_len (λ a. eqb a b) s
+
+    is : len_to b s ≡ n
+    is = is_position_or_len (len_to b) (λ a. eqb a b) refl (λ a s. let e : suc (len_to b s) ≡ 1 + len_to b s = omega arith in ap (cond (eqb a b) 0) e) s
+
+    of : (t : Bool) → nat_lt n (length s) ≡ t → unwrap_or (cond t (Some n) None) (length s) ≡ n
+    of true e = refl
+    of false e = omega (arith, is, len_to-fits b s, ltb-false n (length s) e)
 
 -- a part without b is passed
 len_to-over : (b : ℕ) (s t : List ℕ) → len_to b s ≡ length s → len_to b (s ++ t) ≡ length s + len_to b t
@@ -143,6 +162,38 @@ module _ (key s : List ℕ) (i : ℕ) where
   pub after_key-end : length key ≤ i → after_key (drop i key) (drop i s) ≡ some (drop i s)
   unfolding after_key
   after_key-end h = rw (drop_of_length-le key h)
+
+-- as the code has it, which compares the key with as many bytes of the line
+pub has_key-starts_with : (key s : List ℕ) → pointwise eqb key (take (length key) s) ≡ has_key key s
+unfolding after_key
+has_key-starts_with [] s = refl
+has_key-starts_with (k ∷ key) [] = refl
+has_key-starts_with (k ∷ key) (b ∷ s) = of (eqb b k) refl (has_key-starts_with key s)
+  where
+    of : (q : Bool) → eqb b k ≡ q → pointwise eqb key (take (length key) s) ≡ has_key key s
+        → (eqb k b && pointwise eqb key (take (length key) s)) ≡ is_some (cond q (after_key key s) none)
+    of true e h = rw (eq-eqb k b (sym (eqb-true b k e))) h
+    of false e h = rw (ne_eqb k b (λ d. eqb-false b k e (sym d)))
+
+pub after_key-true : (key s : List ℕ) → pointwise eqb (take (length key) s) key ≡ true → after_key key s ≡ some (drop (length key) s)
+unfolding after_key
+after_key-true [] s h = refl
+after_key-true (k ∷ key) [] h = absurd (false≢true h)
+after_key-true (k ∷ key) (b ∷ s) h = of (eqb b k) (after_key-true key s) h
+  where
+    of : (q : Bool) → (pointwise eqb (take (length key) s) key ≡ true → after_key key s ≡ some (drop (length key) s)) → (q && pointwise eqb (take (length key) s) key) ≡ true → cond q (after_key key s) none ≡ some (drop (length key) s)
+    of true more h = more h
+    of false more h = absurd (false≢true h)
+
+pub after_key-false : (key s : List ℕ) → pointwise eqb (take (length key) s) key ≡ false → after_key key s ≡ none
+unfolding after_key
+after_key-false [] s h = absurd (true≢false h)
+after_key-false (k ∷ key) [] h = refl
+after_key-false (k ∷ key) (b ∷ s) h = of (eqb b k) (after_key-false key s) h
+  where
+    of : (q : Bool) → (pointwise eqb (take (length key) s) key ≡ false → after_key key s ≡ none) → (q && pointwise eqb (take (length key) s) key) ≡ false → cond q (after_key key s) none ≡ none
+    of true more h = more h
+    of false more h = refl
 
 -- what follows a key that is there
 pub has_key-true : (key s : List ℕ) → has_key key s ≡ true → after_key key s ≡ some (drop (length key) s)

@@ -7,19 +7,18 @@
 -- A line of a key and a number is the number after the key (`number_after-key`, `number_after-other`), written (`number_after-back`, `keyed-free`)
 -- and read (`number_after-value`).
 
-use Rattle.std.specs.Prelude.{ℕ, zero, suc, ◌+◌, ◌-◌, ◌≤◌, ◌<◌, ◌≡◌, refl, Bool, true, false, cond, ◌&&◌, List, [], ◌∷◌, ◌++◌, eqb, ℤ, pos, negsuc, neg_ℤ, length, drop, ◌≤ℤ◌, ◌<ℤ◌}
+use Rattle.std.specs.Prelude.{ℕ, zero, suc, ◌≤◌, ◌<◌, ◌≡◌, refl, Bool, true, false, cond, ◌&&◌, List, [], ◌∷◌, ◌++◌, eqb, ℤ, pos, negsuc, neg_ℤ, nat_abs, length, take, drop, ◌≤ℤ◌, ◌<ℤ◌, Ok, Err}
 use Rattle.std.proofs.Common.{sym, ap, ◌∙◌, arith, eqb-true, ne_eqb, SFits}
 use Rattle.std.proofs.lemmas.Bool.{false≢true}
 use Rattle.std.proofs.Math.Option.{Option, none, some}
 use Rattle.std.specs.Int.Signed.{le_z}
 use Rattle.std.specs.Int.{w64}
 use Rattle.whole.specs.Clash.{clash}
-use Rattle.whole.specs.Split.{up, dn}
 use Rattle.whole.specs.Rules.{wholes}
 use Rattle.text.specs.declared.NumberFault.TheVariants.{Form, Range}
-use Rattle.text.specs.declared.Number.TheVariants.{Value, Bad}
-use Rattle.text.specs.Lines.{LF, len_to, after_key, has_key}
-use Rattle.text.specs.LineLaws.{len_to-other, free-append, after_key-back, after_key-split, has_key-true, has_key-false}
+use lib.Pointwise.{pointwise}
+use Rattle.text.specs.Lines.{LF, len_to, after_key}
+use Rattle.text.specs.LineLaws.{len_to-other, free-append, after_key-back, after_key-split, after_key-true, after_key-false}
 use Rattle.text.specs.Numbers.{
   minus,
   zero_digit,
@@ -91,13 +90,13 @@ unfolding decimal
 decimal-free b e d (pos n) = digits-free b (digits n) e (digits-all n)
 decimal-free b e d (negsuc n) = len_to-other b (digits (suc n)) (λ same. d (sym same)) ∙ ap suc (digits-free b (digits (suc n)) e (digits-all (suc n)))
 
--- by the sign, as the code has it, which adds 1 after the negation so that the least i64 fits
-pub decimal-below : (z : ℤ) → z <ℤ pos 0 → decimal z ≡ minus ∷ digits (dn z - 1 + 1)
+-- by the sign
+pub decimal-below : (z : ℤ) → z <ℤ pos 0 → decimal z ≡ minus ∷ digits (nat_abs z)
 unfolding decimal
 decimal-below (pos n) h = absurd (omega wholes)
-decimal-below (negsuc n) h = let e : suc n ≡ suc n - 1 + 1 = omega arith in ap (λ (k : ℕ). minus ∷ digits k) e
+decimal-below (negsuc n) h = refl
 
-pub decimal-above : (z : ℤ) → pos 0 ≤ℤ z → decimal z ≡ digits (up z)
+pub decimal-above : (z : ℤ) → pos 0 ≤ℤ z → decimal z ≡ digits (nat_abs z)
 unfolding decimal
 decimal-above (pos n) h = refl
 decimal-above (negsuc n) h = absurd (omega wholes)
@@ -109,7 +108,7 @@ unfolding decimal
 decimal-neg zero h = absurd (omega arith)
 decimal-neg (suc n) h = refl
 
-decimal-pos : (n : ℕ) → decimal (pos n) ≡ digits n
+pub decimal-pos : (n : ℕ) → decimal (pos n) ≡ digits n
 unfolding decimal
 decimal-pos n = refl
 
@@ -134,17 +133,17 @@ number-back (b ∷ s) h = of (eqb b minus) (eqb b zero_digit) refl refl h
 
 -- ---- the range
 
-pub number_within-below : (lo hi z : ℤ) → z <ℤ lo → number_within lo hi z ≡ Bad Range
+pub number_within-below : (lo hi z : ℤ) → z <ℤ lo → number_within lo hi z ≡ Err Range
 number_within-below lo hi z h = let e : le_z lo z ≡ false = omega wholes in rw e
 
-pub number_within-above : (lo hi z : ℤ) → hi <ℤ z → number_within lo hi z ≡ Bad Range
+pub number_within-above : (lo hi z : ℤ) → hi <ℤ z → number_within lo hi z ≡ Err Range
 number_within-above lo hi z h = of (le_z lo z) (le_z z hi) (omega wholes)
   where
-    of : (a b : Bool) → b ≡ false → cond (a && b) (Value z) (Bad Range) ≡ Bad Range
+    of : (a b : Bool) → b ≡ false → cond (a && b) (Ok z) (Err Range) ≡ Err Range
     of true b e = rw e
     of false b e = refl
 
-pub number_within-inside : (lo hi z : ℤ) → lo ≤ℤ z → z ≤ℤ hi → number_within lo hi z ≡ Value z
+pub number_within-inside : (lo hi z : ℤ) → lo ≤ℤ z → z ≤ℤ hi → number_within lo hi z ≡ Ok z
 number_within-inside lo hi z h g =
     let e : le_z lo z ≡ true = omega wholes in
     let d : le_z z hi ≡ true = omega wholes in
@@ -154,21 +153,21 @@ pub number_in-decimal : (lo hi z : ℤ) → number_in lo hi (decimal z) ≡ numb
 unfolding number_in
 number_in-decimal lo hi z = rw (decimal-form z, decimal-back z)
 
-number_in-back : (lo hi z : ℤ) → lo ≤ℤ z → z ≤ℤ hi → number_in lo hi (decimal z) ≡ Value z
+number_in-back : (lo hi z : ℤ) → lo ≤ℤ z → z ≤ℤ hi → number_in lo hi (decimal z) ≡ Ok z
 number_in-back lo hi z h g = number_in-decimal lo hi z ∙ number_within-inside lo hi z h g
 
 pub record NumberWithin (lo hi z : ℤ) : Type 0 where
   pub least : lo ≤ℤ z
   pub greatest : z ≤ℤ hi
 
-pub number_in-value : (lo hi z : ℤ) (s : List ℕ) → number_in lo hi s ≡ Value z → NumberWithin lo hi z × (s ≡ decimal z)
+pub number_in-value : (lo hi z : ℤ) (s : List ℕ) → number_in lo hi s ≡ Ok z → NumberWithin lo hi z × (s ≡ decimal z)
 unfolding number_in
 number_in-value lo hi z s h = of (is_number s) (le_z lo v) (le_z v hi) refl refl refl h
   where
     v : ℤ
     v = number_value s
 
-    of : (t p q : Bool) → is_number s ≡ t → le_z lo v ≡ p → le_z v hi ≡ q → cond t (cond (p && q) (Value v) (Bad Range)) (Bad Form) ≡ Value z
+    of : (t p q : Bool) → is_number s ≡ t → le_z lo v ≡ p → le_z v hi ≡ q → cond t (cond (p && q) (Ok v) (Err Range)) (Err Form) ≡ Ok z
         → NumberWithin lo hi z × (s ≡ decimal z)
     of true true true e l g h =
         let same : v ≡ z = cc in
@@ -179,13 +178,15 @@ number_in-value lo hi z s h = of (is_number s) (le_z lo v) (le_z v hi) refl refl
 
 -- ---- a line
 
-pub number_after-key : (key : List ℕ) (lo hi : ℤ) (s : List ℕ) → has_key key s ≡ true → number_after key lo hi s ≡ number_in lo hi (drop (length key) s)
+-- as the code has it, which compares as many bytes of the line with the key
+pub number_after-key : (key : List ℕ) (lo hi : ℤ) (s : List ℕ) → pointwise eqb (take (length key) s) key ≡ true
+    → number_after key lo hi s ≡ number_in lo hi (drop (length key) s)
 unfolding number_of
-number_after-key key lo hi s h = rw (has_key-true key s h)
+number_after-key key lo hi s h = rw (after_key-true key s h)
 
-pub number_after-other : (key : List ℕ) (lo hi : ℤ) (s : List ℕ) → has_key key s ≡ false → number_after key lo hi s ≡ Bad Form
+pub number_after-other : (key : List ℕ) (lo hi : ℤ) (s : List ℕ) → pointwise eqb (take (length key) s) key ≡ false → number_after key lo hi s ≡ Err Form
 unfolding number_of
-number_after-other key lo hi s h = rw (has_key-false key s h)
+number_after-other key lo hi s h = rw (after_key-false key s h)
 
 pub number_after-back : (key : List ℕ) (lo hi : ℤ) (s : List ℕ) → number_after key lo hi (key ++ s) ≡ number_in lo hi s
 unfolding number_of
@@ -195,11 +196,11 @@ number_after-back key lo hi s = rw (after_key-back key s)
 pub keyed-free : (key : List ℕ) (z : ℤ) → len_to LF key ≡ length key → len_to LF (key ++ decimal z) ≡ length (key ++ decimal z)
 keyed-free key z e = free-append LF key (decimal z) e (decimal-free LF refl (omega arith) z)
 
-pub number_after-value : (key : List ℕ) (lo hi z : ℤ) (s : List ℕ) → number_after key lo hi s ≡ Value z → NumberWithin lo hi z × (s ≡ key ++ decimal z)
+pub number_after-value : (key : List ℕ) (lo hi z : ℤ) (s : List ℕ) → number_after key lo hi s ≡ Ok z → NumberWithin lo hi z × (s ≡ key ++ decimal z)
 unfolding number_of
 number_after-value key lo hi z s h = of (after_key key s) refl h
   where
-    of : (o : Option (List ℕ)) → after_key key s ≡ o → number_of lo hi o ≡ Value z → NumberWithin lo hi z × (s ≡ key ++ decimal z)
+    of : (o : Option (List ℕ)) → after_key key s ≡ o → number_of lo hi o ≡ Ok z → NumberWithin lo hi z × (s ≡ key ++ decimal z)
     of none e h = clash (cc)
     of (some t) e h =
         let read = number_in-value lo hi z t h in

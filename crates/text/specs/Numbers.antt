@@ -1,10 +1,9 @@
 -- Numbers (document 01, 'Plan text': 'Numbers are decimal, without plus, leading zeros or `-0`; any count of digits is well formed').
-use Rattle.std.specs.Prelude.{ℕ, zero, suc, ◌+◌, ◌*◌, ◌-◌, ◌/◌, ◌%◌, Bool, true, false, not, cond, ◌&&◌, List, [], ◌∷◌, eqb, leb, ltb, ℤ, pos, negsuc, neg_ℤ}
+use Rattle.std.specs.Prelude.{ℕ, zero, suc, ◌+◌, ◌*◌, ◌-◌, ◌/◌, ◌%◌, Bool, true, false, not, cond, ◌&&◌, List, [], ◌∷◌, eqb, leb, ltb, ℤ, pos, negsuc, neg_ℤ, Result, Ok, Err}
 use Rattle.std.proofs.Math.Option.{Option, none, some}
 use Rattle.std.specs.Int.Signed.{le_z}
+use Rattle.text.specs.declared.NumberFault.{NumberFault}
 use Rattle.text.specs.declared.NumberFault.TheVariants.{Form, Range}
-use Rattle.text.specs.declared.Number.{Number}
-use Rattle.text.specs.declared.Number.TheVariants.{Value, Bad}
 use Rattle.text.specs.Lines.{after_key}
 
 -- ---- the form
@@ -55,19 +54,19 @@ number_value (b ∷ s) = cond (eqb b minus) (neg_ℤ (pos (digits_value 0 s))) (
 abbrev pub within : ℤ → ℤ → ℤ → Bool
 within lo hi z = le_z lo z && le_z z hi
 
-abbrev pub number_within : ℤ → ℤ → ℤ → Number
-number_within lo hi z = cond (within lo hi z) (Value z) (Bad Range)
+abbrev pub number_within : ℤ → ℤ → ℤ → Result ℤ NumberFault
+number_within lo hi z = cond (within lo hi z) (Ok z) (Err Range)
 
-unfoldable pub number_in : ℤ → ℤ → List ℕ → Number
-number_in lo hi s = let z = number_value s in cond (is_number s) (number_within lo hi z) (Bad Form)
+unfoldable pub number_in : ℤ → ℤ → List ℕ → Result ℤ NumberFault
+number_in lo hi s = let z = number_value s in cond (is_number s) (number_within lo hi z) (Err Form)
 
 -- what follows a key, as a number; without the key the line lacks its form
-unfoldable pub number_of : ℤ → ℤ → Option (List ℕ) → Number
-number_of lo hi none = Bad Form
+unfoldable pub number_of : ℤ → ℤ → Option (List ℕ) → Result ℤ NumberFault
+number_of lo hi none = Err Form
 number_of lo hi (some s) = number_in lo hi s
 
 -- a line that is a key and a number
-abbrev pub number_after : List ℕ → ℤ → ℤ → List ℕ → Number
+abbrev pub number_after : List ℕ → ℤ → ℤ → List ℕ → Result ℤ NumberFault
 number_after key lo hi l = number_of lo hi (after_key key l)
 
 -- ---- writing

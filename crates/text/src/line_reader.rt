@@ -1,37 +1,44 @@
-// The thin line reader: a text and a place of it, over functions on a slice and numbers.
+// The thin line reader: a text, and a place of it at which a line begins.
 ghost use Rattle.std.specs.Prelude.{◌≡◌, drop};
 ghost use Rattle.text.specs.Lines.{LF, len_to, next_line};
 
-use crate::LineReader;
-use crate::line::{behind_line, len_from};
+use crate::line::len_to;
 
-// The reader at a place of a text.
-fn reader_at<'a>(text: &'a [u8], at: usize) -> LineReader<'a>
-    ensures { (result.text ≡ text.entry) × (result.at ≡ at) }
-{
-    LineReader { text, at }
+#[derive(Clone, Copy)]
+struct LineReader<'a> {
+    text: &'a [u8],
+    at: usize,
 }
 
-// How many bytes its line has, without the LF; all that are left, where it is not ended.
-fn line_len<'a>(r: LineReader<'a>) -> usize
-    ensures { result ≡ len_to LF (drop r.entry.at r.entry.text.now) }
-{
-    len_from(r.text, r.at)
-}
+impl<'a> LineReader<'a> {
+    // How many bytes its line has, without the LF; all that are left, where it is not ended.
+    fn line_len(self) -> usize
+        ensures { result ≡ len_to LF (drop self.entry.at self.entry.text.now) }
+    {
+        match self.text.get(self.at..) {
+            Some(rest) => len_to(rest, b'\n'),
+            None => 0,
+        }
+    }
 
-// The reader after its line and the LF.
-fn past_line<'a>(r: LineReader<'a>) -> LineReader<'a>
-    ensures { (result.text ≡ r.entry.text) × (result.at ≡ next_line r.entry.text.now r.entry.at) }
-{
-    let len = line_len(r);
-    let at = behind_line(r.text, r.at, len);
-    LineReader { text: r.text, at }
+    // The reader after its line and the LF; past the text's end, where the LF would stand there.
+    fn past_line(self) -> LineReader<'a>
+        ensures { (result.text ≡ self.entry.text) × (result.at ≡ next_line self.entry.text.now self.entry.at) }
+    {
+        let at = match self.at.checked_add(self.line_len()) {
+            Some(end) if end <= self.text.len() => end + 1,
+            _ => self.text.len() + 1,
+        };
+        LineReader {
+            text: self.text,
+            at,
+        }
+    }
 }
 
 // Where the line ends that begins at a place, its LF included; past the text's end, where it is not ended.
 pub fn next_line(text: &[u8], at: usize) -> usize
     ensures { result ≡ next_line text.now at }
 {
-    let next = past_line(reader_at(text, at));
-    next.at
+    LineReader { text, at }.past_line().at
 }

@@ -1,114 +1,79 @@
 // Decimal numbers, read inside a range.
-ghost use Rattle.std.specs.Prelude.{◌≡◌, pos, neg_ℤ, drop};
+ghost use Rattle.std.specs.Prelude.{◌≡◌, pos, neg_ℤ};
 ghost use Rattle.text.specs.Numbers.{number_within, number_in, number_after};
 ghost use Rattle.text.specs.DigitsRead.{positive_read};
 
-use crate::line::has_key;
-use crate::{Digits, Number, NumberFault, TOO_LARGE};
+use crate::{NumberFault, TOO_LARGE};
 
-// The number of the digits of s from a place on, which have no leading zero.
-fn read_positive(s: &[u8], from: usize) -> Digits
-    ensures { result ≡ positive_read (drop from s.now) }
+// The number of the digits of s, which have no leading zero; `TOO_LARGE` for all numbers from there on.
+fn read_positive(s: &[u8]) -> Option<u64>
+    ensures { result ≡ positive_read s.now }
 {
-    if s.len() <= from {
-        return Digits::Bad;
+    if let [] | [b'0', ..] = s {
+        return None;
     }
-    if s[from] == b'0' {
-        return Digits::Bad;
-    }
-    let mut n: u64 = 0;
-    let mut i = from;
-    while i < s.len() {
-        let b = s[i];
-        if b < b'0' {
-            return Digits::Bad;
+    let mut n = 0u64;
+    for b in s {
+        if !b.is_ascii_digit() {
+            return None;
         }
-        if b'9' < b {
-            return Digits::Bad;
-        }
-        let d = b - b'0';
-        if n < TOO_LARGE / 10 {
-            n = n * 10 + d as u64;
+        n = if n < TOO_LARGE / 10 {
+            n * 10 + u64::from(*b - b'0')
         } else {
-            n = TOO_LARGE;
-        }
-        i += 1;
+            TOO_LARGE
+        };
     }
-    Digits::Value(n)
+    Some(n)
 }
 
 // A number against its range, both ends included.
-fn in_range(z: i64, lo: i64, hi: i64) -> Number
+fn in_range(z: i64, lo: i64, hi: i64) -> Result<i64, NumberFault>
     ensures { result ≡ number_within lo hi z }
 {
-    if z < lo {
-        return Number::Bad(NumberFault::Range);
+    if (lo..=hi).contains(&z) {
+        Ok(z)
+    } else {
+        Err(NumberFault::Range)
     }
-    if hi < z {
-        return Number::Bad(NumberFault::Range);
-    }
-    Number::Value(z)
 }
 
 // The number n against a range.
-fn positive_in(n: u64, lo: i64, hi: i64) -> Number
+fn positive_in(n: u64, lo: i64, hi: i64) -> Result<i64, NumberFault>
     ensures { result ≡ number_within lo hi (pos n) }
 {
-    if n <= 9223372036854775807 {
-        in_range(n as i64, lo, hi)
-    } else {
-        Number::Bad(NumberFault::Range)
-    }
+    let z = i64::try_from(n).map_err(|_| NumberFault::Range)?;
+    in_range(z, lo, hi)
 }
 
 // The number -n against a range.
-fn negative_in(n: u64, lo: i64, hi: i64) -> Number
+fn negative_in(n: u64, lo: i64, hi: i64) -> Result<i64, NumberFault>
     ensures { result ≡ number_within lo hi (neg_ℤ (pos n)) }
 {
-    if n <= 9223372036854775807 {
-        let z = n as i64;
-        in_range(0 - z, lo, hi)
-    } else {
-        if n == 9223372036854775808 {
-            in_range(-9223372036854775808, lo, hi)
-        } else {
-            Number::Bad(NumberFault::Range)
-        }
-    }
+    let z = 0i64.checked_sub_unsigned(n).ok_or(NumberFault::Range)?;
+    in_range(z, lo, hi)
 }
 
 // The number that s is the text of: its value, or that it lacks the form, or that it is out of range.
-pub fn read_number(s: &[u8], lo: i64, hi: i64) -> Number
+pub fn read_number(s: &[u8], lo: i64, hi: i64) -> Result<i64, NumberFault>
     ensures { result ≡ number_in lo hi s.now }
 {
-    if s.len() == 0 {
-        return Number::Bad(NumberFault::Form);
+    if s == b"0".as_slice() {
+        return in_range(0, lo, hi);
     }
-    if s[0] == b'-' {
-        let Digits::Value(n) = read_positive(s, 1) else {
-            return Number::Bad(NumberFault::Form);
-        };
+    if let Some(digits) = s.strip_prefix(b"-") {
+        let n = read_positive(digits).ok_or(NumberFault::Form)?;
         return negative_in(n, lo, hi);
     }
-    if s[0] == b'0' {
-        if s.len() == 1 {
-            return in_range(0, lo, hi);
-        }
-        return Number::Bad(NumberFault::Form);
-    }
-    let Digits::Value(n) = read_positive(s, 0) else {
-        return Number::Bad(NumberFault::Form);
-    };
+    let n = read_positive(s).ok_or(NumberFault::Form)?;
     positive_in(n, lo, hi)
 }
 
 // The number after a key, where s is a line without its LF.
-pub fn number_after(s: &[u8], key: &[u8], lo: i64, hi: i64) -> Number
+pub fn number_after(s: &[u8], key: &[u8], lo: i64, hi: i64) -> Result<i64, NumberFault>
     ensures { result ≡ number_after key.now lo hi s.now }
 {
-    if !has_key(s, key) {
-        return Number::Bad(NumberFault::Form);
+    match s.strip_prefix(key) {
+        Some(number) => read_number(number, lo, hi),
+        None => Err(NumberFault::Form),
     }
-    let from = key.len();
-    read_number(&s[from..], lo, hi)
 }

@@ -1,11 +1,11 @@
 // Writers into a lent slice: each stores its text from a place on, as far as there is room, and answers the place after it. A place in a text that is being
 // written is far below 2^62, so that none wraps.
-ghost use Rattle.std.specs.Prelude.{◌≡◌, [], ◌∷◌, ◌^◌, ◌≤◌, length, set};
-ghost use Rattle.text.specs.Numbers.{digits, decimal};
+// Stays: (d) a slice and a place in it one by one: a struct that holds the slice asks of each writer a clause more, that it keeps the reference.
+ghost use Rattle.std.specs.Prelude.{◌≡◌, [], ◌∷◌, ◌^◌, ◌≤◌, set};
 ghost use Rattle.text.specs.Lent.{Stored};
 
 // The byte b at a place, if there is room.
-fn store(out: &mut [u8], at: usize, b: u8)
+pub(crate) fn store(out: &mut [u8], at: usize, b: u8)
     ensures { out.new ≡ set out.old at b }
 {
     if at < out.len() {
@@ -14,8 +14,9 @@ fn store(out: &mut [u8], at: usize, b: u8)
 }
 
 // One byte.
+#[tactic(auto, unfolding(crate::specs::Lent::put))]
 pub fn put_byte(out: &mut [u8], at: usize, b: u8) -> usize
-    requires { at ≤ 2 ^ 62 }
+    requires { at ≤ 2 ^ 63 }
     ensures { Stored out.old at (b ∷ []) out.new result }
 {
     store(out, at, b);
@@ -27,57 +28,8 @@ pub fn put_bytes(out: &mut [u8], at: usize, s: &[u8]) -> usize
     requires { at ≤ 2 ^ 62 }
     ensures { Stored out.old at s.now out.new result }
 {
-    let mut i = 0;
-    while i < s.len() {
-        let b = s[i];
-        let to = at + i;
-        store(out, to, b);
-        i += 1;
+    for (i, b) in s.iter().enumerate() {
+        store(out, at + i, *b);
     }
-    at + i
-}
-
-// How many digits n has.
-fn count_digits(n: u64) -> usize
-    ensures { result ≡ length (digits n) }
-{
-    let mut left = n;
-    let mut count = 1;
-    while 10 <= left {
-        left = left / 10;
-        count += 1;
-    }
-    count
-}
-
-// The digits of n.
-pub fn put_count(out: &mut [u8], at: usize, n: u64) -> usize
-    requires { at ≤ 2 ^ 63 }
-    ensures { Stored out.old at (digits n) out.new result }
-{
-    let behind = at + count_digits(n);
-    let mut left = n;
-    let mut last = behind - 1;
-    while 10 <= left {
-        let d = left % 10;
-        store(out, last, b'0' + d as u8);
-        left = left / 10;
-        last -= 1;
-    }
-    store(out, last, b'0' + left as u8);
-    behind
-}
-
-// The number z.
-pub fn put_number(out: &mut [u8], at: usize, z: i64) -> usize
-    requires { at ≤ 2 ^ 62 }
-    ensures { Stored out.old at (decimal z) out.new result }
-{
-    if z < 0 {
-        let from = put_byte(out, at, b'-');
-        let n = -1 - z;
-        put_count(out, from, n as u64 + 1)
-    } else {
-        put_count(out, at, z as u64)
-    }
+    at + s.len()
 }

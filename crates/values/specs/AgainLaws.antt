@@ -1,10 +1,9 @@
 -- A plan as a value that is accepted, written out and read again, is the same plan, but for the places beyond its jobs and bounds, which hold zeros then
 -- (`accepted-again`). Of a plan that came from a text, whose places hold zeros already, `plan_alone-again` of the crate `plan` says it.
-use Rattle.std.specs.Prelude.{◌≡◌, refl, List, [], ℕ, ◌+◌, ◌*◌}
+use Rattle.std.specs.Prelude.{◌≡◌, Result, refl, List, [], ℕ, ◌+◌, ◌*◌}
 use Rattle.std.proofs.Common.{◌∙◌, ap}
 use Rattle.whole.specs.Clash.{clash}
 use Rattle.plan.specs.declared.Plan.{Plan}
-use Rattle.lines.specs.declared.TextAnswer.{TextAnswer}
 use Rattle.lines.specs.declared.Refusal.{Refusal}
 use Rattle.lines.specs.Reading.{Reading, read, refused}
 use Rattle.plan.specs.PlanLines.{plan_lines, nothing_after, plan_alone}
@@ -34,7 +33,7 @@ accepted-again p a =
     ap nothing_after
     (plan_head-short (plan_text p) (plan_text-short p f)
     ∙ without_text-read (plan_lines (plan_text p) 1) (plan_lines-judged p f.placed bare_refusal without_text (λ r s. refl) ∙ ap
-    (λ (x : TextAnswer). onward bare_refusal x (read (trimmed p) [] n)) (accepted-by_lines p a)))
+    (λ (x : Result Unit Refusal). onward bare_refusal x (read (trimmed p) [] n)) (accepted-by_lines p a)))
   where
     n : ℕ
     n = 6 + 4 * p.jobs + p.bounds

@@ -1,7 +1,7 @@
 -- A plan as a value is judged good exactly where it is accepted: `judged_plan-accepted` (of the answer `judged_answer-accepted`) and `accepted-judged`, by way
 -- of the judgement line by line (`judged_by_lines-accepted`, `accepted-by_lines`). That this is the judgement of the text stands in `JudgedLines`, and the
 -- text's length in `JudgedLength`.
-use Rattle.std.specs.Prelude.{◌≡◌, Bool, not, ◌&&◌, ℕ, suc, ◌+◌, ◌*◌, ◌≤◌, ◌<◌, ℤ, pos, negsuc, length, take, get_or, ◌≤ℤ◌}
+use Rattle.std.specs.Prelude.{◌≡◌, Result, Ok, Err, Bool, not, ◌&&◌, ℕ, suc, ◌+◌, ◌*◌, ◌≤◌, ◌<◌, ℤ, pos, negsuc, length, take, get_or, ◌≤ℤ◌}
 use Rattle.std.proofs.Math.Path.{refl}
 use Rattle.std.proofs.Common.{sym, ◌∙◌, ap, arith, length-take, get_or-take, take-take, SFits}
 use Rattle.std.proofs.Math.Bool.{true, false, cond}
@@ -15,10 +15,7 @@ use Rattle.whole.specs.Rules.{whole}
 use Rattle.lines.specs.declared.Fault.TheVariants as fault
 use Rattle.plan.specs.declared.Job.{Job}
 use Rattle.plan.specs.declared.Bound.{Bound}
-use Rattle.plan.specs.declared.BoundLine.TheVariants as bound_line
 use Rattle.plan.specs.declared.Plan.{Plan}
-use Rattle.lines.specs.declared.TextAnswer.{TextAnswer}
-use Rattle.lines.specs.declared.TextAnswer.TheVariants as answer
 use Rattle.lines.specs.declared.Refusal.{Refusal}
 use Rattle.lines.specs.declared.Refusal.TheVariants.{Form}
 use Rattle.lines.specs.Reading.{longest_text, Reading, read, refused}
@@ -45,11 +42,11 @@ use Rattle.values.specs.JudgedLength.{JobFits, BoundFits, PlanFits, plan_text-sh
 
 -- ---- judged good, so accepted
 
-and_then-both : (x y : TextAnswer) → and_then x y ≡ answer.Accepted → (x ≡ answer.Accepted) × (y ≡ answer.Accepted)
-and_then-both answer.Accepted y e = (refl, e)
-and_then-both (answer.Refused r) y e = clash (cc)
+and_then-both : (x y : Result Unit Refusal) → and_then x y ≡ Ok tt → (x ≡ Ok tt) × (y ≡ Ok tt)
+and_then-both (Ok u) y e = (refl, e)
+and_then-both (Err r) y e = clash (cc)
 
-job_judged-accepted : (n : ℕ) (j : Job) → job_judged n j ≡ answer.Accepted → JobAccepted j
+job_judged-accepted : (n : ℕ) (j : Job) → job_judged n j ≡ Ok tt → JobAccepted j
 unfolding job_judged
 job_judged-accepted n j e =
     let q1 = and_then-both (number_judged (pos 0) longest_running j.min n) _ e in
@@ -61,7 +58,7 @@ job_judged-accepted n j e =
     let r4 = number_judged-range (pos 0) latest_deadline j.deadline (n + 3) q3.1 in
     record { min-least = r1.0; min-most = r2.0; max-most = r2.1; release-least = r3.0; release-most = r3.1; deadline-least = r4.0; deadline-most = r4.1 }
 
-jobs_judged-accepted : (n : ℕ) (js : List Job) → jobs_judged n js ≡ answer.Accepted → All JobAccepted js
+jobs_judged-accepted : (n : ℕ) (js : List Job) → jobs_judged n js ≡ Ok tt → All JobAccepted js
 unfolding jobs_judged
 jobs_judged-accepted n [] e = tt
 jobs_judged-accepted n (j ∷ js) e =
@@ -69,7 +66,7 @@ jobs_judged-accepted n (j ∷ js) e =
     (job_judged-accepted n j q.0, jobs_judged-accepted (n + 4) js q.1)
 
 module _ (jobs : ℕ) (given : List Bound) (n : ℕ) (d : Bound) where
-  pub bound_judged-accepted : bound_judged jobs (λ a b. is_wrong_pair a b given) n d ≡ answer.Accepted
+  pub bound_judged-accepted : bound_judged jobs (λ a b. is_wrong_pair a b given) n d ≡ Ok tt
       → BoundAccepted jobs d × (is_wrong_pair d.a d.b given ≡ false)
   unfolding bound_judged
   bound_judged-accepted e =
@@ -78,8 +75,8 @@ module _ (jobs : ℕ) (given : List Bound) (n : ℕ) (d : Bound) where
     where
       by_tests : (x p q l m w : Bool) → is_job jobs d.a.job ≡ p → is_job jobs d.b.job ≡ q → le_z least_c d.c ≡ l → le_z d.c greatest_c ≡ m
           → is_wrong_pair d.a d.b given ≡ w
-          → cond x (line_judged n (cond (not (p && q && (l && m))) (bound_line.Bad fault.Range) (cond w (bound_line.Bad fault.Pair) (bound_line.Value d))))
-          (answer.Refused (Form n)) ≡ answer.Accepted
+          → cond x (line_judged n (cond (not (p && q && (l && m))) (Err fault.Range) (cond w (Err fault.Pair) (Ok d))))
+          (Err (Form n)) ≡ Ok tt
           → BoundAccepted jobs d × (is_wrong_pair d.a d.b given ≡ false)
       by_tests true true true true true false hp hq hl hm hw e =
           let ra = is_job-range jobs d.a.job hp in
@@ -92,7 +89,7 @@ module _ (jobs : ℕ) (given : List Bound) (n : ℕ) (d : Bound) where
       by_tests true false q l m w hp hq hl hm hw e = clash (cc)
       by_tests false p q l m w hp hq hl hm hw e = clash (cc)
 
-bounds_judged-accepted : (jobs : ℕ) (given : List Bound) (n : ℕ) (ds : List Bound) → bounds_judged jobs given n ds ≡ answer.Accepted → AllBounds jobs given ds
+bounds_judged-accepted : (jobs : ℕ) (given : List Bound) (n : ℕ) (ds : List Bound) → bounds_judged jobs given n ds ≡ Ok tt → AllBounds jobs given ds
 unfolding bounds_judged
 bounds_judged-accepted jobs given n [] e = tt
 bounds_judged-accepted jobs given n (d ∷ ds) e =
@@ -100,7 +97,7 @@ bounds_judged-accepted jobs given n (d ∷ ds) e =
     let r = bound_judged-accepted jobs given n d q.0 in
     (r.0, r.1, bounds_judged-accepted jobs (given ++ (d ∷ [])) (n + 1) ds q.1)
 
-judged_by_lines-accepted : (p : Plan) → HasPlaces p → judged_by_lines p ≡ answer.Accepted → Accepted p
+judged_by_lines-accepted : (p : Plan) → HasPlaces p → judged_by_lines p ≡ Ok tt → Accepted p
 unfolding judged_by_lines
 judged_by_lines-accepted p l e =
     let q1 = and_then-both (number_judged (pos 1) longest_window p.window 1) _ e in
@@ -140,11 +137,11 @@ judged_by_lines-accepted p l e =
     }
 
 -- the answer has the refusal, or there is none
-pub judged_answer-none : (o : Option Refusal) → judged_answer o ≡ answer.Accepted → o ≡ none
+pub judged_answer-none : (o : Option Refusal) → judged_answer o ≡ Ok tt → o ≡ none
 judged_answer-none none e = refl
 judged_answer-none (some r) e = clash (cc)
 
-pub judged_answer-some : (o : Option Refusal) (x : Refusal) → judged_answer o ≡ answer.Refused x → o ≡ some x
+pub judged_answer-some : (o : Option Refusal) (x : Refusal) → judged_answer o ≡ Err x → o ≡ some x
 judged_answer-some none x e = clash (cc)
 judged_answer-some (some r) x e = let same : r ≡ x = cc in ap some same
 
@@ -158,12 +155,12 @@ judged_plan-accepted p l e = judged_by_lines-accepted p l (sym (judged_plan-is p
     by-reading (refused r t) d e = clash (cc)
 
 -- the same of the answer a to a plan
-pub judged_answer-accepted : (p : Plan) → HasPlaces p → (a : TextAnswer) → a ≡ judged_answer (judged_plan p) → a ≡ answer.Accepted → Accepted p
+pub judged_answer-accepted : (p : Plan) → HasPlaces p → (a : Result Unit Refusal) → a ≡ judged_answer (judged_plan p) → a ≡ Ok tt → Accepted p
 judged_answer-accepted p l a e d = judged_plan-accepted p l (judged_answer-none (judged_plan p) (sym e ∙ d))
 
 -- ---- accepted, so judged good
 
-accepted-job_judged : (n : ℕ) (j : Job) → JobAccepted j → job_judged n j ≡ answer.Accepted
+accepted-job_judged : (n : ℕ) (j : Job) → JobAccepted j → job_judged n j ≡ Ok tt
 unfolding job_judged
 accepted-job_judged n j a =
     rw (
@@ -173,14 +170,14 @@ accepted-job_judged n j a =
     )
     (number_judged-inside (pos 0) latest_deadline j.deadline (n + 3) a.deadline-least a.deadline-most)
 
-accepted-jobs_judged : (n : ℕ) (js : List Job) → All JobAccepted js → jobs_judged n js ≡ answer.Accepted
+accepted-jobs_judged : (n : ℕ) (js : List Job) → All JobAccepted js → jobs_judged n js ≡ Ok tt
 unfolding jobs_judged
 accepted-jobs_judged n [] a = refl
 accepted-jobs_judged n (j ∷ js) a = rw (accepted-job_judged n j a.0) (accepted-jobs_judged (n + 4) js a.1)
 
 module _ (jobs : ℕ) (few : jobs ≤ most_jobs) where
   accepted-bound_judged : (given : List Bound) (n : ℕ) (d : Bound) → BoundAccepted jobs d → is_wrong_pair d.a d.b given ≡ false
-      → bound_judged jobs (λ a b. is_wrong_pair a b given) n d ≡ answer.Accepted
+      → bound_judged jobs (λ a b. is_wrong_pair a b given) n d ≡ Ok tt
   unfolding bound_judged
   accepted-bound_judged given n d a w =
       let cl : le_z least_c d.c ≡ true = omega (whole, a.c-least) in
@@ -197,7 +194,7 @@ module _ (jobs : ℕ) (few : jobs ≤ most_jobs) where
         w,
       )
 
-  accepted-bounds_judged : (given : List Bound) (n : ℕ) (ds : List Bound) → AllBounds jobs given ds → bounds_judged jobs given n ds ≡ answer.Accepted
+  accepted-bounds_judged : (given : List Bound) (n : ℕ) (ds : List Bound) → AllBounds jobs given ds → bounds_judged jobs given n ds ≡ Ok tt
   unfolding bounds_judged
   accepted-bounds_judged given n [] a = refl
   accepted-bounds_judged given n (d ∷ ds) a = rw (accepted-bound_judged given n d a.0 a.1) (accepted-bounds_judged (given ++ (d ∷ [])) (n + 1) ds a.2)
@@ -225,7 +222,7 @@ module _ (p : Plan) (a : Accepted p) where
             (get_or-take p.bounds p.bound i no_bound l, take-take i p.bounds p.bound (omega arith)) (a.pair-at i l),
       ))
 
-  pub accepted-by_lines : judged_by_lines p ≡ answer.Accepted
+  pub accepted-by_lines : judged_by_lines p ≡ Ok tt
   unfolding judged_by_lines
   accepted-by_lines =
       rw (

@@ -2,7 +2,7 @@
 -- groups: `job_lines-judged`, `jobs_after-judged`, `bounds_after-judged`. A law is stated of what is made of a reading that ends with its refusal (`Ending`), so
 -- that it serves at any place of the plan. What is made of it may be the answer (`judged_plan-is`) or the plan that was read (`accepted-again` in
 -- `AgainLaws`): `plan_lines-judged` says both.
-use Rattle.std.specs.Prelude.{◌≡◌, Bool, not, ◌&&◌, ℤ, pos, length, ◌≤ℤ◌}
+use Rattle.std.specs.Prelude.{◌≡◌, Result, Ok, Err, Bool, not, ◌&&◌, ℤ, pos, length, ◌≤ℤ◌}
 use Rattle.std.proofs.Math.Path.{refl, ap}
 use Rattle.std.proofs.Common.{sym, ◌∙◌, arith, ltb-true, ltb-false, length-take}
 use Rattle.std.proofs.Math.Bool.{true, false, cond}
@@ -20,8 +20,8 @@ use Rattle.text.specs.LineLaws.{len_to-other, free-append, before_back, has-back
 use Rattle.text.specs.NumberLaws.{decimal-form, decimal-back, decimal-free, number_in-decimal, number_after-back, keyed-free}
 use Rattle.text.specs.Numbers.{is_digit, digits, decimal, within}
 use Rattle.text.specs.declared.NumberFault.TheVariants as number_fault
+use Rattle.lines.specs.declared.Fault.{Fault}
 use Rattle.lines.specs.declared.Fault.TheVariants as fault
-use Rattle.text.specs.declared.Number.TheVariants as number
 use Rattle.plan.specs.declared.Job.{Job}
 use Rattle.plan.specs.declared.Letter.{Letter}
 use Rattle.plan.specs.declared.Letter.TheVariants.{This, Next}
@@ -29,13 +29,10 @@ use Rattle.plan.specs.declared.Kind.{Kind}
 use Rattle.plan.specs.declared.Kind.TheVariants.{Start, Finish}
 use Rattle.plan.specs.declared.EventName.{EventName}
 use Rattle.plan.specs.declared.Bound.{Bound}
-use Rattle.plan.specs.declared.BoundLine.TheVariants as bound_line
 use Rattle.plan.specs.declared.Plan.{Plan}
-use Rattle.lines.specs.declared.TextAnswer.{TextAnswer}
-use Rattle.lines.specs.declared.TextAnswer.TheVariants.{Accepted, Refused}
 use Rattle.lines.specs.declared.Refusal.{Refusal}
 use Rattle.lines.specs.declared.Refusal.TheVariants.{Form, Range, Pair}
-use Rattle.lines.specs.Reading.{longest_text, Lined, Reading, read, refused, Reader, next, ◌>>=◌, answer, lined, line, lined_number, number_line, count_line}
+use Rattle.lines.specs.Reading.{longest_text, Reading, read, refused, Reader, next, ◌>>=◌, answer, lined, line, lined_number, number_line, count_line}
 use Rattle.plan.specs.Limits.{longest_window, most_rounds, most_windows, most_jobs, longest_running, latest_deadline, most_bounds, least_c, greatest_c, longest_key}
 use Rattle.plan.specs.EventNames.{letter_byte, kind_byte, name_bytes, event_name}
 use Rattle.plan.specs.EventNameLaws.{event_name-back, event_name-long}
@@ -48,7 +45,6 @@ use Rattle.plan.specs.PlanLines.{
   is_wrong_pair,
   judged_bound,
   bound_of,
-  lined_bound,
   bound_of_line,
   bounds_after,
   plan_of,
@@ -76,49 +72,49 @@ use Rattle.values.specs.PlanJudged.{
 -- ---- one answer after another
 
 -- what comes of an answer: where it accepts, what follows it, and of a refusal what `stop` makes of it
-abbrev pub onward : {C : Type 0} → (Refusal → C) → TextAnswer → C → C
-onward stop Accepted c = c
-onward stop (Refused r) c = stop r
+abbrev pub onward : {C : Type 0} → (Refusal → C) → Result Unit Refusal → C → C
+onward stop (Ok u) c = c
+onward stop (Err r) c = stop r
 
 -- an answer x and then an answer v: what follows x matters only where x accepts
-onward-more : {C : Type 0} (stop : Refusal → C) (x v : TextAnswer) (c : C) {w : C} → (x ≡ Accepted → w ≡ onward stop v c)
+onward-more : {C : Type 0} (stop : Refusal → C) (x v : Result Unit Refusal) (c : C) {w : C} → (x ≡ Ok tt → w ≡ onward stop v c)
     → onward stop x w ≡ onward stop (and_then x v) c
-onward-more stop Accepted v c f = f refl
-onward-more stop (Refused r) v c f = refl
+onward-more stop (Ok u) v c f = f refl
+onward-more stop (Err r) v c f = refl
 
-onward-accepted : (x : TextAnswer) → onward Refused x Accepted ≡ x
-onward-accepted Accepted = refl
-onward-accepted (Refused r) = refl
+onward-accepted : (x : Result Unit Refusal) → onward Err x (Ok tt) ≡ x
+onward-accepted (Ok u) = refl
+onward-accepted (Err r) = refl
 
 -- an answer a to what comes first: a refusal is the answer to all, and where it accepts, what follows is
-pub and_then-stop : (x y a : TextAnswer) {r : Refusal} → a ≡ x → a ≡ Refused r → a ≡ and_then x y
-and_then-stop Accepted y a e d = clash (cc)
-and_then-stop (Refused r) y a e d = e
+pub and_then-stop : (x y a : Result Unit Refusal) {r : Refusal} → a ≡ x → a ≡ Err r → a ≡ and_then x y
+and_then-stop (Ok u) y a e d = clash (cc)
+and_then-stop (Err r) y a e d = e
 
-pub and_then-pass : (x y a : TextAnswer) → a ≡ x → a ≡ Accepted → y ≡ and_then x y
-and_then-pass Accepted y a e d = refl
-and_then-pass (Refused r) y a e d = clash (cc)
+pub and_then-pass : (x y a : Result Unit Refusal) → a ≡ x → a ≡ Ok tt → y ≡ and_then x y
+and_then-pass (Ok u) y a e d = refl
+and_then-pass (Err r) y a e d = clash (cc)
 
 -- ---- a number in its range, or not
 
-pub number_judged-range : (lo hi z : ℤ) (n : ℕ) → number_judged lo hi z n ≡ Accepted → (lo ≤ℤ z) × (z ≤ℤ hi)
+pub number_judged-range : (lo hi z : ℤ) (n : ℕ) → number_judged lo hi z n ≡ Ok tt → (lo ≤ℤ z) × (z ≤ℤ hi)
 number_judged-range lo hi z n e = by_tests (le_z lo z) (le_z z hi) refl refl e
   where
-    by_tests : (a b : Bool) → le_z lo z ≡ a → le_z z hi ≡ b → cond (a && b) Accepted (Refused (Range n)) ≡ Accepted → (lo ≤ℤ z) × (z ≤ℤ hi)
+    by_tests : (a b : Bool) → le_z lo z ≡ a → le_z z hi ≡ b → cond (a && b) (Ok (tt {0})) (Err (Range n)) ≡ Ok tt → (lo ≤ℤ z) × (z ≤ℤ hi)
     by_tests true true p q e = (omega whole, omega whole)
     by_tests true false p q e = clash (cc)
     by_tests false b p q e = clash (cc)
 
-pub number_judged-below : (lo hi z : ℤ) (n : ℕ) → lt_z z lo ≡ true → number_judged lo hi z n ≡ Refused (Range n)
+pub number_judged-below : (lo hi z : ℤ) (n : ℕ) → lt_z z lo ≡ true → number_judged lo hi z n ≡ Err (Range n)
 number_judged-below lo hi z n h = let e : le_z lo z ≡ false = omega whole in rw e
 
-pub number_judged-above : (lo hi z : ℤ) (n : ℕ) → lt_z z lo ≡ false → lt_z hi z ≡ true → number_judged lo hi z n ≡ Refused (Range n)
+pub number_judged-above : (lo hi z : ℤ) (n : ℕ) → lt_z z lo ≡ false → lt_z hi z ≡ true → number_judged lo hi z n ≡ Err (Range n)
 number_judged-above lo hi z n h g =
     let e : le_z lo z ≡ true = omega whole in
     let d : le_z z hi ≡ false = omega whole in
     rw (e, d)
 
-pub number_judged-inside : (lo hi z : ℤ) (n : ℕ) → lo ≤ℤ z → z ≤ℤ hi → number_judged lo hi z n ≡ Accepted
+pub number_judged-inside : (lo hi z : ℤ) (n : ℕ) → lo ≤ℤ z → z ≤ℤ hi → number_judged lo hi z n ≡ Ok tt
 number_judged-inside lo hi z n h g =
     let e : le_z lo z ≡ true = omega whole in
     let d : le_z z hi ≡ true = omega whole in
@@ -166,7 +162,7 @@ keys =
     }
 
 -- a line as it is written, with the text that follows it
-line-back : {A : Type 0} (f : List ℕ → Lined A) (l s : List ℕ) (n : ℕ) → len_to LF l ≡ length l → line f (l ++ (LF ∷ s)) n ≡ lined (f l) (l ++ (LF ∷ s)) n
+line-back : {A : Type 0} (f : List ℕ → Result A Fault) (l s : List ℕ) (n : ℕ) → len_to LF l ≡ length l → line f (l ++ (LF ∷ s)) n ≡ lined (f l) (l ++ (LF ∷ s)) n
 unfolding line
 line-back f l s n e = rw (has-back LF l s e, before_back LF l s e)
 
@@ -180,7 +176,7 @@ module _ (key : List ℕ) (bare : len_to LF key ≡ length key) (lo hi z : ℤ) 
       ∙ rw (number_after-back key lo hi (decimal z), number_in-decimal lo hi z)
       (by-range (within lo hi z)))
     where
-      by-range : (b : Bool) → lined (lined_number (cond b (number.Value z) (number.Bad number_fault.Range))) ((key ++ decimal z) ++ (LF ∷ s)) n
+      by-range : (b : Bool) → lined (lined_number (cond b (Ok z) (Err number_fault.Range))) ((key ++ decimal z) ++ (LF ∷ s)) n
           ≡ cond b (read z s (suc n)) (refused (Range n) ((key ++ decimal z) ++ (LF ∷ s)))
       by-range true = ap (λ (t : List ℕ). read z t (suc n)) (after-back LF (key ++ decimal z) s (keyed-free key z bare))
       by-range false = refl
@@ -191,7 +187,7 @@ module _ (key : List ℕ) (bare : len_to LF key ≡ length key) (lo hi z : ℤ) 
   number_line-judged {B} {C} stop k ends f = ap (λ m. k (next m f)) number_line-back ∙ by-range (within lo hi z)
     where
       by-range : (b : Bool)
-          → k (next (cond b (read z s (suc n)) (refused (Range n) (keyed key z s))) f) ≡ onward stop (cond b Accepted (Refused (Range n))) (k (f z s (suc n)))
+          → k (next (cond b (read z s (suc n)) (refused (Range n) (keyed key z s))) f) ≡ onward stop (cond b (Ok tt) (Err (Range n))) (k (f z s (suc n)))
       by-range true = refl
       by-range false = ends (Range n) (keyed key z s)
 
@@ -270,7 +266,7 @@ bound_parts-back a b s =
 module _ (jobs : ℕ) (given : List Bound) (d : Bound) where
   -- a bound's line has its form where both names have one job digit
   bound_of_line-back : bound_of_line jobs given (bound_bytes d []) ≡ cond (is_one_digit d.a.job && is_one_digit d.b.job)
-      (judged_bound jobs (λ a b. is_wrong_pair a b given) d) (bound_line.Bad fault.Form)
+      (judged_bound jobs (λ a b. is_wrong_pair a b given) d) (Err fault.Form)
   unfolding bound_of
   bound_of_line-back =
       rw (
@@ -283,7 +279,7 @@ module _ (jobs : ℕ) (given : List Bound) (d : Bound) where
     where
       by_digits : (x y : Bool) → ltb d.a.job 10 ≡ x → ltb d.b.job 10 ≡ y
           → bound_of jobs (λ a b. is_wrong_pair a b given) (parts_of (event_name (name_bytes d.a)) (event_name (name_bytes d.b)) (decimal d.c))
-          ≡ cond (x && y) (judged_bound jobs (λ a b. is_wrong_pair a b given) d) (bound_line.Bad fault.Form)
+          ≡ cond (x && y) (judged_bound jobs (λ a b. is_wrong_pair a b given) d) (Err fault.Form)
       by_digits true true p q = rw (
         event_name-back d.a (ltb-true d.a.job 10 p),
         event_name-back d.b (ltb-true d.b.job 10 q),
@@ -303,23 +299,23 @@ module _ (jobs : ℕ) (given : List Bound) (d : Bound) where
       (ap suc (free-append LF (decimal d.c) [] (decimal-free LF refl (omega arith) d.c) refl)))))
 
   bound_line-judged : (s : List ℕ) (n : ℕ) {B C : Type 0} (stop : Refusal → C) (k : Reading B → C) → Ending stop k → (f : Bound → Reader B)
-      → k (next (line (λ l. lined_bound (bound_of_line jobs given l)) (bound_bytes d (LF ∷ s)) n) f) ≡ onward stop
+      → k (next (line (bound_of_line jobs given) (bound_bytes d (LF ∷ s)) n) f) ≡ onward stop
       (bound_judged jobs (λ a b. is_wrong_pair a b given) n d) (k (f d s (suc n)))
-  unfolding next lined lined_bound bound_judged
+  unfolding next lined bound_judged
   bound_line-judged s n {B} {C} stop k ends f =
-      ap (λ t. k (next (line (λ l. lined_bound (bound_of_line jobs given l)) t n) f)) (sym (bound_bytes-append d [] (LF ∷ s)))
-      ∙ ap (λ m. k (next m f)) (line-back (λ l. lined_bound (bound_of_line jobs given l)) (bound_bytes d []) s n bound_bytes-free)
-      ∙ ap (λ x. k (next (lined (lined_bound x) t n) f)) bound_of_line-back
+      ap (λ t. k (next (line (bound_of_line jobs given) t n) f)) (sym (bound_bytes-append d [] (LF ∷ s)))
+      ∙ ap (λ m. k (next m f)) (line-back (bound_of_line jobs given) (bound_bytes d []) s n bound_bytes-free)
+      ∙ ap (λ x. k (next (lined x t n) f)) bound_of_line-back
       ∙ by_tests (is_one_digit d.a.job && is_one_digit d.b.job)
       (not (is_job jobs d.a.job && is_job jobs d.b.job && within least_c greatest_c d.c)) (is_wrong_pair d.a d.b given)
     where
       t : List ℕ
       t = bound_bytes d [] ++ (LF ∷ s)
 
-      by_tests : (x y z : Bool) → k (next (lined (lined_bound
-          (cond x (cond y (bound_line.Bad fault.Range) (cond z (bound_line.Bad fault.Pair) (bound_line.Value d))) (bound_line.Bad fault.Form))) t n) f)
-          ≡ onward stop (cond x (line_judged n (cond y (bound_line.Bad fault.Range) (cond z (bound_line.Bad fault.Pair) (bound_line.Value d))))
-          (Refused (Form n))) (k (f d s (suc n)))
+      by_tests : (x y z : Bool) → k (next (lined
+          (cond x (cond y (Err fault.Range) (cond z (Err fault.Pair) (Ok d))) (Err fault.Form)) t n) f)
+          ≡ onward stop (cond x (line_judged n (cond y (Err fault.Range) (cond z (Err fault.Pair) (Ok d))))
+          (Err (Form n))) (k (f d s (suc n)))
       by_tests false y z = ends (Form n) t
       by_tests true true z = ends (Range n) t
       by_tests true false true = ends (Pair n) t
@@ -419,19 +415,19 @@ plan_lines-judged {C} p q stop k ends =
     ∙ ap (λ (jobs : ℕ). onward stop (lines jobs) (k (read (plan_of p.window p.rounds p.last jobs (jobs_of p) p.bounds (bounds_of p)) []
     (6 + 4 * jobs + p.bounds)))) (sym count)))))
   where
-    lines : ℕ → TextAnswer
+    lines : ℕ → Result Unit Refusal
     lines jobs = and_then (jobs_judged 5 (jobs_of p)) (and_then (number_judged (pos 0) (pos most_bounds) (pos p.bounds) (5 + 4 * jobs))
         (bounds_judged jobs [] (6 + 4 * jobs) (bounds_of p)))
 
 -- what is made of a plan that is read alone
-abbrev alone : Reading Plan → TextAnswer
+abbrev alone : Reading Plan → Result Unit Refusal
 alone m = judged_answer (refusal_of (nothing_after m))
 
-alone-ends : Ending Refused alone
+alone-ends : Ending Err alone
 unfolding nothing_after refusal_of
 alone-ends r s = refl
 
-alone-read : (p : Plan) (n : ℕ) → alone (read p [] n) ≡ Accepted
+alone-read : (p : Plan) (n : ℕ) → alone (read p [] n) ≡ Ok tt
 unfolding nothing_after refusal_of
 alone-read p n = refl
 
@@ -439,6 +435,6 @@ alone-read p n = refl
 pub judged_plan-is : (p : Plan) → HasPlaces p → length (plan_text p) ≤ longest_text → judged_answer (judged_plan p) ≡ judged_by_lines p
 judged_plan-is p q short =
     ap alone (plan_head-short (plan_text p) short)
-    ∙ plan_lines-judged p q Refused alone alone-ends
-    ∙ ap (onward Refused (judged_by_lines p)) (alone-read (trimmed p) (6 + 4 * p.jobs + p.bounds))
+    ∙ plan_lines-judged p q Err alone alone-ends
+    ∙ ap (onward Err (judged_by_lines p)) (alone-read (trimmed p) (6 + 4 * p.jobs + p.bounds))
     ∙ onward-accepted (judged_by_lines p)

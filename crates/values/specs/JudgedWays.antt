@@ -1,16 +1,15 @@
 -- The laws by which the judging of a value is right: the answer to a line refuses, and is the answer to all (`lines-stop`), or accepts, and the lines that are
--- left decide (`lines-pass`). The lines of a job (`job_judged-lines`), the loop over the jobs (`JobsHeld`), a bound (`bound_judged-bare`, `-formed`), the loop
--- over the bounds (`BoundsHeld`), and the lines of a plan (`judged_by_lines-lines`).
-use Rattle.std.specs.Prelude.{◌≡◌, Bool, true, false, ◌&&◌, List, [], ◌∷◌, ◌++◌, map, ℕ, ◌+◌, ◌*◌, ◌≤◌, ◌<◌, pos, length, take, drop, set, get_or, replicate}
+-- left decide (`lines-pass`). The lines of a job (`job_judged-lines`), the loop over the jobs (`jobs_judged-next`, `jobs_judged-end`, `JobsHeld`), a bound
+-- (`bound_judged-bare`, `-formed`), the loop over the bounds (`BoundsHeld`), and the lines of a plan (`judged_by_lines-lines`).
+use Rattle.std.specs.Prelude.{◌≡◌, Result, Ok, Err, Bool, true, false, ◌&&◌, List, [], ◌∷◌, ◌++◌, map, ℕ, ◌+◌, ◌*◌, ◌≤◌, ◌<◌, pos, length, take, drop, set, get_or, replicate}
 use Rattle.std.proofs.Math.Path.{refl, sym, ap}
-use Rattle.std.proofs.Common.{◌∙◌, add-one, arith, length-set, drop_of_length-le, drop-cons, get_or-take, take-suc, take-suc-set}
+use Rattle.std.proofs.Common.{◌∙◌, add-one, add-zero, arith, length-set, drop_of_length-le, drop-cons, get_or-take, take-suc, take-suc-set}
 use Rattle.std.proofs.Math.ListN.{length-take}
+use Rattle.std.proofs.lemmas.List.{drop_more}
 use Rattle.plan.specs.declared.Job.{Job}
 use Rattle.plan.specs.declared.EventName.{EventName}
 use Rattle.plan.specs.declared.Bound.{Bound}
 use Rattle.plan.specs.declared.Plan.{Plan}
-use Rattle.lines.specs.declared.TextAnswer.{TextAnswer}
-use Rattle.lines.specs.declared.TextAnswer.TheVariants.{Accepted, Refused}
 use Rattle.lines.specs.declared.Refusal.{Refusal}
 use Rattle.lines.specs.declared.Refusal.TheVariants.{Form}
 use Rattle.plan.specs.Limits.{longest_window, most_rounds, most_windows, most_jobs, most_bounds, longest_running, latest_deadline}
@@ -28,28 +27,44 @@ use Rattle.values.specs.JudgedLaws.{bound_judged-accepted}
 -- ---- one line after another
 
 -- w is the answer to the lines from some line on, and a the answer to the first of them
-module _ {w : TextAnswer} (x y : TextAnswer) (e : w ≡ and_then x y) (a : TextAnswer) (d : a ≡ x) where
-  pub lines-stop : {r : Refusal} → a ≡ Refused r → a ≡ w
+module _ {w : Result Unit Refusal} (x y : Result Unit Refusal) (e : w ≡ and_then x y) (a : Result Unit Refusal) (d : a ≡ x) where
+  pub lines-stop : {r : Refusal} → a ≡ Err r → a ≡ w
   lines-stop h = and_then-stop x y a d h ∙ sym e
 
-  pub lines-pass : a ≡ Accepted → w ≡ y
+  pub lines-pass : a ≡ Ok tt → w ≡ y
   lines-pass h = e ∙ sym (and_then-pass x y a d h)
 
 -- ---- a job: the lines that are left are judged as the whole
 
 module _ (n : ℕ) (j : Job) where
-  abbrev pub from_release : TextAnswer
+  abbrev pub from_release : Result Unit Refusal
   from_release = and_then (number_judged (pos 0) latest_deadline j.release (n + 2)) (number_judged (pos 0) latest_deadline j.deadline (n + 3))
 
-  abbrev pub from_max : TextAnswer
+  abbrev pub from_max : Result Unit Refusal
   from_max = and_then (number_judged j.min longest_running j.max (n + 1)) from_release
 
   pub job_judged-lines : job_judged n j ≡ and_then (number_judged (pos 0) longest_running j.min n) from_max
   unfolding job_judged
   job_judged-lines = refl
 
--- ---- the loop over the jobs: what is left is judged as the whole
+-- ---- the loop over the jobs
 
+-- the jobs from place i on: the one there, and those after it; or none are left
+module _ (js : List Job) (i : ℕ) where
+  pub jobs_judged-next : i < length js → jobs_judged (5 + 4 * i) (drop i js)
+      ≡ and_then (job_judged (5 + 4 * i) (get_or js i no_job)) (jobs_judged (5 + 4 * (i + 1)) (drop (i + 1) js))
+  unfolding jobs_judged
+  jobs_judged-next l =
+      ap (jobs_judged (5 + 4 * i)) (drop_more js i no_job l)
+      ∙ ap (λ (n : ℕ). and_then (job_judged (5 + 4 * i) (get_or js i no_job)) (jobs_judged n (drop (i + 1) js))) (omega arith)
+
+  pub jobs_judged-end : length js ≤ i → jobs_judged (5 + 4 * i) (drop i js) ≡ Ok tt
+  unfolding jobs_judged
+  jobs_judged-end l = ap (jobs_judged (5 + 4 * i)) (drop_of_length-le js {i = i} l)
+
+pub ruleset jobs_loop = (jobs_judged-next, jobs_judged-end)
+
+-- of a plan's jobs: what is left is judged as the whole
 pub record JobsHeld (p : Plan) (n i : ℕ) : Type 0 where
   pub count : i ≤ p.jobs
   pub number : n ≡ 5 + 4 * i
@@ -68,11 +83,11 @@ module _ (p : Plan) (q : HasPlaces p) (few : p.jobs ≤ most_jobs) (n i : ℕ) (
   unfolding jobs_judged
   one-job l = h.left ∙ ap (jobs_judged n) (next-job l)
 
-  module _ (l : i < p.jobs) (a : TextAnswer) (e : a ≡ job_judged n (get_or p.job i no_job)) where
-    pub JobsHeld-stop : {r : Refusal} → a ≡ Refused r → a ≡ jobs_judged 5 (jobs_of p)
+  module _ (l : i < p.jobs) (a : Result Unit Refusal) (e : a ≡ job_judged n (get_or p.job i no_job)) where
+    pub JobsHeld-stop : {r : Refusal} → a ≡ Err r → a ≡ jobs_judged 5 (jobs_of p)
     JobsHeld-stop d = and_then-stop (job_judged n (get_or p.job i no_job)) _ a e d ∙ sym (one-job l)
 
-    pub JobsHeld-past : a ≡ Accepted → JobsHeld p (n + 4) (i + 1)
+    pub JobsHeld-past : a ≡ Ok tt → JobsHeld p (n + 4) (i + 1)
     JobsHeld-past d =
         record {
           count = omega arith;
@@ -80,14 +95,14 @@ module _ (p : Plan) (q : HasPlaces p) (few : p.jobs ≤ most_jobs) (n i : ℕ) (
           left = one-job l ∙ sym (and_then-pass (job_judged n (get_or p.job i no_job)) _ a e d);
         }
 
-  pub JobsHeld-end : p.jobs ≤ i → Accepted ≡ jobs_judged 5 (jobs_of p)
+  pub JobsHeld-end : p.jobs ≤ i → Ok tt ≡ jobs_judged 5 (jobs_of p)
   unfolding jobs_judged
   JobsHeld-end l = sym (h.left ∙ ap (jobs_judged n) (drop_of_length-le (jobs_of p) {i = i} (omega (arith, length-take p.jobs p.job))))
 
 -- ---- a bound
 
 module _ (jobs : ℕ) (is_wrong : EventName → EventName → Bool) (n : ℕ) (d : Bound) where
-  pub bound_judged-bare : is_one_digit d.a.job && is_one_digit d.b.job ≡ false → bound_judged jobs is_wrong n d ≡ Refused (Form n)
+  pub bound_judged-bare : is_one_digit d.a.job && is_one_digit d.b.job ≡ false → bound_judged jobs is_wrong n d ≡ Err (Form n)
   unfolding bound_judged
   bound_judged-bare h = rw h
 
@@ -104,84 +119,90 @@ bound_judged-numbered jobs few given small codes e n d = rw (e, judged_bound-num
 
 -- ---- the loop over the bounds: what is left is judged as the whole
 
-pub record BoundsHeld (p : Plan) (given : List ℕ) (n i : ℕ) : Type 0 where
-  pub count : i ≤ p.bounds
-  pub number : n ≡ 6 + 4 * p.jobs + i
+-- after i of the bounds ds of a plan with so many jobs
+pub record BoundsHeld (jobs : ℕ) (ds : List Bound) (given : List ℕ) (i : ℕ) : Type 0 where
   pub codes : length given ≡ most_bounds
-  pub coded : take i given ≡ map pair_of (take i p.bound)
-  pub small : All (λ d. Small d.a d.b) (take i p.bound)
-  pub left : bounds_judged p.jobs [] (6 + 4 * p.jobs) (bounds_of p) ≡ bounds_judged p.jobs (take i p.bound) n (drop i (bounds_of p))
+  pub coded : take i given ≡ map pair_of (take i ds)
+  pub small : All (λ d. Small d.a d.b) (take i ds)
+  pub left : bounds_judged jobs [] (6 + 4 * jobs) ds ≡ bounds_judged jobs (take i ds) (6 + 4 * jobs + i) (drop i ds)
 
-pub BoundsHeld-start : (p : Plan) → BoundsHeld p (replicate most_bounds 0) (6 + 4 * p.jobs) 0
-BoundsHeld-start p = record { count = omega arith; number = omega arith; codes = refl; coded = refl; small = tt; left = refl }
+pub BoundsHeld-start : (jobs : ℕ) (ds : List Bound) → BoundsHeld jobs ds (replicate most_bounds 0) 0
+BoundsHeld-start jobs ds = record { codes = refl; coded = refl; small = tt; left = rw (add-zero (6 + 4 * jobs)) refl }
 
-module _ (p : Plan) (q : HasPlaces p) (few : p.jobs ≤ most_jobs) (few-bounds : p.bounds ≤ most_bounds) (given : List ℕ) (n i : ℕ)
-    (h : BoundsHeld p given n i) where
-  next-bound : i < p.bounds → drop i (bounds_of p) ≡ get_or p.bound i no_bound ∷ drop (i + 1) (bounds_of p)
-  next-bound l =
-      drop-cons (bounds_of p) i no_bound (omega (arith, length-take p.bounds p.bound, q.bound-places))
-      ∙ rw (get_or-take p.bounds p.bound i no_bound l, add-one i)
+module _ (jobs : ℕ) (few : jobs ≤ most_jobs) (ds : List Bound) (few-bounds : length ds ≤ most_bounds) (given : List ℕ) (i : ℕ)
+    (h : BoundsHeld jobs ds given i) where
+  abbrev next : Bound
+  next = get_or ds i no_bound
 
-  same-bound : (d : Bound) → bound_judged p.jobs (is_wrong_numbered (take i given)) n d ≡ bound_judged p.jobs (λ a b. is_wrong_pair a b (take i p.bound)) n d
-  same-bound = bound_judged-numbered p.jobs few (take i p.bound) h.small (take i given) h.coded n
+  same-bound : (d : Bound) → bound_judged jobs (is_wrong_numbered (take i given)) (6 + 4 * jobs + i) d
+      ≡ bound_judged jobs (λ a b. is_wrong_pair a b (take i ds)) (6 + 4 * jobs + i) d
+  same-bound = bound_judged-numbered jobs few (take i ds) h.small (take i given) h.coded (6 + 4 * jobs + i)
 
-  one-bound : i < p.bounds → bounds_judged p.jobs [] (6 + 4 * p.jobs) (bounds_of p)
-      ≡ and_then (bound_judged p.jobs (λ a b. is_wrong_pair a b (take i p.bound)) n (get_or p.bound i no_bound))
-      (bounds_judged p.jobs (take i p.bound ++ (get_or p.bound i no_bound ∷ [])) (n + 1) (drop (i + 1) (bounds_of p)))
+  pub BoundsHeld-next : i < length ds → bounds_judged jobs [] (6 + 4 * jobs) ds
+      ≡ and_then (bound_judged jobs (is_wrong_numbered (take i given)) (6 + 4 * jobs + i) next)
+      (bounds_judged jobs (take i ds ++ (next ∷ [])) (6 + 4 * jobs + i + 1) (drop (i + 1) ds))
   unfolding bounds_judged
-  one-bound l = h.left ∙ ap (bounds_judged p.jobs (take i p.bound) n) (next-bound l)
+  BoundsHeld-next l =
+      h.left
+      ∙ ap (bounds_judged jobs (take i ds) (6 + 4 * jobs + i)) (drop_more ds i no_bound l)
+      ∙ sym (ap (λ (x : Result Unit Refusal). and_then x (bounds_judged jobs (take i ds ++ (next ∷ [])) (6 + 4 * jobs + i + 1) (drop (i + 1) ds)))
+      (same-bound next))
 
-  module _ (l : i < p.bounds) (a : TextAnswer) (e : a ≡ bound_judged p.jobs (is_wrong_numbered (take i given)) n (get_or p.bound i no_bound)) where
-    is-judged : a ≡ bound_judged p.jobs (λ a b. is_wrong_pair a b (take i p.bound)) n (get_or p.bound i no_bound)
-    is-judged = e ∙ same-bound (get_or p.bound i no_bound)
+  pub BoundsHeld-past : i < length ds → bound_judged jobs (is_wrong_numbered (take i given)) (6 + 4 * jobs + i) next ≡ Ok tt
+      → (code : ℕ) → code ≡ pair_of next → BoundsHeld jobs ds (set given i code) (i + 1)
+  BoundsHeld-past l d code k =
+      record {
+        codes = length-set given i code ∙ h.codes;
+        coded =
+            codes-taken
+            ∙ ap (λ (x : List ℕ). x ++ (code ∷ [])) h.coded
+            ∙ ap (λ (c : ℕ). map pair_of (take i ds) ++ (c ∷ [])) k
+            ∙ sym (ap (map pair_of) taken ∙ map_last (take i ds) next);
+        small = rw taken (All-more (λ d. Small d.a d.b) (take i ds) next h.small
+            (record { a_small = omega (arith, accepted.a-most); b-small = omega (arith, accepted.b-most) }));
+        left =
+            BoundsHeld-next l
+            ∙ ap (λ (x : Result Unit Refusal). and_then x (bounds_judged jobs (take i ds ++ (next ∷ [])) (6 + 4 * jobs + i + 1) (drop (i + 1) ds))) d
+            ∙ rw taken (ap (λ (n : ℕ). bounds_judged jobs (take i ds ++ (next ∷ [])) n (drop (i + 1) ds)) numbered);
+      }
+    where
+      accepted : BoundAccepted jobs next
+      accepted = (bound_judged-accepted jobs (take i ds) (6 + 4 * jobs + i) next (sym (same-bound next) ∙ d)).0
 
-    pub BoundsHeld-stop : {r : Refusal} → a ≡ Refused r → a ≡ bounds_judged p.jobs [] (6 + 4 * p.jobs) (bounds_of p)
-    BoundsHeld-stop d = and_then-stop (bound_judged p.jobs (λ a b. is_wrong_pair a b (take i p.bound)) n (get_or p.bound i no_bound)) _ a is-judged d
-        ∙ sym (one-bound l)
+      taken : take (i + 1) ds ≡ take i ds ++ (next ∷ [])
+      taken = rw (add-one i) (take-suc ds i no_bound l)
 
-    pub BoundsHeld-past : a ≡ Accepted → (code : ℕ) → code ≡ pair_of (get_or p.bound i no_bound) → BoundsHeld p (set given i code) (n + 1) (i + 1)
-    BoundsHeld-past d code k =
-        record {
-          count = omega arith;
-          number = omega (arith, h.number);
-          codes = length-set given i code ∙ h.codes;
-          coded =
-              codes-taken
-              ∙ ap (λ (x : List ℕ). x ++ (code ∷ [])) h.coded
-              ∙ ap (λ (c : ℕ). map pair_of (take i p.bound) ++ (c ∷ [])) k
-              ∙ sym (ap (map pair_of) taken ∙ map_last (take i p.bound) (get_or p.bound i no_bound));
-          small = rw taken (All-more (λ d. Small d.a d.b) (take i p.bound) (get_or p.bound i no_bound) h.small
-              (record { a_small = omega (arith, accepted.a-most); b-small = omega (arith, accepted.b-most) }));
-          left =
-              one-bound l
-              ∙ sym (and_then-pass (bound_judged p.jobs (λ a b. is_wrong_pair a b (take i p.bound)) n (get_or p.bound i no_bound)) _ a is-judged d)
-              ∙ ap (λ (done : List Bound). bounds_judged p.jobs done (n + 1) (drop (i + 1) (bounds_of p))) (sym taken);
-        }
-      where
-        accepted : BoundAccepted p.jobs (get_or p.bound i no_bound)
-        accepted = (bound_judged-accepted p.jobs (take i p.bound) n (get_or p.bound i no_bound) (sym is-judged ∙ d)).0
+      numbered : 6 + 4 * jobs + i + 1 ≡ 6 + 4 * jobs + (i + 1)
+      numbered = omega arith
 
-        taken : take (i + 1) p.bound ≡ take i p.bound ++ (get_or p.bound i no_bound ∷ [])
-        taken = rw (add-one i) (take-suc p.bound i no_bound (omega (arith, q.bound-places)))
+      codes-taken : take (i + 1) (set given i code) ≡ take i given ++ (code ∷ [])
+      codes-taken = rw (add-one i) (take-suc-set given i code (omega (arith, h.codes)))
 
-        codes-taken : take (i + 1) (set given i code) ≡ take i given ++ (code ∷ [])
-        codes-taken = rw (add-one i) (take-suc-set given i code (omega (arith, h.codes)))
-
-  pub BoundsHeld-end : p.bounds ≤ i → Accepted ≡ bounds_judged p.jobs [] (6 + 4 * p.jobs) (bounds_of p)
+  pub BoundsHeld-end : length ds ≤ i → bounds_judged jobs [] (6 + 4 * jobs) ds ≡ Ok tt
   unfolding bounds_judged
-  BoundsHeld-end l = sym (h.left ∙ ap (bounds_judged p.jobs (take i p.bound) n)
-      (drop_of_length-le (bounds_of p) {i = i} (omega (arith, length-take p.bounds p.bound))))
+  BoundsHeld-end l = h.left ∙ ap (bounds_judged jobs (take i ds) (6 + 4 * jobs + i)) (drop_of_length-le ds {i = i} l)
+
+-- where the bound is refused, so are all
+module _ (jobs : ℕ) (few : jobs ≤ most_jobs) (ds : List Bound) (few-bounds : length ds ≤ most_bounds) (given : List ℕ) (i : ℕ)
+    (h : BoundsHeld jobs ds given i) where
+  pub BoundsHeld-stop : i < length ds → (a : Result Unit Refusal) → a ≡ bound_judged jobs (is_wrong_numbered (take i given)) (6 + 4 * jobs + i) (get_or ds i no_bound)
+      → {r : Refusal} → a ≡ Err r → a ≡ bounds_judged jobs [] (6 + 4 * jobs) ds
+  BoundsHeld-stop l a e d =
+      and_then-stop (bound_judged jobs (is_wrong_numbered (take i given)) (6 + 4 * jobs + i) (get_or ds i no_bound)) _ a e d
+      ∙ sym (BoundsHeld-next jobs few ds few-bounds given i h l)
+
+pub ruleset bounds_loop = (BoundsHeld-start, BoundsHeld-next, BoundsHeld-past, BoundsHeld-end)
 
 -- ---- the plan: the lines that are left are judged as the whole
 
 module _ (p : Plan) where
-  abbrev pub from_count : TextAnswer
+  abbrev pub from_count : Result Unit Refusal
   from_count = and_then (number_judged (pos 0) (pos most_bounds) (pos p.bounds) (5 + 4 * p.jobs)) (bounds_judged p.jobs [] (6 + 4 * p.jobs) (bounds_of p))
 
-  abbrev pub from_jobs : TextAnswer
+  abbrev pub from_jobs : Result Unit Refusal
   from_jobs = and_then (number_judged (pos 1) (pos most_jobs) (pos p.jobs) 4) (and_then (jobs_judged 5 (jobs_of p)) from_count)
 
-  abbrev pub from_rounds : TextAnswer
+  abbrev pub from_rounds : Result Unit Refusal
   from_rounds = and_then (number_judged (pos 1) (pos most_rounds) (pos p.rounds) 2) (and_then (number_judged (pos 1) (pos most_windows) (pos p.last) 3) from_jobs)
 
   pub judged_by_lines-lines : judged_by_lines p ≡ and_then (number_judged (pos 1) longest_window p.window 1) from_rounds

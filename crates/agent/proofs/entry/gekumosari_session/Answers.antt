@@ -11,21 +11,17 @@ use Rattle.agent.proofs.entry.gekumosari_session.Goals as goal
 
 pub overflow_cast-result : goal.overflow_cast-result
 overflow_cast-result c =
-    let told = entry_length _ c.args.out.now c.in-Length.ensures.value _ refl in
-    let room = told.room in
-    let fits : c.in-Length.length < 2 ^ 63 = omega arith in
-    record { sfits = fits }
+    let told = entry_length _ c.args.out.now c.in-Ok.ensures.value _ refl in record { sfits = omega (arith, told.room) }
 
-pub returns-in-Length-clause-value : goal.returns-in-Length-clause-value
-returns-in-Length-clause-value c =
-    let told = entry_length _ c.args.out.now c.in-Length.ensures.value _ refl in
-    let room = told.room in
-    let fits : c.in-Length.length < 2 ^ 63 = omega arith in
+pub returns-in-Ok-clause-value : goal.returns-in-Ok-clause-value
+returns-in-Ok-clause-value c =
+    let told = entry_length _ c.args.out.now c.in-Ok.ensures.value _ refl in
+    let fits : c.in-Ok.length < 2 ^ 63 = omega (arith, told.room) in
     to_z_pos w64 fits ∙ told.answer
 
 less : {n : ℕ} → n ≡ number NoRoom → to_z w64 (of_z w64 (pos 0 -ℤ to_z w64 n)) ≡ neg_ℤ (pos n)
-less e = rw (e) refl
+less e = rw e refl
 
-pub returns-in-Refused-clause-value : goal.returns-in-Refused-clause-value
-returns-in-Refused-clause-value c =
-    let told = entry-refused _ _ c.in-Refused.ensures.value _ _ refl c.number-n.ensures in less told.is ∙ told.answer
+pub returns-in-Err-clause-value : goal.returns-in-Err-clause-value
+returns-in-Err-clause-value c =
+    let told = entry-refused _ _ c.in-Err.ensures.value _ _ refl c.number.ensures in less told.is ∙ told.answer

@@ -1,7 +1,5 @@
 -- `put_side` meets its contract. The invariant: the events before e are recorded, bits and c. One law a turn: `events_on-more`, `cs_on-more`.
-use Prim.Native.Nat.{◌-◌, ◌≤◌}
 use mathlib.Core.Path.{◌≡◌}
-use lib.ListN.{length}
 use lib.Seq.{sets}
 use Rattle.bounds.specs.Tables.{listed}
 use Rattle.events.specs.Bits.{bits_of, event_set}
@@ -10,9 +8,5 @@ use Rattle.calendars.proofs.recorded.put_side.Given as goal
 
 abbrev pub invariant-loop-e : goal.invariant-loop-e
 invariant-loop-e l =
-    (l.e ≤ l.count) × (length l.cs ≡ length l.initial.cs)
-    × (bits_of l.set ≡ event_set (listed l.e (is_on_side l.side l.weights l.count)))
-    × (l.cs ≡ sets l.initial.cs l.row (listed l.e (c_on_side l.side l.weights l.count)))
-
-abbrev pub decreases-loop-e : goal.decreases-loop-e
-decreases-loop-e l = l.count - l.e
+    (bits_of l.set ≡ event_set (listed l.e (is_on_side l.side l.table.weights l.count)))
+    × (l.cs ≡ sets l.initial.cs l.row (listed l.e (c_on_side l.side l.table.weights l.count)))

@@ -13,5 +13,5 @@ returns-then-e-lt-MOST_BITS c =
     let a = c.args in
     ap (λ (d : ℕ). eqb d 1) (and_mask (a.self.0 / 2 ^ a.e) 1) ∙ sym (has_event-at a.e a.self.0)
 
-pub returns : goal.returns
-returns c = let a = c.args in sym (has_event-past most_bits a.e a.self.0 (search rules) (search rules))
+pub returns-else-e-lt-MOST_BITS : goal.returns-else-e-lt-MOST_BITS
+returns-else-e-lt-MOST_BITS c = let a = c.args in rw (has_event-past most_bits a.e a.self.0 (search rules) (search rules)) (search rules)

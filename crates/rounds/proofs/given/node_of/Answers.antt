@@ -3,26 +3,6 @@ use native.Mathlib.Omega.{arith}
 use Rattle.rounds.specs.GivenLaws.{named_start, named-finish}
 use Rattle.rounds.proofs.given.node_of.Goals as goal
 
-pub overflow_mul-result : goal.overflow_mul-result
-overflow_mul-result c =
-    let small = c.place_of-k.ensures.upper_bound in
-    omega arith
-
-pub overflow_add-result : goal.overflow_add-result
-overflow_add-result c =
-    let small = c.place_of-k.ensures.upper_bound in
-    omega arith
-
-pub overflow_mul-result-in-Finish : goal.overflow_mul-result-in-Finish
-overflow_mul-result-in-Finish c =
-    let small = c.place_of-k.ensures.upper_bound in
-    omega arith
-
-pub overflow_add-result-in-Finish : goal.overflow_add-result-in-Finish
-overflow_add-result-in-Finish c =
-    let small = c.place_of-k.ensures.upper_bound in
-    omega arith
-
 pub returns-in-Start : goal.returns-in-Start
 returns-in-Start c =
     let a = c.args in

@@ -11,12 +11,9 @@ returns-then-one_next-between c =
     let a = c.args in
     λ p same.
     sym
-    (ap (λ bs. put_bounds a.early.now a.late.now bs a.weights.now)
+    (ap (λ bs. put_bounds a.times.now.early a.times.now.late bs a.table.now.weights)
     (given-other p a.d a.between c.one_next.result (sym c.one_next.ensures) (not-true _ c.if-one_next-between.true))
-    ∙ put_bounds-none a.early.now a.late.now a.weights.now)
-
-pub put_bound-requires : goal.put_bound-requires
-put_bound-requires c = c.requires
+    ∙ put_bounds-none a.times.now.early a.times.now.late a.table.now.weights)
 
 pub returns : goal.returns
 returns c =
@@ -24,5 +21,5 @@ returns c =
     let r = c.one_next in
     λ p same.
     c.put_bound.ensures p same
-    ∙ ap (λ bs. put_bounds a.early.now a.late.now bs a.weights.now)
+    ∙ ap (λ bs. put_bounds a.times.now.early a.times.now.late bs a.table.now.weights)
     (sym (given-due p a.d a.between r.result (sym r.ensures) (not-false _ c.if-one_next-between.false)))

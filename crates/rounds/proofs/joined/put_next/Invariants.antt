@@ -1,5 +1,5 @@
 -- `rounds::joined::put_next` meets its contract. The loop's invariant: the rows that are left give the whole answer.
-use Prim.Native.Nat.{◌-◌, ◌≤◌}
+use Prim.Native.Nat.{◌-◌}
 use mathlib.Core.Path.{◌≡◌}
 use Rattle.bounds.specs.Flat.{each_node}
 use Rattle.rounds.specs.Next.{next_row, next_rows}
@@ -7,8 +7,4 @@ use Rattle.rounds.proofs.joined.put_next.Given as goal
 
 abbrev pub invariant-loop-y : goal.invariant-loop-y
 invariant-loop-y l =
-    (l.y ≤ l.count)
-    × (next_rows l.early l.late l.jobs l.window l.carried l.initial.weights ≡ each_node (next_row l.early l.late l.jobs l.window l.carried) l.y (l.count - l.y) l.weights)
-
-abbrev pub decreases-loop-y : goal.decreases-loop-y
-decreases-loop-y l = l.count - l.y
+    next_rows l.times.early l.times.late l.jobs l.window l.carried.weights l.initial.table.weights ≡ each_node (next_row l.times.early l.times.late l.jobs l.window l.carried.weights) l.y (l.count - l.y) l.table.weights

@@ -15,39 +15,8 @@ use Rattle.rounds.specs.Rounds.{shift_by}
 use Rattle.rounds.specs.Next.{onto}
 use Rattle.rounds.specs.OnNextLaws.{onto-below}
 use Rattle.rounds.specs.NextLaws.{shift_by-in, shift-moving}
-use Rattle.rounds.proofs.Moved.{shift_back, apart_fits, apart-back, moved-putting}
+use Rattle.rounds.proofs.Moved.{shift_back, apart-back, moved-putting}
 use Rattle.rounds.proofs.joined.put_next_cell.Goals as goal
-
-pub overflow_mul-v : goal.overflow_mul-v
-overflow_mul-v c = let n = c.requires.0.jobs-most in omega arith
-
-pub overflow_add-v : goal.overflow_add-v
-overflow_add-v c = let n = c.requires.0.jobs-most in omega arith
-
-pub offset_bounds-carried-y : goal.offset_bounds-carried-y
-offset_bounds-carried-y c = let n = c.requires.0.jobs-most in omega arith
-
-pub bounds-carried-y : goal.bounds-carried-y
-bounds-carried-y c = let n = c.requires.0.jobs-most in omega arith
-
-pub node_onto-from-requires : goal.node_onto-from-requires
-node_onto-from-requires c = let n = c.requires.0.jobs-most in (n, omega arith)
-
-pub node_onto-to-requires : goal.node_onto-to-requires
-node_onto-to-requires c = let n = c.requires.0.jobs-most in (n, omega arith)
-
-pub overflow_sub-a : goal.overflow_sub-a
-overflow_sub-a c =
-    let shifts : (y : ℕ) → ShiftInRange (shift_by c.args.window y) = λ y. shift_by-in c.args.window y c.requires.0.window-least c.requires.0.window-most in
-    let more-is : let a =
-    c.args in
-    to_z w32 (of_z w32 c.shift_by-more.result)
-    ≡ shift_by a.window a.z = shift_back (c.shift_by-more.ensures ∙ ap (λ w. shift_by w c.args.z) (to_z-of_z c.ranges.window)) (shifts c.args.z) in
-    let less-is : let a =
-    c.args in
-    to_z w32 (of_z w32 c.shift_by-less.result)
-    ≡ shift_by a.window a.y = shift_back (c.shift_by-less.ensures ∙ ap (λ w. shift_by w c.args.y) (to_z-of_z c.ranges.window)) (shifts c.args.y) in
-    apart_fits c.shift_by-more.result c.shift_by-less.result more-is less-is (shifts c.args.z) (shifts c.args.y)
 
 pub put-requires : goal.put-requires
 put-requires c =
@@ -66,11 +35,11 @@ put-requires c =
     (shifts c.args.y) in
     let a = c.args in
     let n = c.requires.0.jobs-most in
-    let timed : (y : ℕ) → y < 1 + 2 * a.jobs → TimesInRange a.early.now a.late.now (onto a.jobs y)
+    let timed : (y : ℕ) → y < 1 + 2 * a.jobs → TimesInRange a.times.now.early a.times.now.late (onto a.jobs y)
     = λ y h. c.requires.0.times (onto a.jobs y) (onto-below a.jobs y most_nodes (omega arith)) in (
-      subst (λ n. TimesInRange a.early.now a.late.now n) (sym c.node_onto-from.ensures) (timed a.y c.requires.1),
-      subst (λ n. TimesInRange a.early.now a.late.now n) (sym c.node_onto-to.ensures) (timed a.z c.requires.2),
-      moved-putting (to_z-of_z (told-fits w32 (weight_at a.carried.now a.y a.z) c.v-1.given))
+      subst (λ n. TimesInRange a.times.now.early a.times.now.late n) (sym c.node_onto-from.ensures) (timed a.y c.requires.1),
+      subst (λ n. TimesInRange a.times.now.early a.times.now.late n) (sym c.node_onto-to.ensures) (timed a.z c.requires.2),
+      moved-putting (to_z-of_z (told-fits w32 (weight_at a.carried.now.weights a.y a.z) c.v-1.given))
           apart-is
           (c.requires.0.weighed a.y a.z c.requires.1 c.requires.2)
           (shift-moving (shift_by a.window a.z) (shift_by a.window a.y) (shifts a.z) (shifts a.y)),
@@ -95,11 +64,11 @@ returns c =
     let from = c.node_onto-from in
     let to = c.node_onto-to in
     c.put.ensures
-    ∙ ap₂ (λ v w. put_at a.early.now a.late.now from.result to.result v w a.weights.now)
-    (to_z-of_z (told-fits w32 (weight_at a.carried.now a.y a.z) c.v-1.given))
+    ∙ ap₂ (λ v w. put_at a.times.now.early a.times.now.late from.result to.result v w a.table.now.weights)
+    (to_z-of_z (told-fits w32 (weight_at a.carried.now.weights a.y a.z) c.v-1.given))
     apart-is
     ∙ ap₂
-    (λ u x. put_at a.early.now a.late.now u x (weight_at a.carried.now a.y a.z) (shift_by a.window a.z -ℤ shift_by a.window a.y)
-    a.weights.now)
+    (λ u x. put_at a.times.now.early a.times.now.late u x (weight_at a.carried.now.weights a.y a.z) (shift_by a.window a.z -ℤ shift_by a.window a.y)
+    a.table.now.weights)
     from.ensures
     to.ensures

@@ -1,13 +1,9 @@
 -- `rounds::own::put_orders` meets its contract. The loop's invariant: the places that are left give the whole answer.
-use Prim.Native.Nat.{◌≤◌}
 use mathlib.Core.Path.{◌≡◌}
 use Rattle.bounds.specs.Flat.{put_bounds}
 use Rattle.rounds.specs.Given.{orders}
 use Rattle.rounds.proofs.own.put_orders.Given as goal
 
-abbrev pub invariant-loop-left : goal.invariant-loop-left
-invariant-loop-left l =
-    (l.left ≤ l.count) × (put_bounds l.early l.late (orders l.count) l.initial.weights ≡ put_bounds l.early l.late (orders l.left) l.weights)
-
-abbrev pub decreases-loop-left : goal.decreases-loop-left
-decreases-loop-left l = l.left
+abbrev pub invariant-loop-k : goal.invariant-loop-k
+invariant-loop-k l =
+    put_bounds l.times.early l.times.late (orders l.count) l.initial.table.weights ≡ put_bounds l.times.early l.times.late (orders l.k) l.table.weights

@@ -1,5 +1,6 @@
 -- `rounds::own::put_place` meets its contract: the start's bounds, and then the finish's.
 use mathlib.Core.Path.{◌≡◌, ◌∙◌, ap}
+use Rattle.std.specs.Result.{is_err}
 use Rattle.bounds.specs.declared.Event.TheVariants.{Start, Finish}
 use Rattle.bounds.specs.BuildLaws.{event_of-start, event_of-finish}
 use Rattle.bounds.specs.Flat.{flat, put_bounds}
@@ -7,36 +8,37 @@ use Rattle.bounds.specs.BoundsLaws.{put_bounds-stop, put_bounds-past}
 use Rattle.rounds.specs.Put.{range_of}
 use Rattle.rounds.proofs.own.put_place.Goals as goal
 
-pub returns-then-put_range : goal.returns-then-put_range
-returns-then-put_range c =
+pub returns-in_err-put_range : goal.returns-in_err-put_range
+returns-in_err-put_range c =
     let start_is : let a = c.args in
-    flat c.put_range.result c.put_range.new.weights
-    ≡ put_bounds a.early.now a.late.now (range_of a.early.now a.late.now (Start a.k)) a.weights.now = let a = c.args in
+    flat (is_err c.put_range.result) c.put_range.new.table.weights
+    ≡ put_bounds a.times.now.early a.times.now.late (range_of a.times.now.early a.times.now.late (Start a.k)) a.table.now.weights = let a = c.args in
     c.put_range.ensures
-    ∙ ap (λ e. put_bounds a.early.now a.late.now (range_of a.early.now a.late.now e) a.weights.now) (event_of-start a.k) in
+    ∙ ap (λ e. put_bounds a.times.now.early a.times.now.late (range_of a.times.now.early a.times.now.late e) a.table.now.weights) (event_of-start a.k) in
     let a = c.args in
-    put_bounds-stop a.early.now a.late.now (range_of a.early.now a.late.now (Start a.k))
-    (range_of a.early.now a.late.now (Finish a.k))
-    a.weights.now
-    c.put_range.result
-    c.put_range.new.weights
+    rw c.from_residual.ensures.0
+    (put_bounds-stop a.times.now.early a.times.now.late (range_of a.times.now.early a.times.now.late (Start a.k))
+    (range_of a.times.now.early a.times.now.late (Finish a.k))
+    a.table.now.weights
+    (is_err c.put_range.result)
+    c.put_range.new.table.weights
     start_is
-    c.if-put_range.true
+    (ap is_err c.in_err-put_range.was))
 
 pub returns : goal.returns
 returns c =
     let start_is : let a = c.args in
-    flat c.put_range.result c.put_range.new.weights
-    ≡ put_bounds a.early.now a.late.now (range_of a.early.now a.late.now (Start a.k)) a.weights.now = let a = c.args in
+    flat (is_err c.put_range.result) c.put_range.new.table.weights
+    ≡ put_bounds a.times.now.early a.times.now.late (range_of a.times.now.early a.times.now.late (Start a.k)) a.table.now.weights = let a = c.args in
     c.put_range.ensures
-    ∙ ap (λ e. put_bounds a.early.now a.late.now (range_of a.early.now a.late.now e) a.weights.now) (event_of-start a.k) in
+    ∙ ap (λ e. put_bounds a.times.now.early a.times.now.late (range_of a.times.now.early a.times.now.late e) a.table.now.weights) (event_of-start a.k) in
     let a = c.args in
     c.put_range-2.ensures
-    ∙ ap (λ e. put_bounds a.early.now a.late.now (range_of a.early.now a.late.now e) c.put_range.new.weights) (event_of-finish a.k)
-    ∙ put_bounds-past a.early.now a.late.now (range_of a.early.now a.late.now (Start a.k))
-    (range_of a.early.now a.late.now (Finish a.k))
-    a.weights.now
-    c.put_range.result
-    c.put_range.new.weights
+    ∙ ap (λ e. put_bounds a.times.now.early a.times.now.late (range_of a.times.now.early a.times.now.late e) c.put_range.new.table.weights) (event_of-finish a.k)
+    ∙ put_bounds-past a.times.now.early a.times.now.late (range_of a.times.now.early a.times.now.late (Start a.k))
+    (range_of a.times.now.early a.times.now.late (Finish a.k))
+    a.table.now.weights
+    (is_err c.put_range.result)
+    c.put_range.new.table.weights
     start_is
-    c.if-put_range.false
+    (ap is_err c.in_ok-put_range.was)

@@ -1,40 +1,30 @@
-use mathlib.Core.Path.{◌≡◌, sym, ap, subst}
-use mathlib.Core.Logic.{⊎_elim}
+-- `rounds::same::same_row` meets its contract: the parts of the two arrays that are row y are compared, which `same_row-of` says of their cells.
+use Prim.Native.Nat.{◌+◌, ◌*◌, ◌-◌, ◌≤◌}
+use mathlib.Core.Path.{◌≡◌, ◌∙◌, ap, ap₂}
 use native.Mathlib.Omega.{arith}
-use mir.Syntax.{w32}
-use Rattle.whole.specs.SplitLaws.{told-fits, bits-eq, bits-ne}
-use Rattle.bounds.specs.Flat.{weight_at, cell_of, cell_at}
-use Rattle.bounds.specs.StartLaws.{less-or-same}
-use Rattle.rounds.specs.SameLaws.{cell_of-unique, same_row-all, same_row-not}
+use lib.IntN.{pos}
+use lib.ListN.{length, drop, take, length-drop}
+use Rattle.std.proofs.Common.{get_or-drop, int_eq}
+use lib.Pointwise.{pointwise}
+use Rattle.bounds.specs.TablesLaws.{listed-ext}
+use Rattle.bounds.specs.Flat.{cell_of}
+use Rattle.rounds.specs.Rounds.{same_row}
+use Rattle.rounds.specs.SameLaws.{same_row-of}
 use Rattle.rounds.proofs.same.same_row.Goals as goal
-
-pub loop-z-init : goal.loop-z-init
-loop-z-init c = (omega arith, λ x h. absurd (omega arith))
-
-pub returns-then-w-v : goal.returns-then-w-v
-returns-then-w-v c =
-    let a = c.args in
-    let l = c.loop-z in
-    sym
-    (same_row-not a.k (cell_at a.first.now a.y) (cell_at a.second.now a.y) l.z (omega arith)
-    (λ e. bits-ne w32 (weight_at a.first.now a.y l.z) (weight_at a.second.now a.y l.z) c.if-w-v.true (cell_of-unique _ _ e)))
-
-pub loop-z-preserved : goal.loop-z-preserved
-loop-z-preserved c =
-    let a = c.args in
-    let l = c.loop-z in
-    let w = weight_at a.first.now a.y l.z in
-    let v = weight_at a.second.now a.y l.z in
-    let same : w ≡ v = bits-eq (told-fits w32 w c.w-1.given) (told-fits w32 v c.v-1.given) c.if-w-v.false in (
-      omega arith,
-      λ x h.
-          ⊎_elim (λ low. l.invariant.1 x low)
-          (λ e. subst (λ x. cell_at a.first.now a.y x ≡ cell_at a.second.now a.y x) (sym e) (ap cell_of same))
-          (less-or-same x l.z h),
-    )
 
 pub returns : goal.returns
 returns c =
     let a = c.args in
-    let l = c.loop-z in
-    sym (same_row-all a.k (cell_at a.first.now a.y) (cell_at a.second.now a.y) (λ z h. l.invariant.1 z (omega arith)))
+    let k = a.k in
+    let row = a.y * 37 in
+    let ws = a.first.now.weights in
+    let vs = a.second.now.weights in
+    let count : row + k - row ≡ k = omega arith in
+    let in-ws : k ≤ length (drop row ws) = omega (arith, length-drop row ws) in
+    let in-vs : k ≤ length (drop row vs) = omega (arith, length-drop row vs) in
+    c.eq.ensures
+    ∙ ap (λ n. pointwise int_eq (take n (drop row ws)) (take n (drop row vs))) count
+    ∙ same_row-of k (drop row ws) (drop row vs) in-ws in-vs
+    ∙ ap₂ same_row
+    (listed-ext k _ _ (λ z h. ap cell_of (get_or-drop row ws z (pos 0))))
+    (listed-ext k _ _ (λ z h. ap cell_of (get_or-drop row vs z (pos 0))))

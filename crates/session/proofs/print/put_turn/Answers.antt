@@ -1,20 +1,21 @@
--- `put_turn`: three numbers in a row, by `turn_text-stored`; the job has one digit.
+-- `put_turn`: a key and three numbers in a row, by `turn_text-stored`; the job has one digit.
 use mathlib.Core.List.{[], ◌∷◌}
 use native.Mathlib.Omega.{arith}
 use lib.ListN.{length-append}
+use Rattle.std.proofs.Common.{pos, ap, length}
 use Rattle.text.specs.Lines.{comma}
-use Rattle.text.specs.Numbers.{digits}
+use Rattle.text.specs.Numbers.{decimal}
+use Rattle.text.specs.NumberLaws.{decimal-pos}
 use Rattle.text.specs.DigitLaws.{digits-length-one}
 use Rattle.session.specs.AnswerTextLaws.{turn_text-stored}
 use Rattle.session.proofs.print.put_turn.Goals as goal
 
-pub returns : goal.returns
-returns c =
+pub returns-clause-stored : goal.returns-clause-stored
+returns-clause-stored c =
     let a = c.args in
-    let first = c.put_ended_count-job.ensures in
-    let second = c.put_ended_count-time.ensures in
-    let third = c.put_ended_time.ensures in record {
-      stored = turn_text-stored a.j a.i a.t.0 first.stored second.stored third.stored;
-      upper_bound = omega
-          (arith, first.upper_bound, second.stored.place, length-append (digits a.i) (comma ∷ []), digits-length-one a.i (omega arith), third.upper_bound);
-    }
+    turn_text-stored a.key.now a.j a.i a.t.0 c.put_bytes-window.ensures c.put_ended-job.ensures.stored c.put_ended-time.ensures.stored c.put_time.ensures.stored
+
+pub returns-clause-upper_bound : goal.returns-clause-upper_bound
+returns-clause-upper_bound c =
+    let i = c.args.i in
+    omega (arith, length-append (decimal (pos i)) (comma ∷ []), ap length (decimal-pos i), digits-length-one i (omega arith))

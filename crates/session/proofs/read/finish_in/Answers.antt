@@ -1,19 +1,16 @@
 -- `finish_in`: by `time_step-value` and `time_step-bad`.
-use mathlib.Core.Path.{sym, ap, ◌∙◌}
+use mathlib.Core.Path.{sym, ◌∙◌}
+use Rattle.plan.specs.ReadAtLaws.{passed_on}
 use Rattle.runs.specs.declared.Step.TheVariants.{Finish}
-use Rattle.session.specs.declared.StepLine.TheVariants.{Bad}
 use Rattle.session.specs.StepRead.{finish_in}
 use Rattle.session.specs.StepReadLaws.{time_step-value, time_step-bad}
 use Rattle.session.proofs.read.finish_in.Goals as goal
 
-pub returns-in-Value : goal.returns-in-Value
+pub returns-in_err-t : goal.returns-in_err-t
 unfolding finish_in
-returns-in-Value c =
-    sym (time_step-value Finish c.args.s.now _ (sym c.read_number-n.ensures ∙ c.in-Value.is))
+returns-in_err-t c =
+    rw (passed_on c.from_residual.ensures.1) (sym (time_step-bad Finish c.args.s.now _ (sym c.read_number.ensures ∙ c.in_err-t.was)))
 
-pub returns-in-Bad : goal.returns-in-Bad
+pub returns : goal.returns
 unfolding finish_in
-returns-in-Bad c =
-    ap Bad c.line_lacks.ensures
-    ∙ sym (time_step-bad Finish c.args.s.now _
-    (sym c.read_number-n.ensures ∙ c.in-Bad.is))
+returns c = sym (time_step-value Finish c.args.s.now _ (sym c.read_number.ensures ∙ c.in_ok-t.was))

@@ -1,50 +1,34 @@
--- `read_step`: test by test, by the laws `step_in-..`; a part after a key is the rest of the line (`drop-rest`).
+-- `read_step`: test by test, by the laws `step_in-..`.
 use mathlib.Core.Path.{sym, ap, ◌∙◌}
 use Rattle.text.specs.Bytes.{bytes}
-use Rattle.text.specs.LineLaws.{has_key-fits, drop-rest}
 use Rattle.session.specs.StepRead.{start_in, finish_in}
 use Rattle.session.specs.StepReadLaws.{step_in-ask, step_in-start, step_in-finish, step_in-other}
 use Rattle.session.proofs.read.read_step.Goals as goal
 
-pub returns-then-is_text : goal.returns-then-is_text
+pub returns-then-eq : goal.returns-then-eq
 unfolding bytes
-returns-then-is_text c = sym (step_in-ask c.args.l.now (sym c.is_text.ensures ∙ c.if-is_text.true))
+returns-then-eq c =
+    let same = rw c.as_slice.ensures at c.eq.ensures in
+    sym (step_in-ask c.args.l.now (sym same ∙ c.if-eq.true))
 
-pub slice_bounds-start_in-count : goal.slice_bounds-start_in-count
+pub returns-in-Some : goal.returns-in-Some
 unfolding bytes
-slice_bounds-start_in-count c =
-    has_key-fits (bytes "start=") c.args.l.now (sym c.has_key.ensures ∙ c.if-has_key.true)
+returns-in-Some c =
+    let same = rw c.as_slice.ensures at c.eq.ensures in
+    let key = c.in-Some.ensures.cases in
+    c.start_in.ensures ∙ ap start_in key.1 ∙ sym (step_in-start c.args.l.now (sym same ∙ c.if-eq.false) key.0)
 
-pub slice_bounds-start_in-start : goal.slice_bounds-start_in-start
-slice_bounds-start_in-start c = slice_bounds-start_in-count c
-
-pub returns-then-has_key : goal.returns-then-has_key
+pub returns-in-Some-strip_prefix : goal.returns-in-Some-strip_prefix
 unfolding bytes
-returns-then-has_key c =
-    let l = c.args.l.now in
-    c.start_in.ensures ∙ ap start_in (drop-rest 6 l)
-    ∙ sym (step_in-start l (sym c.is_text.ensures ∙ c.if-is_text.false)
-    (sym c.has_key.ensures ∙ c.if-has_key.true))
-
-pub slice_bounds-finish_in-count : goal.slice_bounds-finish_in-count
-unfolding bytes
-slice_bounds-finish_in-count c =
-    has_key-fits (bytes "finish=") c.args.l.now (sym c.has_key-2.ensures ∙ c.if-has_key-2.true)
-
-pub slice_bounds-finish_in-start : goal.slice_bounds-finish_in-start
-slice_bounds-finish_in-start c = slice_bounds-finish_in-count c
-
-pub returns-then-has_key-2 : goal.returns-then-has_key-2
-unfolding bytes
-returns-then-has_key-2 c =
-    let l = c.args.l.now in
-    c.finish_in.ensures ∙ ap finish_in (drop-rest 7 l)
-    ∙ sym (step_in-finish l (sym c.is_text.ensures ∙ c.if-is_text.false) (sym c.has_key.ensures ∙ c.if-has_key.false)
-    (sym c.has_key-2.ensures ∙ c.if-has_key-2.true))
+returns-in-Some-strip_prefix c =
+    let same = rw c.as_slice.ensures at c.eq.ensures in
+    let key = c.in-Some-strip_prefix.ensures.cases in
+    c.finish_in.ensures
+    ∙ ap finish_in key.1
+    ∙ sym (step_in-finish c.args.l.now (sym same ∙ c.if-eq.false) c.in_default.ensures.cases key.0)
 
 pub returns : goal.returns
 unfolding bytes
 returns c =
-    let l = c.args.l.now in
-    sym (step_in-other l (sym c.is_text.ensures ∙ c.if-is_text.false)
-    (sym c.has_key.ensures ∙ c.if-has_key.false) (sym c.has_key-2.ensures ∙ c.if-has_key-2.false))
+    let same = rw c.as_slice.ensures at c.eq.ensures in
+    sym (step_in-other c.args.l.now (sym same ∙ c.if-eq.false) c.in_default.ensures.cases c.in_default-strip_prefix.ensures.cases)

@@ -1,38 +1,31 @@
--- `read_step_at`: one law a way, `step_at-bare`, `step_at-value`, `step_at-bad`; and the line begins before its end (`next_line-at`).
+-- `read_step_at`: a line has no LF, or is a step, or lacks something, by `line_to-bare`, `line_to-value`, `line_to-fault`.
 use mathlib.Core.Path.{sym, ◌∙◌}
 use native.Mathlib.Omega.{arith}
-use Rattle.text.specs.LineLaws.{next_line-at}
-use Rattle.session.specs.StepReadLaws.{step_at-bare, step_at-value, step_at-bad}
+use Rattle.lines.specs.ReadAtLaws.{line_to-bare, line_to-fault, line_to-value}
+use Rattle.session.specs.StepRead.{step_in, step_line}
+use Rattle.session.specs.StepReadLaws.{step_at-taken}
 use Rattle.session.proofs.read.read_step_at.Goals as goal
 
-pub returns-then-s-next : goal.returns-then-s-next
-returns-then-s-next c =
+pub returns-then-s-next-clause-line_value : goal.returns-then-s-next-clause-line_value
+unfolding step_line
+returns-then-s-next-clause-line_value c =
     let a = c.args in
-    let told = step_at-bare a.s.now a.at a.line c.next_line-next.result c.requires c.next_line-next.ensures (omega arith) in
-    record { line_value = told.0; step_within = told.1 }
+    line_to-bare step_in a.s.now a.at a.line c.next_line-next.result c.requires c.next_line-next.ensures (omega arith)
 
-pub overflow_sub-end : goal.overflow_sub-end
-overflow_sub-end c =
-    omega (arith, c.next_line-next.ensures ∙ next_line-at c.args.s.now c.args.at c.requires)
-
-pub slice_bounds-read_step-count : goal.slice_bounds-read_step-count
-slice_bounds-read_step-count c =
-    omega (arith, c.next_line-next.ensures ∙ next_line-at c.args.s.now c.args.at c.requires)
-
-pub slice_bounds-read_step-start : goal.slice_bounds-read_step-start
-slice_bounds-read_step-start c =
-    omega (arith, c.next_line-next.ensures ∙ next_line-at c.args.s.now c.args.at c.requires)
-
-pub returns-in-Value : goal.returns-in-Value
-returns-in-Value c =
+pub returns-in-Ok-clause-line_value : goal.returns-in-Ok-clause-line_value
+unfolding step_line
+returns-in-Ok-clause-line_value c =
     let a = c.args in
-    let told = step_at-value a.s.now a.at a.line c.next_line-next.result c.requires c.next_line-next.ensures _ (omega arith)
-    (sym c.read_step-read.ensures ∙ c.in-Value.is) in
-    record { line_value = told.0; step_within = told.1 }
+    line_to-value step_in a.s.now a.at a.line c.next_line-next.result c.requires c.next_line-next.ensures (omega arith) (sym c.read_step.ensures ∙ c.in-Ok.is)
 
-pub returns-in-Bad : goal.returns-in-Bad
-returns-in-Bad c =
+pub returns-in-Ok-clause-step_within : goal.returns-in-Ok-clause-step_within
+returns-in-Ok-clause-step_within c =
     let a = c.args in
-    let told = step_at-bad a.s.now a.at a.line c.next_line-next.result c.requires c.next_line-next.ensures _ _ (omega arith)
-    (sym c.read_step-read.ensures ∙ c.in-Bad.is) c.fault_at-refusal.ensures in
-    record { line_value = told.0; step_within = told.1 }
+    step_at-taken a.s.now a.at c.next_line-next.result c.requires c.next_line-next.ensures (omega arith) _ (sym c.read_step.ensures ∙ c.in-Ok.is)
+
+pub returns-in-Err-clause-line_value : goal.returns-in-Err-clause-line_value
+unfolding step_line
+returns-in-Err-clause-line_value c =
+    let a = c.args in
+    rw c.at.ensures
+    (line_to-fault step_in a.s.now a.at a.line c.next_line-next.result c.requires c.next_line-next.ensures (omega arith) (sym c.read_step.ensures ∙ c.in-Err.is))

@@ -1,29 +1,33 @@
 -- `start_in`: `auto` by `start_in-auto`, else a time by `start_in-time` and then `time_step-value` or `time_step-bad`.
-use mathlib.Core.Path.{sym, ap, ◌∙◌}
+use mathlib.Core.Path.{sym, ◌∙◌}
+use Rattle.plan.specs.ReadAtLaws.{passed_on}
 use Rattle.text.specs.Bytes.{bytes}
 use Rattle.runs.specs.declared.Step.TheVariants.{Start}
 use Rattle.runs.specs.declared.Choice.TheVariants.{At}
-use Rattle.session.specs.declared.StepLine.TheVariants.{Bad}
 use Rattle.session.specs.StepReadLaws.{start_in-auto, start_in-time, time_step-value, time_step-bad}
 use Rattle.session.proofs.read.start_in.Goals as goal
 
-pub returns-then-is_text : goal.returns-then-is_text
+pub returns-then-eq : goal.returns-then-eq
 unfolding bytes
-returns-then-is_text c = sym (start_in-auto c.args.s.now (sym c.is_text.ensures ∙ c.if-is_text.true))
+returns-then-eq c =
+    let same = rw c.as_slice.ensures at c.eq.ensures in
+    sym (start_in-auto c.args.s.now (sym same ∙ c.if-eq.true))
 
-pub returns-in-Value : goal.returns-in-Value
+pub returns-in_err-t : goal.returns-in_err-t
 unfolding bytes
-returns-in-Value c =
+returns-in_err-t c =
     let s = c.args.s.now in
+    let same = rw c.as_slice.ensures at c.eq.ensures in
+    rw (passed_on c.from_residual.ensures.1)
+    (sym
+    (start_in-time s (sym same ∙ c.if-eq.false)
+    ∙ time_step-bad (λ t. Start (At t)) s _ (sym c.read_number.ensures ∙ c.in_err-t.was)))
+
+pub returns : goal.returns
+unfolding bytes
+returns c =
+    let s = c.args.s.now in
+    let same = rw c.as_slice.ensures at c.eq.ensures in
     sym
-    (start_in-time s (sym c.is_text.ensures ∙ c.if-is_text.false)
-    ∙ time_step-value (λ t. Start (At t)) s _ (sym c.read_number-n.ensures ∙ c.in-Value.is))
-
-pub returns-in-Bad : goal.returns-in-Bad
-unfolding bytes
-returns-in-Bad c =
-    let s = c.args.s.now in
-    ap Bad c.line_lacks.ensures
-    ∙ sym
-    (start_in-time s (sym c.is_text.ensures ∙ c.if-is_text.false)
-    ∙ time_step-bad (λ t. Start (At t)) s _ (sym c.read_number-n.ensures ∙ c.in-Bad.is))
+    (start_in-time s (sym same ∙ c.if-eq.false)
+    ∙ time_step-value (λ t. Start (At t)) s _ (sym c.read_number.ensures ∙ c.in_ok-t.was))

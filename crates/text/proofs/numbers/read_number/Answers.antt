@@ -1,55 +1,46 @@
--- `read_number`: a law for each return, by the first byte and by what the digits after it are.
-use mathlib.Core.Path.{sym, ◌∙◌}
-use native.Mathlib.Omega.{arith}
-use mir.Facts.{to_z-of_z}
-use Rattle.text.specs.DigitsReadLaws.{
-  number_in-empty,
-  number_in-zero,
-  number_in-zero-led,
-  number_in-positive,
-  number_in-positive-bad,
-  number_in-negative,
-  number_in-negative-bad,
-}
+-- `read_number`: a law for each return, by what the text begins with and by what the digits after it are.
+use Rattle.std.proofs.Common.{arith, ◌≡◌, sym, ap, ◌∙◌, to_z-of_z}
+use Rattle.std.specs.Prelude.{Some, None, Err}
+use Rattle.std.proofs.lemmas.Result.{err_from_is_err_and}
+use Rattle.text.specs.declared.NumberFault.TheVariants.{Form}
+use Rattle.text.specs.DigitsRead.{positive_read}
+use Rattle.text.specs.DigitsReadLaws.{number_in-zero, number_in-positive, number_in-positive-bad, number_in-negative, number_in-negative-bad}
 use Rattle.text.proofs.numbers.read_number.Goals as goal
 
-pub returns-then-s-eq0 : goal.returns-then-s-eq0
-returns-then-s-eq0 c =
-    let a = c.args in
-    sym (number_in-empty a.lo a.hi a.s.now (omega arith))
-
-pub returns-in_default : goal.returns-in_default
-returns-in_default c =
-    let a = c.args in
-    sym (number_in-negative-bad a.lo a.hi a.s.now (omega arith) (sym c.read_positive.ensures ∙ c.in_default.is))
-
-pub returns-then-s-eq45 : goal.returns-then-s-eq45
-returns-then-s-eq45 c =
-    let a = c.args in
-    c.negative_in.ensures ∙ rw (to_z-of_z c.ranges.lo, to_z-of_z c.ranges.hi)
-    (sym (number_in-negative a.lo a.hi a.s.now c.in-Value.n c.ranges.lo (omega arith)
-    (sym c.read_positive.ensures ∙ c.in-Value.is)))
-
-pub returns-then-s-eq1 : goal.returns-then-s-eq1
-returns-then-s-eq1 c =
+pub returns-then-eq : goal.returns-then-eq
+returns-then-eq c =
     let a = c.args in
     c.in_range.ensures ∙ rw (to_z-of_z c.ranges.lo, to_z-of_z c.ranges.hi)
-    (sym (number_in-zero a.lo a.hi a.s.now (omega arith) (omega arith)))
+    (sym (number_in-zero a.lo a.hi a.s.now (rw c.as_slice.ensures at (sym c.if-eq.ensures))))
 
-pub returns-then-s-eq48 : goal.returns-then-s-eq48
-returns-then-s-eq48 c =
+pub returns-in_err-n : goal.returns-in_err-n
+returns-in_err-n c =
     let a = c.args in
-    sym (number_in-zero-led a.lo a.hi a.s.now (omega arith) (omega arith))
+    let p = err_from_is_err_and c.from_residual.result c.from_residual.ensures.1 in
+    let none : c.read_positive.result ≡ None = grind arith in
+    let form : p.0 ≡ Form = grind arith in
+    let digits = c.in-Some.ensures.cases in
+    p.1 ∙ ap Err form ∙ sym (number_in-negative-bad a.lo a.hi a.s.now digits.0 (ap positive_read (sym digits.1) ∙ sym c.read_positive.ensures ∙ none))
 
-pub returns-in_default-read_positive : goal.returns-in_default-read_positive
-returns-in_default-read_positive c =
+pub returns-in-Some : goal.returns-in-Some
+returns-in-Some c =
     let a = c.args in
-    sym (number_in-positive-bad a.lo a.hi a.s.now (omega arith) (omega arith)
-    (sym c.read_positive-2.ensures ∙ c.in_default-read_positive.is))
+    let some : c.read_positive.result ≡ Some c.in_ok-n.n = grind arith in
+    let digits = c.in-Some.ensures.cases in
+    c.negative_in.ensures ∙ rw (to_z-of_z c.ranges.lo, to_z-of_z c.ranges.hi)
+    (sym (number_in-negative a.lo a.hi a.s.now c.in_ok-n.n c.ranges.lo digits.0 (ap positive_read (sym digits.1) ∙ sym c.read_positive.ensures ∙ some)))
+
+pub returns-in_err-n-2 : goal.returns-in_err-n-2
+returns-in_err-n-2 c =
+    let a = c.args in
+    let p = err_from_is_err_and c.from_residual-in_err-n-2.result c.from_residual-in_err-n-2.ensures.1 in
+    let none : c.read_positive-2.result ≡ None = grind arith in
+    let form : p.0 ≡ Form = grind arith in
+    p.1 ∙ ap Err form ∙ sym (number_in-positive-bad a.lo a.hi a.s.now (rw c.as_slice.ensures at (sym c.if-eq.ensures)) c.in_default.ensures.cases (sym c.read_positive-2.ensures ∙ none))
 
 pub returns : goal.returns
 returns c =
     let a = c.args in
+    let some : c.read_positive-2.result ≡ Some c.in_ok-n-2.n = grind arith in
     c.positive_in.ensures ∙ rw (to_z-of_z c.ranges.lo, to_z-of_z c.ranges.hi)
-    (sym (number_in-positive a.lo a.hi a.s.now c.in-Value-read_positive.n c.ranges.hi (omega arith) (omega arith)
-    (sym c.read_positive-2.ensures ∙ c.in-Value-read_positive.is)))
+    (sym (number_in-positive a.lo a.hi a.s.now c.in_ok-n-2.n c.ranges.hi c.in_default.ensures.cases (sym c.read_positive-2.ensures ∙ some)))

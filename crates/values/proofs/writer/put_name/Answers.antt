@@ -1,15 +1,10 @@
 -- `put_name`: the letter, the kind and the job with the byte after it in a row, by `stored-name`.
-use native.Mathlib.Omega.{arith}
 use Rattle.values.specs.PlanWrittenLaws.{stored-name}
+use Rattle.text.specs.NumberLaws.{decimal-pos}
 use Rattle.values.proofs.writer.put_name.Goals as goal
 
-pub returns : goal.returns
-returns c =
+pub returns-clause-stored : goal.returns-clause-stored
+returns-clause-stored c =
     let a = c.args in
-    let letter = c.put_byte-second.ensures in
-    let kind = c.put_byte-third.ensures in
-    let job = c.put_ended_count.ensures in record {
-      stored = stored-name a.e a.end c.letter_byte-first.ensures c.kind_byte-next.ensures letter kind job.stored;
-      upper_bound = omega
-          (arith, letter.place, kind.place, job.upper_bound);
-    }
+    stored-name a.e a.end c.letter_byte.ensures c.kind_byte.ensures c.put_byte-second.ensures c.put_byte-third.ensures
+    (rw (decimal-pos c.from.result, c.from.ensures) at c.put_ended.ensures.stored)
