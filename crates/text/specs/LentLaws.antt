@@ -2,7 +2,7 @@
 -- Two texts written in a row are their joint text (`put-append`, and for what two writers did `stored-append`); the length is kept (`put-length`); past the end
 -- nothing changes (`put-out`); a text written from 0 on, where it has room, is the text and the bytes past it (`put_whole`), which is `written`
 -- (`put_written`).
--- For callers: what `put_number` ensures of an argument (`stored-number`), and that it moves the place by at most twenty (`stored-near`).
+-- For callers: what `Decimal::put` ensures of an argument (`stored-number`), and that it moves the place by at most twenty (`stored-near`).
 -- A number and the byte after it move it by at most twenty-one (`count-near`, `number-near`).
 -- For writers: one turn of the copy (`put-past`, `put-end`), and digits from the last one on (`put_last`, `put-digits-more`,
 -- `put-digits-one`), counted (`put-all_digits`, `put-last_digits`, `put-no_digits`).

@@ -51,6 +51,11 @@ fn put_digits(out: &mut [u8], at: usize, n: u64) -> usize
     requires { at ≤ 2 ^ 63 + 1 }
     ensures { Stored out.old at (digits n) out.new result }
 {
+    // A number of one digit, as most numbers of a refusal's line are, is not worth a count of its digits.
+    if n < 10 {
+        store(out, at, b'0' + n as u8);
+        return at + 1;
+    }
     let behind = at + count_digits(n);
     let mut left = n;
     for place in (at..behind).rev() {
