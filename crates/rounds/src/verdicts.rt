@@ -16,6 +16,8 @@ use bounds::{Spans, Table};
 use plan::Plan;
 
 // 'one window alone, with C(m-1), gives a contradiction when it is eliminated'
+// Never inlined: each of its calls would have a table of its own on the stack of every call of the entry.
+#[inline(never)]
 fn fails_alone(p: Plan, times: &Spans, carried: &Table) -> bool
     requires { TableHeldFor p times.now.early times.now.late (nodes p.jobs) carried.now.weights }
     ensures { result ≡ fails_alone p (rows_of (nodes p.jobs) carried.now.weights) }
