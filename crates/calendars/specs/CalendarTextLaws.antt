@@ -8,6 +8,7 @@
 use Prim.Native.Nat.{ℕ, zero, suc, ◌+◌, ◌*◌, ◌-◌, ◌/◌, ◌^◌, ◌≤◌, ◌<◌}
 use Rattle.std.specs.Prelude.{◌≡◌, refl, Bool, true, false, cond, List, [], ◌∷◌, ◌++◌, ltb, ℤ, pos, length, get_or}
 use Rattle.std.proofs.Common.{sym, ◌∙◌, subst, length-append, SFits, to_z, of_z, to_z-of_z}
+use Rattle.std.proofs.lemmas.List.{nil_from_length}
 use Rattle.std.proofs.Math.Path.{ap}
 use Rattle.std.proofs.Math.Numerals.{add-one}
 use native.Mathlib.Omega.{arith}
@@ -18,7 +19,7 @@ use Rattle.text.specs.Lines.{LF, comma}
 use Rattle.text.specs.Numbers.{decimal, digits}
 use Rattle.text.specs.DigitLaws.{digits-short}
 use Rattle.text.specs.NumberLaws.{decimal-short}
-use Rattle.events.specs.Bits.{has_event, most_bits, members_from, next_event}
+use Rattle.events.specs.Bits.{has_event, most_bits, count_from, members_from, next_event}
 use Rattle.events.specs.BitsLaws.{next_event-has, next_event-skips}
 use Rattle.std.specs.List.{flat_map}
 use Rattle.plan.specs.ListLaws.{All}
@@ -136,42 +137,66 @@ members-few set e (suc n) count h = by (has_event e set) (members-few set (suc e
     by true later = record { few = omega (arith, later.few); each_below = (omega arith, later.each_below) }
     by false later = record { few = omega (arith, later.few); each_below = later.each_below }
 
--- the loop over them, of at most count: the lines of those that are left to be given are left to be written
-pub record TermsLeft (jobs : ℕ) (key : List ℕ) (cs : List ℤ) (row count : ℕ) (out : List ℕ) (at : ℕ) (s out' : List ℕ) (at' : ℕ) (ks : List ℕ) : Type 0 where
+-- no more than the set has ones
+pub members-counted : (set e n m : ℕ) → n ≤ m → length (members_from set e n) ≤ count_from set e m
+unfolding members_from count_from
+members-counted set e zero m h = omega arith
+members-counted set e (suc n) zero h = absurd (omega (arith, h))
+members-counted set e (suc n) (suc m) h = by (has_event e set) (members-counted set (suc e) n m (omega (arith, h)))
+  where
+    by : (b : Bool) → length (members_from set (suc e) n) ≤ count_from set (suc e) m
+        → length (cond b (e ∷ members_from set (suc e) n) (members_from set (suc e) n)) ≤ cond b 1 0 + count_from set (suc e) m
+    by true later = omega (arith, later)
+    by false later = omega (arith, later)
+
+-- the loop over them, of at most count: the lines of those that are left to be given are left to be written, and no more than n of them
+pub record TermsLeft (jobs : ℕ) (key : List ℕ) (cs : List ℤ) (row count : ℕ) (out : List ℕ) (at : ℕ) (s out' : List ℕ) (at' : ℕ) (ks : List ℕ) (n : ℕ)
+    : Type 0 where
   pub left : LeftToWrite out at s out' at' (flat_map (line_of jobs key cs row) ks)
+  pub counted : length ks ≤ n
   pub near : at' + most_term_bytes * length ks ≤ at + most_term_bytes * count
   pub each_below : All (λ k. k < count) ks
 
 module _ (jobs : ℕ) (key : List ℕ) (cs : List ℤ) (row count : ℕ) (out : List ℕ) (at : ℕ) where
-  pub TermsLeft-start : (set : ℕ) {ks : List ℕ} → ks ≡ members_from set 0 (count - 0)
-      → TermsLeft jobs key cs row count out at (term_lines jobs key set cs row 0 count) out at ks
-  TermsLeft-start set e =
+  pub TermsLeft-start : (set : ℕ) {ks : List ℕ} {n : ℕ} → ks ≡ members_from set 0 (count - 0) → length ks ≤ n
+      → TermsLeft jobs key cs row count out at (term_lines jobs key set cs row 0 count) out at ks n
+  TermsLeft-start set {ks} {n} e counted =
       let all : count - 0 ≡ count = omega arith in
       let few = members-few set 0 (count - 0) count (omega arith) in
       let text = ap (term_lines jobs key set cs row 0) (sym all) ∙ term_lines-members jobs key cs row set 0 (count - 0) in
       rw e
       (record {
         left = subst (λ (t : List ℕ). LeftToWrite out at (term_lines jobs key set cs row 0 count) out at t) text (left-whole out at _);
+        counted = subst (λ (ks : List ℕ). length ks ≤ n) e counted;
         near = omega (arith, few.few);
         each_below = few.each_below;
       })
 
-  module _ {s o : List ℕ} {j : ℕ} {ks : List ℕ} (h : TermsLeft jobs key cs row count out at s o j ks) where
+  module _ {s o : List ℕ} {j : ℕ} {ks : List ℕ} {n : ℕ} (h : TermsLeft jobs key cs row count out at s o j ks n) where
     pub TermsLeft-below : {k : ℕ} {later : List ℕ} → ks ≡ k ∷ later → k < count
     TermsLeft-below e = (subst (λ (ks : List ℕ). All (λ k. k < count) ks) e h.each_below).0
 
-    pub TermsLeft-next : {k : ℕ} {later : List ℕ} → ks ≡ k ∷ later → {o' : List ℕ} {j' : ℕ} → j' ≤ j + most_term_bytes
+    pub TermsLeft-next : {k m : ℕ} {later : List ℕ} → ks ≡ k ∷ later → m + 1 ≡ n → {o' : List ℕ} {j' : ℕ} → j' ≤ j + most_term_bytes
         → Stored o j (term_line jobs key k (get_or cs (row + k) (pos 0))) o' j'
-        → TermsLeft jobs key cs row count out at s o' j' later
-    TermsLeft-next e n d =
+        → TermsLeft jobs key cs row count out at s o' j' later m
+    TermsLeft-next e fewer near d =
         record {
           left = left-past (subst (λ (ks : List ℕ). LeftToWrite out at s o j (flat_map (line_of jobs key cs row) ks)) e h.left) d;
-          near = omega (arith, h.near, ap length e, n);
+          counted = omega (arith, h.counted, ap length e, fewer);
+          near = omega (arith, h.near, ap length e, near);
           each_below = (subst (λ (ks : List ℕ). All (λ k. k < count) ks) e h.each_below).1;
         }
 
-    pub TermsLeft-end : ks ≡ [] → Stored out at s o j
-    TermsLeft-end e = left_end (subst (λ (ks : List ℕ). LeftToWrite out at s o j (flat_map (line_of jobs key cs row) ks)) e h.left)
+    -- where as many as there are ones are written, none is left either
+    pub TermsLeft-end : (0 < n → ks ≡ []) → Stored out at s o j
+    TermsLeft-end e = left_end (subst (λ (ks : List ℕ). LeftToWrite out at s o j (flat_map (line_of jobs key cs row) ks)) none h.left)
+      where
+        over : (m : ℕ) → n ≡ m → ks ≡ []
+        over zero z = nil_from_length ks (omega (arith, h.counted, z))
+        over (suc m) z = e (omega (arith, z))
+
+        none : ks ≡ []
+        none = over n refl
 
 -- ---- the jobs
 

@@ -77,7 +77,7 @@ fn put_term(out: &mut [u8], at: usize, key: &[u8], jobs: usize, e: usize, c: i32
     text::put_ended(out, number, i64::from(c), b'\n')
 }
 
-// The terms of one side of a job, in order: those of the set among count events; the c of event e stands at place row + e.
+// The terms of one side of a job, in order: those of the set among count events, as many as it has ones; the c of event e stands at place row + e.
 fn put_terms(
     out: &mut [u8],
     at: usize,
@@ -97,7 +97,7 @@ fn put_terms(
     ensures upper_bound { result ≤ at + most_term_bytes * count }
 {
     let mut end = at;
-    for e in set.members(0, count) {
+    for e in set.members(0, count).take(set.count() as usize) {
         end = put_term(out, end, key, jobs, e, cs[row + e]);
     }
     end
