@@ -1,5 +1,5 @@
 -- The laws of step lines, read.
--- A line that is just a text is that text (`is_text-same`), and so as long (`is_text-length`, `is_text-other`), and begins with it (`is_text-has_key`); what
+-- A line that is just a text is as long (`is_text-length`, `is_text-other`), and begins with it (`is_text-same`); what
 -- follows a key is what is left without it (`after_key-strip`). What a line is, test by test: `ask=offer` (`step_in-ask`), else what follows `start=`
 -- (`step_in-start`), else what follows `finish=` (`step_in-finish`), else no step (`step_in-other`); after `start=` `auto` (`start_in-auto`), else a time
 -- (`start_in-time`). A time that was read becomes the step's (`time_step-value`), or what it lacks (`time_step-bad`).
@@ -44,17 +44,6 @@ use Rattle.session.specs.StepRead.{is_all, is_text, time_step, step_time, finish
 
 -- ---- a line that is just a text
 
-is_text-same : (t l : List ℕ) → bytes_eq l t ≡ is_text t l
-unfolding after_key
-is_text-same [] [] = refl
-is_text-same [] (b ∷ l) = refl
-is_text-same (k ∷ t) [] = refl
-is_text-same (k ∷ t) (b ∷ l) = of (eqb b k) (is_text-same t l)
-  where
-    of : (c : Bool) → bytes_eq l t ≡ is_text t l → (c && bytes_eq l t) ≡ is_all (cond c (after_key t l) none)
-    of true h = h
-    of false h = refl
-
 is_text-length : (t l : List ℕ) → is_text t l ≡ true → length l ≡ length t
 is_text-length t l h = of (after_key t l) refl h
   where
@@ -80,8 +69,8 @@ module _ (t l : List ℕ) where
   rest-length : (s : List ℕ) → after_key t l ≡ some s → length l ≡ length t + length s
   rest-length s e = ap length (after_key-split t l s e) ∙ length-append t s
 
-  pub is_text-has_key : length l ≡ length t → is_text t l ≡ has_key t l
-  is_text-has_key h = of (after_key t l) refl
+  pub is_text-same : length l ≡ length t → is_text t l ≡ has_key t l
+  is_text-same h = of (after_key t l) refl
     where
       of : (o : Option (List ℕ)) → after_key t l ≡ o → is_all o ≡ is_some o
       of none e = refl
@@ -99,33 +88,33 @@ module _ (t l : List ℕ) where
 -- ---- what a line is
 
 module _ (l : List ℕ) where
-  pub step_in-ask : bytes_eq l (bytes "ask=offer") ≡ true → step_in l ≡ Ok Ask
+  pub step_in-ask : is_text (bytes "ask=offer") l ≡ true → step_in l ≡ Ok Ask
   unfolding step_in
-  step_in-ask h = rw (← is_text-same (bytes "ask=offer") l, h)
+  step_in-ask h = rw h
 
-  module _ (no-ask : bytes_eq l (bytes "ask=offer") ≡ false) where
+  module _ (no-ask : is_text (bytes "ask=offer") l ≡ false) where
     pub step_in-start : bytes_eq (take 6 l) (bytes "start=") ≡ true → step_in l ≡ start_in (drop 6 l)
     unfolding step_in start_step bytes start_in
-    step_in-start h = rw (← is_text-same (bytes "ask=offer") l, no-ask, after_key-strip (bytes "start=") l, h)
+    step_in-start h = rw (no-ask, after_key-strip (bytes "start=") l, h)
 
     module _ (no_start : bytes_eq (take 6 l) (bytes "start=") ≡ false) where
       pub step_in-finish : bytes_eq (take 7 l) (bytes "finish=") ≡ true → step_in l ≡ finish_in (drop 7 l)
       unfolding step_in start_step finish_step bytes finish_in
-      step_in-finish h = rw (← is_text-same (bytes "ask=offer") l, no-ask, after_key-strip (bytes "start=") l, no_start, after_key-strip (bytes "finish=") l, h)
+      step_in-finish h = rw (no-ask, after_key-strip (bytes "start=") l, no_start, after_key-strip (bytes "finish=") l, h)
 
       pub step_in-other : bytes_eq (take 7 l) (bytes "finish=") ≡ false → step_in l ≡ Err fault.Form
       unfolding step_in start_step finish_step bytes finish_in
-      step_in-other h = rw (← is_text-same (bytes "ask=offer") l, no-ask, after_key-strip (bytes "start=") l, no_start, after_key-strip (bytes "finish=") l, h)
+      step_in-other h = rw (no-ask, after_key-strip (bytes "start=") l, no_start, after_key-strip (bytes "finish=") l, h)
 
 -- ---- after `start=`
 
-pub start_in-auto : (s : List ℕ) → bytes_eq s (bytes "auto") ≡ true → start_in s ≡ Ok (Start Auto)
+pub start_in-auto : (s : List ℕ) → is_text (bytes "auto") s ≡ true → start_in s ≡ Ok (Start Auto)
 unfolding start_in
-start_in-auto s h = rw (← is_text-same (bytes "auto") s, h)
+start_in-auto s h = rw h
 
-pub start_in-time : (s : List ℕ) → bytes_eq s (bytes "auto") ≡ false → start_in s ≡ time_step (λ t. Start (At t)) (step_time s)
+pub start_in-time : (s : List ℕ) → is_text (bytes "auto") s ≡ false → start_in s ≡ time_step (λ t. Start (At t)) (step_time s)
 unfolding start_in
-start_in-time s h = rw (← is_text-same (bytes "auto") s, h)
+start_in-time s h = rw h
 
 -- ---- a time
 

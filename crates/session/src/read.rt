@@ -2,7 +2,7 @@
 ghost use Rattle.std.specs.Prelude.{◌≡◌, ◌+◌, ◌-◌, ◌≤◌, length, drop};
 ghost use Rattle.std.specs.Iterator.{at_most};
 ghost use Rattle.lines.specs.ReadAt.{at_told};
-ghost use Rattle.session.specs.StepRead.{start_in, finish_in, step_in, step_line};
+ghost use Rattle.session.specs.StepRead.{is_text, start_in, finish_in, step_in, step_line};
 ghost use Rattle.session.specs.StepAt.{StepWithin, StepGiven};
 
 use crate::StepLines;
@@ -10,11 +10,27 @@ use clock::RunTime;
 use lines::{Fault, FaultyLine, Refusal};
 use runs::{Choice, LAST_TIME, Step};
 
+// Stays: (b) byte by byte and no `==`, which is a call at every line of a session: with it sessions of asks took longer (docs/LOOK-BACK.md, d1).
+// Whether l is just the text t.
+fn is_text(l: &[u8], t: &[u8]) -> bool
+    ensures { result ≡ is_text t.now l.now }
+{
+    if l.len() != t.len() {
+        return false;
+    }
+    for k in 0..t.len() {
+        if l[k] != t[k] {
+            return false;
+        }
+    }
+    true
+}
+
 // What follows `start=`: `auto`, or a time.
 fn start_in(s: &[u8]) -> Result<Step, Fault>
     ensures { result ≡ start_in s.now }
 {
-    if s == b"auto".as_slice() {
+    if is_text(s, b"auto") {
         return Ok(Step::Start(Choice::Auto));
     }
     let t = text::read_number(s, 0, LAST_TIME)?;
@@ -33,7 +49,7 @@ fn finish_in(s: &[u8]) -> Result<Step, Fault>
 fn read_step(l: &[u8]) -> Result<Step, Fault>
     ensures { result ≡ step_in l.now }
 {
-    if l == b"ask=offer".as_slice() {
+    if is_text(l, b"ask=offer") {
         return Ok(Step::Ask);
     }
     if let Some(s) = l.strip_prefix(b"start=") {
