@@ -20,6 +20,6 @@ pub mod TakenLaws
 pub mod SessionReadLaws
 pub mod AnswersLaws
 pub mod PrintedLaws
-pub mod SettledLaws
 pub mod DecidedLaws
+pub mod SettledLaws
 pub mod Unique

@@ -22,34 +22,25 @@ use Rattle.lines.specs.Refusals.{refused_line}
 use Rattle.lines.specs.Reading.{longest_text, Reading, read, refused, next}
 use Rattle.lines.specs.ReadAt.{faulty_in}
 use Rattle.lines.specs.Answers.{reported}
-use Rattle.rounds.specs.declared.Verdict.TheVariants.{Settled}
-use Rattle.rounds.specs.Rounds.{Outcome, settled, no_strategy, unsettled, outcome, verdict_of, verdict, verdict_told}
+use Rattle.rounds.specs.Rounds.{outcome, verdict, verdict_told}
 use Rattle.rounds.specs.TextVerdict.{or_refused, verdict_after, settled_head}
-use Rattle.rounds.specs.TextVerdictLaws.{told-settled, verdict_after-settled}
+use Rattle.rounds.specs.TextVerdictLaws.{verdict_after-settled}
 use Rattle.calendars.specs.declared.Calendar.{Calendar}
 use Rattle.calendars.specs.Calendars.{made_calendar}
 use Rattle.runs.specs.Steps.{new_run}
-use Rattle.runs.specs.ValueLimits.{is_calendar}
-use Rattle.runs.specs.KeepsLaws.{new_run-is}
-use Rattle.runs.specs.MadeLaws.{made_inside}
 use Rattle.runs.specs.Inside.{Inside}
 use Rattle.session.specs.declared.Session.{Session}
-use Rattle.session.specs.Sessions.{answers, verdict_session, judged_session, session_of, dispatch_output}
+use Rattle.session.specs.Sessions.{answers, judged_session, session_of, dispatch_output}
 use Rattle.session.specs.SessionRead.{step_lines, session_read}
 use Rattle.session.specs.StepAt.{lines_read, Ends}
 use Rattle.session.specs.Settled.{session_lines, SettledAs}
+use Rattle.session.specs.DecidedLaws.{judged-decided, judged-inside, judged-settled, judged-refused}
 
 -- ---- a plan that was decided
 
 pub settled-inside : (p : Plan) → Accepted p → {m : ℕ} → verdict_told (verdict p) ≡ Ok m → {c : Calendar} → c ≡ made_calendar p (outcome p)
     → Inside p c new_run
-settled-inside p a {m} e {c} d = of (outcome p) refl (sym (told-settled (verdict p) m e))
-  where
-    of : (o : Outcome) → outcome p ≡ o → Settled m ≡ verdict_of p o → Inside p c new_run
-    of (settled k t) q f =
-        record { plan = a; calendar = ap (is_calendar p) (d ∙ ap (made_calendar p) q) ∙ made_inside p a k t q; run = new_run-is p a }
-    of (no_strategy K) q f = clash (cc)
-    of unsettled q f = clash (cc)
+settled-inside p a {m} e {c} d = judged-inside p (verdict p) c (judged-decided p a (verdict p) c refl d) (verdict_told (verdict p)) refl m e
 
 -- ---- the plan at a text's head, as the reader answered it
 
@@ -93,30 +84,37 @@ module _ (p : Plan) (t : List ℕ) (n : ℕ) where
           let same : q ≡ p = cc in
           record { round = j; reads = f; settles = ap (λ (q : Plan). verdict_told (verdict q)) (sym same) ∙ d }
 
-  head-printed : (m : Reading Plan) → verdict_after m ≡ read p t n → answers p (made_calendar p (outcome p)) new_run t n ≡ session_of m
-  unfolding session_of judged_session
-  head-printed m e =
-      let h = settled-first m e in
-      sym (ap session_of h.reads ∙ ap (λ (w : Result ℕ Refusal). verdict_session p w (made_calendar p (outcome p)) t n) h.settles)
+  head-decided : (s : List ℕ) → verdict_after (plan_head s) ≡ read p t n → answers p (made_calendar p (outcome p)) new_run t n ≡ dispatch_output s
+  unfolding session_of
+  head-decided s e =
+      let h = settled-first (plan_head s) e in
+      let c = made_calendar p (outcome p) in
+      judged-settled p (verdict p) c (judged-decided p (plan_head-accepted s h.reads) (verdict p) c refl refl) t n (verdict_told (verdict p)) refl h.round h.settles
+      ∙ sym (ap session_of h.reads)
 
-refused-head : (x : Refusal) (t : List ℕ) (m : Reading Plan) → verdict_after m ≡ refused x t → refused_line x ≡ session_of m
-unfolding verdict_after or_refused session_of judged_session
-refused-head x t (refused y part) e = let same : x ≡ y = cc in ap refused_line same
-refused-head x t (read p s n) e = of (verdict_told (verdict p)) refl e
+refused-decided : (x : Refusal) (t : List ℕ) (m : Reading Plan) → ((p : Plan) (s : List ℕ) (n : ℕ) → m ≡ read p s n → Accepted p)
+    → verdict_after m ≡ refused x t
+    → refused_line x ≡ session_of m
+unfolding verdict_after or_refused session_of
+refused-decided x t (refused y part) a e = let same : x ≡ y = cc in ap refused_line same
+refused-decided x t (read p s n) a e = of (verdict_told (verdict p)) refl e
   where
     of : (w : Result ℕ Refusal) → verdict_told (verdict p) ≡ w → or_refused w (read p s n) ≡ refused x t
-        → refused_line x ≡ verdict_session p w (made_calendar p (outcome p)) s n
+        → refused_line x ≡ judged_session p (outcome p) s n
     of (Ok j) d f = clash (cc)
-    of (Err y) d f = let same : x ≡ y = cc in ap refused_line same
+    of (Err y) d f =
+        let same : x ≡ y = cc in
+        let c = made_calendar p (outcome p) in
+        ap refused_line same ∙ judged-refused p (verdict p) c (judged-decided p (a p s n refl) (verdict p) c refl refl) s n (Err y) (sym d) y refl
 
 pub settled-printed : {s : List ℕ} {h : Session} → SettledAs s h → session_lines h ≡ dispatch_output s
 settled-printed {s} {h} w =
     ap (λ (s : List ℕ). answers h.plan h.calendar new_run (drop h.lines.at s) h.lines.line) w.text
     ∙ ap (λ (c : Calendar). answers h.plan c new_run (drop h.lines.at s) h.lines.line) w.calendar
-    ∙ head-printed h.plan (drop h.lines.at s) h.lines.line (plan_head s) w.reads
+    ∙ head-decided h.plan (drop h.lines.at s) h.lines.line s w.reads
 
 pub refused-printed : (s : List ℕ) (f : FaultyLine) → settled_head s ≡ faulty_in s f → refused_line f.refusal ≡ dispatch_output s
-refused-printed s f e = refused-head f.refusal (drop f.at s) (plan_head s) e
+refused-printed s f e = refused-decided f.refusal (drop f.at s) (plan_head s) (λ p t n d. plan_head-accepted s d) e
 
 pub settled-read : {s : List ℕ} {h : Session} → SettledAs s h → session_read s ≡ lines_read h.lines
 unfolding next
