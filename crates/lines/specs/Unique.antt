@@ -29,7 +29,7 @@ line-lacks-unique f = only
 pub fault-at-unique : (line : ℕ) (f : Fault) {r q : Refusal} → r ≡ fault_at line f → q ≡ fault_at line f → r ≡ q
 fault-at-unique line f = only
 
--- what is reported from an answer: the part, and what the two numbers become
+-- what is reported from an answer: the part, and the two numbers; a `FaultyPart` carries them, by `faulty-part-unique`, `number-unique` and `value-unique`
 module _ (s : List ℕ) (a : Result Unit Refusal) (at : ℕ) where
   pub tell-refusal-unique : {r q : List ℕ} → r ≡ part_at s at a → q ≡ part_at s at a → r ≡ q
   tell-refusal-unique = only

@@ -5,11 +5,11 @@ use Rattle.lines.specs.WrittenLaws.{measured-none, measured-whole, unmeasured-wh
 use Rattle.lines.proofs.lent.write.Goals as goal
 use Rattle.lines.proofs.lent.write.Goals.{then-out-most+else-out-length, else-out-most}
 
-pub returns-then-out-length-clause-value : goal.returns-then-out-length-clause-value
-returns-then-out-length-clause-value g c = (measured-none c.put-length.ensures.stored refl c.if-out-length.true).answer
-
 pub returns-then-out-length-clause-out_after : goal.returns-then-out-length-clause-out_after
 returns-then-out-length-clause-out_after g c = (measured-none c.put-length.ensures.stored refl c.if-out-length.true).bytes
+
+pub returns-then-out-length-clause-value : goal.returns-then-out-length-clause-value
+returns-then-out-length-clause-value g c = (measured-none c.put-length.ensures.stored refl c.if-out-length.true).answer
 
 pub returns-clause-value : goal.returns-clause-value
 returns-clause-value g c =

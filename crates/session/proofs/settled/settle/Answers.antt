@@ -22,17 +22,17 @@ pub invariant_of-result : goal.invariant_of-result
 invariant_of-result c =
     let h = head-read c.args.text.now c.in_ok-head.ensures in record { placed = h.placed; short = h.short; numbered = h.numbered }
 
-pub invariant_of-result-in-Ok : goal.invariant_of-result-in-Ok
-invariant_of-result-in-Ok c =
-    let p = c.in_ok-head.head.plan in
-    let d = decision-settled p c.in-Ok.ensures in
-    record { inside = settled-inside p (head-read c.args.text.now c.in_ok-head.ensures).accepted d.0 d.1 }
-
 pub returns-in-Ok : goal.returns-in-Ok
 returns-in-Ok c =
     let s = c.args.text.now in
     let d = decision-settled c.in_ok-head.head.plan c.in-Ok.ensures in
     record { text = refl; reads = verdict_after-settled s _ (plan_head-tail s) _ c.in_ok-head.ensures _ d.0; calendar = d.1 }
+
+pub invariant_of-result-in-Ok : goal.invariant_of-result-in-Ok
+invariant_of-result-in-Ok c =
+    let p = c.in_ok-head.head.plan in
+    let d = decision-settled p c.in-Ok.ensures in
+    record { inside = settled-inside p (head-read c.args.text.now c.in_ok-head.ensures).accepted d.0 d.1 }
 
 pub returns-in-Err : goal.returns-in-Err
 returns-in-Err c =
